@@ -6,9 +6,12 @@ use Prim.Native.Nat.{ℕ, zero, suc, _+_, _≤_, _<_}
 use native.Mathlib.Nat.{not-suc-le-zero, le-of-suc-le-suc, add-suc, suc-add, zero-add, add-zero}
 use native.Mathlib.Omega.{arith}
 use native.Mathlib.Decide.{decLt}
-use lib.ListN.{length, getD, set}
+use lib.ListN.{length, getD, set, length-set}
 use lib.Seq.{getD-set-same, getD-set-other, ext-getD}
-use Rattle.laws.specs.Table.{tabFrom, tab}
+use lib.Dec.{ltb}
+use borrow.Author.Tests.{lt-ltb, le-ltb}
+use Rattle.laws.specs.Choice.{pick}
+use Rattle.laws.specs.Table.{tabFrom, tab, padded}
 
 module _ {A : Type 0} where
   length-from : (f : ℕ → A) (i n : ℕ) → length (tabFrom f i n) ≡ n
@@ -51,3 +54,77 @@ module _ {A : Type 0} where
   pub filled-all : (f : ℕ → A) (d : A) (l : List A) (n : ℕ) → length l ≡ n → Filled f d l n → l ≡ tab f n
   unfolding Filled
   filled-all f d l n e w = ext-getD d l (tab f n) (e ∙ sym (length-tab f n)) (λ i h. let p : i < n = omega arith in w i p ∙ sym (getD-tab f n i d p))
+
+  -- a list of N elements that holds f at every place below n: the invariant of a loop that fills it
+  pub record Filling (f : ℕ → A) (d : A) (N : ℕ) (l : List A) (n : ℕ) : Type 0 where
+    pub size : length l ≡ N
+    pub holds : Filled f d l n
+
+  pub filling-start : (f : ℕ → A) (d : A) (N : ℕ) (l : List A) → length l ≡ N → Filling f d N l 0
+  filling-start f d N l e = record { size = e; holds = filled-none f d l }
+
+  pub filling-more : (f : ℕ → A) (d : A) (N : ℕ) (l : List A) (n : ℕ) (v : A) → n < N → Filling f d N l n → v ≡ f n → Filling f d N (set l n v) (n + 1)
+  filling-more f d N l n v h w e = record {
+    size = length-set l n v ∙ w .size;
+    holds = filled-more f d l n v (subst (λ (m : ℕ). n < m) (sym (w .size)) h) (w .holds) e;
+  }
+
+  pub filling-done : (f : ℕ → A) (d : A) (N : ℕ) (l : List A) (n : ℕ) → n ≡ N → Filling f d N l n → l ≡ tab f N
+  filling-done f d N l n e w = filled-all f d l N (w .size) (subst (Filled f d l) e (w .holds))
+
+  -- tables are equal by their elements
+  pub tab-ext : (f g : ℕ → A) (d : A) (n : ℕ) → ((k : ℕ) → k < n → f k ≡ g k) → tab f n ≡ tab g n
+  tab-ext f g d n h =
+      ext-getD d (tab f n) (tab g n) (length-tab f n ∙ sym (length-tab g n))
+      (λ i l. let p : i < n = subst (λ (m : ℕ). i < m) (length-tab f n) l in getD-tab f n i d p ∙ h i p ∙ sym (getD-tab g n i d p))
+
+  -- ---- a list that is filled from the front, the rest being z
+
+  module _ (f : ℕ → A) (z : A) (N : ℕ) where
+    pub padded-none : padded N 0 f z ≡ tab (λ k. z) N
+    unfolding padded
+    padded-none = tab-ext (λ k. pick (ltb k 0) (f k) z) (λ k. z) z N (λ k h. rw (le-ltb k 0 (omega arith)))
+
+    pub length-padded : (n : ℕ) → length (padded N n f z) ≡ N
+    unfolding padded
+    length-padded n = length-tab _ N
+
+    pub padded-at : (n k : ℕ) (d : A) → k < N → getD (padded N n f z) k d ≡ pick (ltb k n) (f k) z
+    unfolding padded
+    padded-at n k d h = getD-tab (λ j. pick (ltb j n) (f j) z) N k d h
+
+    pub padded-here : (n k : ℕ) (d : A) → k < N → k < n → getD (padded N n f z) k d ≡ f k
+    padded-here n k d h l = padded-at n k d h ∙ rw (lt-ltb k n l)
+
+    pub padded-past : (n k : ℕ) (d : A) → k < N → n ≤ k → getD (padded N n f z) k d ≡ z
+    padded-past n k d h l = padded-at n k d h ∙ rw (le-ltb k n l)
+
+    -- a store of f's value at the next place
+    pub padded-more : (n : ℕ) (v : A) → n < N → v ≡ f n → set (padded N n f z) n v ≡ padded N (n + 1) f z
+    padded-more n v h e =
+        ext-getD z (set (padded N n f z) n v) (padded N (n + 1) f z) (length-set (padded N n f z) n v ∙ length-padded n ∙ sym (length-padded (n + 1)))
+        (λ i l. let m : i < N = subst (λ (j : ℕ). i < j) (length-set (padded N n f z) n v ∙ length-padded n) l in place i m)
+      where
+        in-list : n < length (padded N n f z)
+        in-list = subst (λ (j : ℕ). n < j) (sym (length-padded n)) h
+
+        other : (i : ℕ) → i < N → (i ≡ n → ⊥) → getD (set (padded N n f z) n v) i z ≡ getD (padded N (n + 1) f z) i z
+        other i m q =
+            getD-set-other (padded N n f z) n i v z q ∙ padded-at n i z m
+            ∙ ap (λ t. pick t (f i) z) (same i q) ∙ sym (padded-at (n + 1) i z m)
+          where
+            same : (i : ℕ) → (i ≡ n → ⊥) → ltb i n ≡ ltb i (n + 1)
+            same i q = elim (decLt i n) [ yes p ↦ lt-ltb i n p ∙ sym (lt-ltb i (n + 1) (omega arith)) | no p ↦ le-ltb i n (omega arith) ∙ sym (le-ltb i (n + 1) (omega arith)) ]
+
+        place : (i : ℕ) → i < N → getD (set (padded N n f z) n v) i z ≡ getD (padded N (n + 1) f z) i z
+        place i m =
+            elim (decLt i n) [
+              | yes p ↦ other i m (λ q. omega arith)
+              | no p ↦ elim (decLt n i) [
+                | yes p2 ↦ other i m (λ q. omega arith)
+                | no p2 ↦
+                    let q : i ≡ n = omega arith in
+                    subst (λ (j : ℕ). getD (set (padded N n f z) n v) j z ≡ getD (padded N (n + 1) f z) j z) (sym q)
+                    (getD-set-same (padded N n f z) n v z in-list ∙ e ∙ sym (padded-here (n + 1) n z h (omega arith)))
+              ]
+            ]

@@ -2,6 +2,8 @@
 -- Assumes nothing.
 use mathlib.Core.List.{List, [], _∷_}
 use Prim.Native.Nat.{ℕ, zero, suc}
+use lib.Dec.{ltb}
+use Rattle.laws.specs.Choice.{pick}
 
 module _ {A : Type 0} where
   -- f i, f (i + 1), .., n of them
@@ -13,3 +15,8 @@ module _ {A : Type 0} where
   unfoldable pub tab : (ℕ → A) → ℕ → List A
   unfolding tabFrom
   tab f n = tabFrom f 0 n
+
+  -- N elements: f at the places below n, z from there on
+  unfoldable pub padded : ℕ → ℕ → (ℕ → A) → A → List A
+  unfolding tab
+  padded N n f z = tab (λ k. pick (ltb k n) (f k) z) N

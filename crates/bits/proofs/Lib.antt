@@ -1,0 +1,4 @@
+pub mod Fields
+pub mod Reverse
+pub mod Blocks
+pub mod Halves

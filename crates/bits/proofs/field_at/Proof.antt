@@ -1,0 +1,17 @@
+use mathlib.Core.Path.{_∙_}
+use Rattle.bits.proofs.Halves.{low-field}
+use borrow.Author.Needs.{needs}
+use Rattle.bits.proofs.field_at.Statement.{statement}
+use Rattle.bits.proofs.field_at.Tie as tie
+
+word-at-requires : tie.Need-word-at-requires
+word-at-requires c κs = search needs
+
+low-bits-requires : tie.Need-low-bits-requires
+low-bits-requires c κs = search needs
+
+returns : tie.Need-returns
+returns c = c .low-bits .ensures ∙ rw (c .before .word-at .ensures) (low-field _ _ _)
+
+pub field-at-spec : {M : Type 1} → statement M
+field-at-spec = tie.close (tie.spec word-at-requires low-bits-requires returns)

@@ -1,0 +1,206 @@
+// The sixteen bytes of a block as one number of 128 bits: fields of it, its reverse, and the bytes again.
+ghost use mathlib.Core.Path.{_≡_};
+ghost use Prim.Native.Nat.{_+_, _*_, _/_, _%_, _^_, _≤_, _<_, min};
+ghost use Rattle.bits.specs.Field.{field, reverse};
+ghost use Rattle.bits.specs.Block.{numberOf, bytesOf, blockNumber};
+
+// The 128 bits of a block (Arm: physical block), low and high half.
+pub struct PhysicalBlock {
+    pub lo: u64,
+    pub hi: u64,
+}
+
+fn wide(x: u8) -> u64
+    ensures { λ r. ⌜ r ≡ x ⌝ }
+{
+    x as u64
+}
+
+// Byte k of s, and 0 past its end.
+fn byte_at(s: &[u8], k: usize) -> u64
+    ensures { λ r. ⌜ r ≡ field (numberOf (now (s .entry))) (8 * k) 8 ⌝ }
+{
+    if k < s.len() { wide(s[k]) } else { 0 }
+}
+
+// The eight bytes of s from byte k on.
+fn word_of(s: &[u8], k: usize) -> u64
+    requires { ⌜ k ≤ 8 ⌝ }
+    ensures { λ r. ⌜ r ≡ field (numberOf (now (s .entry))) (8 * k) 64 ⌝ }
+{
+    let mut word: u64 = 0;
+    let mut left: usize = 8;
+    while 0 < left {
+        left -= 1;
+        word = word * 256 + byte_at(s, k + left);
+    }
+    word
+}
+
+// The block of the first sixteen bytes of s; bytes that are not there count 0.
+pub fn load(s: &[u8]) -> PhysicalBlock
+    ensures { λ r. ⌜ blockNumber r ≡ field (numberOf (now (s .entry))) 0 128 ⌝ }
+{
+    let lo = word_of(s, 0);
+    let hi = word_of(s, 8);
+    PhysicalBlock { lo, hi }
+}
+
+// The low w bits of a word.
+fn low_bits(x: u64, w: u32) -> u64
+    ensures { λ r. ⌜ r ≡ field x 0 w ⌝ }
+{
+    if w < 64 { x % (1 << w) } else { x }
+}
+
+// The 64 bits of a block from bit p on.
+pub fn word_at(b: PhysicalBlock, p: u32) -> u64
+    ensures { λ r. ⌜ r ≡ field (blockNumber b) p 64 ⌝ }
+{
+    let lo = b.lo;
+    let hi = b.hi;
+    if p == 0 {
+        return lo;
+    }
+    if p < 64 {
+        return (hi << (64 - p)) + (lo >> p);
+    }
+    if p < 128 {
+        return hi >> (p - 64);
+    }
+    0
+}
+
+// The w bits of a block from bit p on; of a wider field the low 64 bits.
+pub fn field_at(b: PhysicalBlock, p: u32, w: u32) -> u64
+    ensures { λ r. ⌜ r ≡ field (blockNumber b) p (min w 64) ⌝ }
+{
+    low_bits(word_at(b, p), w)
+}
+
+// Byte k of a block.
+fn byte_of(b: PhysicalBlock, k: usize) -> u8
+    requires { ⌜ k < 16 ⌝ }
+    ensures { λ r. ⌜ r ≡ field (blockNumber b) (8 * k) 8 ⌝ }
+{
+    (word_at(b, (8 * k) as u32) % 256) as u8
+}
+
+// The bits of a block from bit p on.
+fn shifted(b: PhysicalBlock, p: u32) -> PhysicalBlock
+    ensures { λ r. ⌜ blockNumber r ≡ blockNumber b / 2 ^ p ⌝ }
+{
+    let hi = b.hi;
+    let word = word_at(b, p);
+    if 64 <= p {
+        return PhysicalBlock { lo: word, hi: 0 };
+    }
+    PhysicalBlock {
+        lo: word,
+        hi: hi >> p,
+    }
+}
+
+// The first w bits of a block.
+fn first_bits(b: PhysicalBlock, w: u32) -> PhysicalBlock
+    ensures { λ r. ⌜ blockNumber r ≡ blockNumber b % 2 ^ w ⌝ }
+{
+    let lo = b.lo;
+    let hi = b.hi;
+    if w < 64 {
+        return PhysicalBlock {
+            lo: low_bits(lo, w),
+            hi: 0,
+        };
+    }
+    PhysicalBlock {
+        lo,
+        hi: low_bits(hi, w - 64),
+    }
+}
+
+// The w bits of a block from bit p on, as a block.
+pub fn part(b: PhysicalBlock, p: u32, w: u32) -> PhysicalBlock
+    ensures { λ r. ⌜ blockNumber r ≡ field (blockNumber b) p w ⌝ }
+{
+    first_bits(shifted(b, p), w)
+}
+
+// A block with no bits from bit p on, and from there on the number v; what does not fit is cut off.
+fn on_top(a: PhysicalBlock, p: u32, v: u64) -> PhysicalBlock
+    requires { ⌜ blockNumber a < 2 ^ p ⌝ }
+    ensures { λ r. ⌜ blockNumber r ≡ (blockNumber a + v * 2 ^ p) % 2 ^ 128 ⌝ }
+{
+    let lo = a.lo;
+    let hi = a.hi;
+    if 128 <= p {
+        return a;
+    }
+    if p == 0 {
+        return PhysicalBlock { lo: v, hi: 0 };
+    }
+    if p < 64 {
+        return PhysicalBlock {
+            lo: lo + (v << p),
+            hi: v >> (64 - p),
+        };
+    }
+    PhysicalBlock {
+        lo,
+        hi: hi + (v << (p - 64)),
+    }
+}
+
+// The bits of a block below bit p, and from there on the number v; what does not fit is cut off.
+pub fn append(b: PhysicalBlock, p: u32, v: u64) -> PhysicalBlock
+    ensures { λ r. ⌜ blockNumber r ≡ (field (blockNumber b) 0 p + v * 2 ^ p) % 2 ^ 128 ⌝ }
+{
+    on_top(part(b, 0, p), p, v)
+}
+
+// The sixteen bytes of a block.
+pub fn store(b: PhysicalBlock) -> [u8; 16]
+    ensures { λ r. ⌜ r ≡ bytesOf 16 (blockNumber b) ⌝ }
+{
+    let mut s = [0u8; 16];
+    let mut k: usize = 0;
+    while k < 16 {
+        s[k] = byte_of(b, k);
+        k += 1;
+    }
+    s
+}
+
+// Each four bits in reverse.
+const NIBBLES: [u8; 16] = [0, 8, 4, 12, 2, 10, 6, 14, 1, 9, 5, 13, 3, 11, 7, 15];
+
+fn reverse_nibble(n: usize) -> u64
+    requires { ⌜ n < 16 ⌝ }
+    ensures { λ r. ⌜ r ≡ reverse 4 n ⌝ }
+{
+    wide(NIBBLES[n])
+}
+
+// The 64 bits of a word in reverse.
+fn reverse_word(x: u64) -> u64
+    ensures { λ r. ⌜ r ≡ reverse 64 x ⌝ }
+{
+    let mut done: u64 = 0;
+    let mut rest = x;
+    let mut k: usize = 0;
+    while k < 16 {
+        done = done * 16 + reverse_nibble((rest % 16) as usize);
+        rest = rest / 16;
+        k += 1;
+    }
+    done
+}
+
+// A block in reverse: its fields upward are those of the block downward from bit 127.
+pub fn reversed(b: PhysicalBlock) -> PhysicalBlock
+    ensures { λ r. ⌜ blockNumber r ≡ reverse 128 (blockNumber b) ⌝ }
+{
+    let lo = reverse_word(b.hi);
+    let hi = reverse_word(b.lo);
+    PhysicalBlock { lo, hi }
+}
