@@ -2,7 +2,7 @@
 -- Assumes nothing.
 use mathlib.Core.Path.{_≡_, refl, sym, ap, _∙_, subst}
 use mathlib.Core.List.{List, [], _∷_}
-use Prim.Native.Nat.{ℕ, zero, suc, _+_, _≤_, _<_}
+use Prim.Native.Nat.{ℕ, zero, suc, _+_, _≤_, _<_, min}
 use native.Mathlib.Nat.{not-suc-le-zero, le-of-suc-le-suc, add-suc, suc-add, zero-add, add-zero}
 use native.Mathlib.Omega.{arith}
 use native.Mathlib.Decide.{decLt}
@@ -98,6 +98,20 @@ module _ {A : Type 0} where
 
     pub padded-past : (n k : ℕ) (d : A) → k < N → n ≤ k → getD (padded N n f z) k d ≡ z
     padded-past n k d h l = padded-at n k d h ∙ rw (le-ltb k n l)
+
+    -- places past the list's end do not count
+    pub padded-cap : (n : ℕ) → padded N (min n N) f z ≡ padded N n f z
+    unfolding padded
+    padded-cap n =
+        tab-ext (λ k. pick (ltb k (min n N)) (f k) z) (λ k. pick (ltb k n) (f k) z) z N
+        (λ k h. ap (λ t. pick t (f k) z) (same k h))
+      where
+        same : (k : ℕ) → k < N → ltb k (min n N) ≡ ltb k n
+        same k h =
+            elim (decLt k n) [
+              | yes p ↦ lt-ltb k (min n N) (omega arith) ∙ sym (lt-ltb k n p)
+              | no p ↦ le-ltb k (min n N) (omega arith) ∙ sym (le-ltb k n (omega arith))
+            ]
 
     -- a store of f's value at the next place
     pub padded-more : (n : ℕ) (v : A) → n < N → v ≡ f n → set (padded N n f z) n v ≡ padded N (n + 1) f z

@@ -1,0 +1,184 @@
+-- The block mode both ways, by one test over all modes and one over all grids.
+-- Assumes nothing.
+use mathlib.Core.Path.{_≡_, refl, subst, sym, ap, _∙_}
+use mathlib.Core.Bool.{Bool, true, false}
+use Prim.Native.Nat.{ℕ, zero, suc, _+_, _-_, _*_, _/_, _%_, _^_, _≤_, _<_}
+use native.Mathlib.Omega.{arith}
+use native.Mathlib.Nat.{mod-lt}
+use lib.Pow
+use lib.Dec.{T, leb, ltb, eqb, leb→le, ltb→lt, eqb→eq}
+use Rattle.laws.specs.Choice.{pick, both, all}
+use Rattle.laws.proofs.Computed.{both-left, both-right, each}
+use Rattle.block_mode.specs.declared.WeightGrid.{WeightGrid}
+use Rattle.block_mode.specs.declared.BlockMode.{BlockMode}
+use Rattle.block_mode.specs.declared.BlockMode.the-variants.{VoidExtent, Reserved, Grid}
+use Rattle.block_mode.specs.declared.ModeBits.{ModeBits}
+use Rattle.block_mode.specs.declared.ModeBits.the-variants.{Mode, NoMode}
+use Rattle.block_mode.specs.Mode2D.{blockMode}
+use Rattle.block_mode.specs.Back2D.{isSide, inLimits, Limits, modeBits}
+
+-- ---- tests
+
+-- the answer is the mode m
+isMode : ModeBits → ℕ → Bool
+isMode (Mode n) m = eqb n m
+isMode NoMode m = false
+
+-- the answer is the grid g
+isGrid : BlockMode → WeightGrid → Bool
+isGrid VoidExtent g = false
+isGrid Reserved g = false
+isGrid (Grid k) g = both (eqb (k .width) (g .width)) (both (eqb (k .height) (g .height)) (both (eqb (k .range) (g .range)) (eqb (k .planes) (g .planes))))
+
+-- a grid that is read is in its limits, and its bits are those that were read
+readBack : BlockMode → ℕ → Bool
+readBack VoidExtent m = true
+readBack Reserved m = true
+readBack (Grid g) m = both (inLimits g) (isMode (modeBits g) m)
+
+-- bits that are written are read as the grid
+writtenBack : ModeBits → WeightGrid → Bool
+writtenBack (Mode m) g = both (ltb m 2048) (isGrid (blockMode m) g)
+writtenBack NoMode g = true
+
+abbrev grid : ℕ → ℕ → ℕ → ℕ → WeightGrid
+grid w h r p = record { width = w; height = h; range = r; planes = p }
+
+test-read : T (all (λ m. readBack (blockMode m) m) 2048)
+unfolding readBack isMode blockMode modeBits
+test-read = tt
+
+-- counted from the smallest grid within the limits
+abbrev back : ℕ → ℕ → ℕ → ℕ → Bool
+back w h r p = writtenBack (modeBits (grid (w + 2) (h + 2) r (p + 1))) (grid (w + 2) (h + 2) r (p + 1))
+
+test-written : T (all (λ p. all (λ r. all (λ h. all (λ w. back w h r p) 11) 11) 12) 2)
+unfolding writtenBack isGrid blockMode modeBits
+test-written = tt
+
+-- ---- what the tests say
+
+is-mode : (x : ModeBits) (m : ℕ) → T (isMode x m) → x ≡ Mode m
+unfolding isMode
+is-mode (Mode n) m t = ap (λ (k : ℕ). Mode k) (eqb→eq n m t)
+is-mode NoMode m t = absurd t
+
+same-grid : (k g : WeightGrid) → k .width ≡ g .width → k .height ≡ g .height → k .range ≡ g .range → k .planes ≡ g .planes → k ≡ g
+same-grid k g w h r p = λ i. record { width = w i; height = h i; range = r i; planes = p i }
+
+is-grid : (x : BlockMode) (g : WeightGrid) → T (isGrid x g) → x ≡ Grid g
+unfolding isGrid
+is-grid VoidExtent g t = absurd t
+is-grid Reserved g t = absurd t
+is-grid (Grid k) g t =
+    let a = eqb (k .width) (g .width) in
+    let b = eqb (k .height) (g .height) in
+    let c = eqb (k .range) (g .range) in
+    let d = eqb (k .planes) (g .planes) in
+    let t1 = both-right a (both b (both c d)) t in
+    let t2 = both-right b (both c d) t1 in
+    ap (λ (n : WeightGrid). Grid n)
+    (same-grid k g
+    (eqb→eq (k .width) (g .width) (both-left a (both b (both c d)) t))
+    (eqb→eq (k .height) (g .height) (both-left b (both c d) t1))
+    (eqb→eq (k .range) (g .range) (both-left c d t2))
+    (eqb→eq (k .planes) (g .planes) (both-right c d t2)))
+
+-- the limits as facts
+pub limits : (g : WeightGrid) → T (inLimits g) → Limits g
+unfolding inLimits
+limits g t =
+    let w = isSide (g .width) in
+    let h = isSide (g .height) in
+    let r = leb (g .range) 11 in
+    let p = leb 1 (g .planes) in
+    let q = leb (g .planes) 2 in
+    let t1 = both-right w (both h (both r (both p q))) t in
+    let t2 = both-right h (both r (both p q)) t1 in
+    let t3 = both-right r (both p q) t2 in
+    let tw = both-left w (both h (both r (both p q))) t in
+    let th = both-left h (both r (both p q)) t1 in
+    record {
+      width-low = leb→le 2 (g .width) (both-left (leb 2 (g .width)) (leb (g .width) 12) tw);
+      width-most = leb→le (g .width) 12 (both-right (leb 2 (g .width)) (leb (g .width) 12) tw);
+      height-low = leb→le 2 (g .height) (both-left (leb 2 (g .height)) (leb (g .height) 12) th);
+      height-most = leb→le (g .height) 12 (both-right (leb 2 (g .height)) (leb (g .height) 12) th);
+      range-most = leb→le (g .range) 11 (both-left r (both p q) t2);
+      planes-low = leb→le 1 (g .planes) (both-left p q t3);
+      planes-most = leb→le (g .planes) 2 (both-right p q t3);
+    }
+
+-- ---- the theorems
+
+module _ (m : ℕ) (h : m < 2048) (g : WeightGrid) (e : blockMode m ≡ Grid g) where
+  read : T (both (inLimits g) (isMode (modeBits g) m))
+  unfolding readBack
+  read = rw e at (each (λ m. readBack (blockMode m) m) 2048 test-read m h)
+
+  -- a mode that is a grid has 2 to 12 weights a side, a range of the twelve, and one or two planes
+  pub mode-limits : Limits g
+  mode-limits = limits g (both-left (inLimits g) (isMode (modeBits g) m) read)
+
+  -- and its bits are found again
+  pub mode-found : modeBits g ≡ Mode m
+  mode-found = is-mode (modeBits g) m (both-right (inLimits g) (isMode (modeBits g) m) read)
+
+past-limits : (g : WeightGrid) → inLimits g ≡ false → modeBits g ≡ NoMode
+unfolding modeBits
+past-limits g e = rw e
+
+never : (m : ℕ) → NoMode ≡ Mode m → ⊥
+never m e = let z : _≡_ {A = ℕ} 0 1 = cc in omega arith
+
+-- the test over all grids, at one within the limits
+written : (g : WeightGrid) → Limits g → T (writtenBack (modeBits g) g)
+written g l =
+    let w = g .width - 2 in let h = g .height - 2 in let r = g .range in let p = g .planes - 1 in
+    let t : T (writtenBack (modeBits (grid (w + 2) (h + 2) r (p + 1))) (grid (w + 2) (h + 2) r (p + 1))) =
+    each (λ w. back w h r p) 11
+    (each (λ h. all (λ w. back w h r p) 11) 11
+    (each (λ r. all (λ h. all (λ w. back w h r p) 11) 11) 12
+    (each (λ p. all (λ r. all (λ h. all (λ w. back w h r p) 11) 11) 12) 2 test-written p (omega arith))
+    r (omega arith)) h (omega arith)) w (omega arith) in
+    subst (λ (k : WeightGrid). T (writtenBack (modeBits k) k))
+    (same-grid (grid (w + 2) (h + 2) r (p + 1)) g (omega arith) (omega arith) refl (omega arith)) t
+
+-- bits that are found for a grid are a mode that is this grid
+pub found-mode : (g : WeightGrid) (m : ℕ) → modeBits g ≡ Mode m → (m < 2048) × (blockMode m ≡ Grid g)
+unfolding writtenBack
+found-mode g m e = go (inLimits g) refl where
+  back : T (both (ltb m 2048) (isGrid (blockMode m) g)) → (m < 2048) × (blockMode m ≡ Grid g)
+  back t = (ltb→lt m 2048 (both-left (ltb m 2048) (isGrid (blockMode m) g) t), is-grid (blockMode m) g (both-right (ltb m 2048) (isGrid (blockMode m) g) t))
+
+  go : (b : Bool) → inLimits g ≡ b → (m < 2048) × (blockMode m ≡ Grid g)
+  go true i = back (rw e at (written g (limits g (rw i tt))))
+  go false i = absurd (never m (sym (past-limits g i) ∙ e))
+
+-- where no bits are found, no mode is this grid
+pub no-mode : (g : WeightGrid) → modeBits g ≡ NoMode → (m : ℕ) → m < 2048 → blockMode m ≡ Grid g → ⊥
+no-mode g n m h e = never m (sym n ∙ mode-found m h g e)
+
+-- and where no mode is this grid, none are found
+pub not-found : (g : WeightGrid) → ((m : ℕ) → m < 2048 → blockMode m ≡ Grid g → ⊥) → modeBits g ≡ NoMode
+not-found g n = go (modeBits g) refl where
+  go : (x : ModeBits) → modeBits g ≡ x → x ≡ NoMode
+  go (Mode m) e = let f = found-mode g m e in absurd (n m (f .0) (f .1))
+  go NoMode e = refl
+
+-- the mode of a grid is unique
+pub one-mode : (m n : ℕ) (g : WeightGrid) → m < 2048 → n < 2048 → blockMode m ≡ Grid g → blockMode n ≡ Grid g → m ≡ n
+one-mode m n g hm hn em en = let a = mode-found m hm g em in let b = mode-found n hn g en in cc
+
+-- a field of d + w + p bits is one of the number
+under : (m d w p : ℕ) → m % 2 ^ (d + w + p) / 2 ^ p % 2 ^ w ≡ m / 2 ^ p % 2 ^ w
+under m d w p = ap (λ (x : ℕ). x % 2 ^ w) (Pow.field m (d + w) p) ∙ Pow.mod-mod-pow (m / 2 ^ p) d w
+
+-- only the low eleven bits count
+pub low-eleven : (m : ℕ) → blockMode (m % 2048) ≡ blockMode m
+unfolding blockMode
+low-eleven m =
+    rw (under m 2 9 0, under m 9 2 0, under m 7 2 2, under m 6 1 4, under m 4 2 5, under m 2 2 7, under m 3 1 7, under m 2 1 8, under m 1 1 9, under m 0 2 9, under m 0 1 10)
+
+-- so any number whose low bits are a grid is within the limits
+pub any-limits : (m : ℕ) (g : WeightGrid) → blockMode m ≡ Grid g → Limits g
+any-limits m g e = mode-limits (m % 2048) (mod-lt m (omega arith)) g (low-eleven m ∙ e)

@@ -1,0 +1,68 @@
+-- The table of endpoint pairs after one more partition, and with more partitions than it holds.
+-- Assumes nothing.
+use mathlib.Core.Path.{_≡_, refl}
+use mathlib.Core.List.{List, [], _∷_}
+use Prim.Native.Nat.{ℕ, zero, suc, _+_, _≤_, _<_, min}
+use native.Mathlib.Numerals.{add-one}
+use native.Mathlib.Decide.{decLt}
+use native.Mathlib.Omega.{arith}
+use native.Mathlib.Nat.{add-zero}
+use lib.ListN.{getD, set}
+use Rattle.laws.specs.Table.{tabFrom, tab}
+use borrow.Author.Tests.{lt-ltb}
+use Rattle.encoding.specs.declared.Level.{Level}
+use Rattle.endpoint_arithmetic.specs.declared.EndpointPair.{EndpointPair}
+use Rattle.color_endpoint.specs.Modes.{noLevel, pairOf}
+use Rattle.color_endpoint.specs.Table.{numberCount, startOf, numbersFrom, entryOf, tableOf}
+
+module _ (modes : List ℕ) (levels : List Level) where
+  next′ : (p : ℕ) → p < 4 → set (tableOf modes p levels) p (pairOf (getD modes p 0) (numbersFrom levels (startOf modes p))) ≡ tableOf modes (suc p) levels
+  unfolding tableOf entryOf
+  next′ zero h = refl
+  next′ (suc zero) h = refl
+  next′ (suc (suc zero)) h = refl
+  next′ (suc (suc (suc zero))) h = refl
+  next′ (suc (suc (suc (suc p)))) h = absurd (omega arith)
+
+  -- one more partition: its numbers start where the last one's end
+  pub table-next : (p : ℕ) {start : ℕ} {numbers : List Level} {pair : EndpointPair} {t : List EndpointPair} → p < 4 →
+      t ≡ tableOf modes p levels → start ≡ startOf modes p → numbers ≡ numbersFrom levels start → pair ≡ pairOf (getD modes p 0) numbers →
+      set t p pair ≡ tableOf modes (p + 1) levels
+  table-next p h et es en ep = rw (add-one, ep, en, es, et) (next′ p h)
+
+  full : (n : ℕ) → 4 ≤ n → tableOf modes 4 levels ≡ tableOf modes n levels
+  unfolding tableOf entryOf
+  full n h = rw (lt-ltb 0 n (omega arith), lt-ltb 1 n (omega arith), lt-ltb 2 n (omega arith), lt-ltb 3 n (omega arith))
+
+  -- partitions past the fourth change nothing
+  pub table-full : (n : ℕ) → tableOf modes (min n 4) levels ≡ tableOf modes n levels
+  table-full n =
+      elim (decLt n 4) [
+        | yes h ↦ let e : min n 4 ≡ n = omega arith in rw e
+        | no h ↦ let e : min n 4 ≡ 4 = omega arith in rw e (full n (omega arith))
+      ]
+
+  -- the table by partition
+  pub table-at : (n p : ℕ) (d : EndpointPair) → p < 4 → getD (tableOf modes n levels) p d ≡ entryOf modes n levels p
+  unfolding tableOf
+  table-at n zero d h = refl
+  table-at n (suc zero) d h = refl
+  table-at n (suc (suc zero)) d h = refl
+  table-at n (suc (suc (suc zero))) d h = refl
+  table-at n (suc (suc (suc (suc p)))) d h = absurd (omega arith)
+
+  -- the pair of a partition below the count
+  pub entry-used : (n p : ℕ) → p < n → entryOf modes n levels p ≡ pairOf (getD modes p 0) (numbersFrom levels (startOf modes p))
+  unfolding entryOf
+  entry-used n p h = rw (lt-ltb p n h)
+
+pub start-next : (modes : List ℕ) (p : ℕ) → startOf modes p + numberCount (getD modes p 0) ≡ startOf modes (p + 1)
+unfolding startOf
+start-next modes p = rw (add-one p)
+
+-- the eight numbers, written out
+pub eight : (levels : List Level) (s : ℕ) →
+    getD levels s noLevel ∷ getD levels (s + 1) noLevel ∷ getD levels (s + 2) noLevel ∷ getD levels (s + 3) noLevel ∷
+    getD levels (s + 4) noLevel ∷ getD levels (s + 5) noLevel ∷ getD levels (s + 6) noLevel ∷ getD levels (s + 7) noLevel ∷ [] ≡ numbersFrom levels s
+unfolding numbersFrom tab tabFrom
+eight levels s = rw (add-zero s)

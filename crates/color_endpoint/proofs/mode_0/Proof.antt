@@ -1,0 +1,27 @@
+-- `color_endpoint::mode_0` meets its contract.
+use Rattle.color_endpoint.specs.Modes.{mode0}
+use borrow.Author.Needs.{needs}
+use Rattle.color_endpoint.proofs.mode_0.Statement.{statement}
+use Rattle.color_endpoint.proofs.mode_0.Tie as tie
+
+element-copy-out-luminance-pair : tie.Need-element-copy-out-luminance-pair
+element-copy-out-luminance-pair c = search needs
+
+element-copy-out-luminance-pair-2 : tie.Need-element-copy-out-luminance-pair-2
+element-copy-out-luminance-pair-2 c = search needs
+
+luminance-pair-requires : tie.Need-luminance-pair-requires
+luminance-pair-requires c κs = search needs
+
+returns : tie.Need-returns
+unfolding mode0
+returns c = c .luminance-pair .ensures
+
+pub mode-0-spec : {M : Type 1} → statement M
+mode-0-spec =
+    tie.close
+    (tie.spec
+    element-copy-out-luminance-pair
+    element-copy-out-luminance-pair-2
+    luminance-pair-requires
+    returns)

@@ -1,0 +1,6 @@
+pub mod Codes
+pub mod Places
+pub mod RoundTrip
+pub mod Search
+pub mod Groups
+pub mod Ranged

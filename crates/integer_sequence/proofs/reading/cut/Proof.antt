@@ -1,0 +1,25 @@
+use mathlib.Core.Path.{refl}
+use native.Mathlib.Nat.{mod-lt}
+use native.Mathlib.Omega.{arith}
+use lib.Pow.{pow-pos}
+use Rattle.bits.specs.Field.{field}
+use Rattle.bits.proofs.Halves.{one-shl}
+use borrow.Author.Needs.{needs}
+use Rattle.integer_sequence.proofs.reading.cut.Statement.{statement}
+use Rattle.integer_sequence.proofs.reading.cut.Tie as tie
+
+shr-result : tie.Need-shr-result
+shr-result c = search needs
+
+shl-result : tie.Need-shl-result
+shl-result c = search needs
+
+rem-result : tie.Need-rem-result
+rem-result c = rw (one-shl (c .args .w) (omega arith)) (pow-pos (c .args .w))
+
+returns : tie.Need-returns
+unfolding field
+returns c = rw (one-shl (c .args .w) (omega arith)) (refl, mod-lt _ (pow-pos (c .args .w)))
+
+pub cut-spec : {M : Type 1} → statement M
+cut-spec = tie.close (tie.spec shr-result shl-result rem-result returns)

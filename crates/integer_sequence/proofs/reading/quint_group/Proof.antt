@@ -1,0 +1,63 @@
+use mathlib.Core.Path.{_≡_, refl, _∙_}
+use Prim.Native.Nat.{_+_, _*_}
+use native.Mathlib.Omega.{arith}
+use Rattle.bits.specs.Field.{field}
+use Rattle.bits.proofs.Halves.{low-is}
+use Rattle.encoding.specs.declared.Encoding.the-variants.{Bits, Trits, Quints}
+use Rattle.encoding.specs.Encoding.{sequenceBits}
+use Rattle.integer_sequence.proofs.Groups.{digit-fits, number-first, three}
+use borrow.Author.Needs.{needs}
+use Rattle.integer_sequence.proofs.reading.quint_group.Statement.{statement}
+use Rattle.integer_sequence.proofs.reading.quint_group.Tie as tie
+
+quint-code-requires : tie.Need-quint-code-requires
+quint-code-requires c κs = search needs
+
+quints-of-requires : tie.Need-quints-of-requires
+quints-of-requires c κs = search needs
+
+wide-requires : tie.Need-wide-requires
+wide-requires c κs = search needs
+
+number-of-requires : tie.Need-number-of-requires
+number-of-requires c κs = (omega arith, omega arith, digit-fits _ 3 _ (omega arith) (omega arith))
+
+add-number-of : tie.Need-add-number-of
+add-number-of c = search needs
+
+number-of-requires-2 : tie.Need-number-of-requires-2
+number-of-requires-2 c κs = (omega arith, omega arith, digit-fits _ 3 _ (omega arith) (omega arith))
+
+mul-number-of : tie.Need-mul-number-of
+mul-number-of c = search needs
+
+add-number-of-2 : tie.Need-add-number-of-2
+add-number-of-2 c = search needs
+
+number-of-requires-3 : tie.Need-number-of-requires-3
+number-of-requires-3 c κs = (omega arith, omega arith, digit-fits _ 3 _ (omega arith) (omega arith))
+
+returns : tie.Need-returns
+unfolding field sequenceBits
+returns c =
+    let e = c .before .before .before in
+    let b = e .before .before .before .args .b in
+    three _
+    (number-first Quints b _ 0 0 (c .before .before .number-of .ensures) (omega arith) (e .before .before .quint-code .ensures) (e .wide .ensures ∙ e .before .quints-of .ensures) (low-is _ 3) (omega arith))
+    (number-first Quints b _ 1 (b + 3) (c .before .number-of2 .ensures) (omega arith) (e .before .before .quint-code .ensures) (e .wide .ensures ∙ e .before .quints-of .ensures) (refl) (omega arith))
+    (number-first Quints b _ 2 (2 * b + 5) (c .number-of3 .ensures) (omega arith) (e .before .before .quint-code .ensures) (e .wide .ensures ∙ e .before .quints-of .ensures) (refl) (omega arith))
+
+pub quint-group-spec : {M : Type 1} → statement M
+quint-group-spec =
+    tie.close
+    (tie.spec
+    quint-code-requires
+    quints-of-requires
+    wide-requires
+    number-of-requires
+    add-number-of
+    number-of-requires-2
+    mul-number-of
+    add-number-of-2
+    number-of-requires-3
+    returns)

@@ -1,0 +1,168 @@
+// Endpoints expanded to 16 bits and mixed by weights into a texel.
+ghost use mathlib.Core.Path.{_≡_};
+ghost use Prim.Native.Nat.{_-_, _<_, _≤_, _%_};
+ghost use Rattle.interpolation.specs.Expansion.{
+  replicated,
+  centred,
+  colourOf,
+  alphaOf,
+  expandOf,
+  expandedEnd,
+  expandedPair,
+  expandedTable,
+  shownOf,
+};
+ghost use Rattle.interpolation.specs.Texel.{mixOf, weightOf, texelOf};
+use encoding::Level;
+use endpoint_arithmetic::EndpointPair;
+
+// What a texel's numbers are: 01's kind 0, 16-bit numbers, and kind 1, sRGB bytes before the sRGB curve.
+pub enum Kind {
+    Unorm16,
+    Srgb8,
+}
+
+// An endpoint pair in 16 bits, each R, G, B, A.
+pub struct ExpandedPair {
+    pub c0: [u16; 4],
+    pub c1: [u16; 4],
+}
+
+// Four 16-bit numbers; what a kind shows of each is `shown`.
+pub struct Texel {
+    pub r: u16,
+    pub g: u16,
+    pub b: u16,
+    pub a: u16,
+}
+
+// The byte twice.
+fn replicate(c: u8) -> u16
+    ensures { λ r. ⌜ r ≡ replicated c ⌝ }
+{
+    257 * (c as u16)
+}
+
+// The byte, and 0x80 below it.
+fn centre(c: u8) -> u16
+    ensures { λ r. ⌜ r ≡ centred c ⌝ }
+{
+    256 * (c as u16) + 128
+}
+
+// R, G or B.
+fn expand_colour(kind: Kind, c: u8) -> u16
+    ensures { λ r. ⌜ r ≡ colourOf kind c ⌝ }
+{
+    match kind {
+        Kind::Unorm16 => replicate(c),
+        Kind::Srgb8 => centre(c),
+    }
+}
+
+// A.
+fn expand_alpha(kind: Kind, c: u8) -> u16
+    ensures { λ r. ⌜ r ≡ alphaOf kind c ⌝ }
+{
+    match kind {
+        Kind::Unorm16 => replicate(c),
+        Kind::Srgb8 => replicate(c),
+    }
+}
+
+// A channel of an endpoint (01: widen), by its place in R, G, B, A.
+pub fn expand(kind: Kind, channel: u8, c: u8) -> u16
+    ensures { λ r. ⌜ r ≡ expandOf kind channel c ⌝ }
+{
+    if channel == 3 {
+        expand_alpha(kind, c)
+    } else {
+        expand_colour(kind, c)
+    }
+}
+
+// An endpoint, expanded.
+fn expand_end(kind: Kind, e: [u8; 4]) -> [u16; 4]
+    ensures { λ r. ⌜ r ≡ expandedEnd kind e ⌝ }
+{
+    [
+        expand(kind, 0, e[0]),
+        expand(kind, 1, e[1]),
+        expand(kind, 2, e[2]),
+        expand(kind, 3, e[3]),
+    ]
+}
+
+// An endpoint pair, expanded.
+pub fn expand_pair(kind: Kind, p: EndpointPair) -> ExpandedPair
+    ensures { λ r. ⌜ r ≡ expandedPair kind p ⌝ }
+{
+    let e0 = p.e0;
+    let e1 = p.e1;
+    let c0 = expand_end(kind, e0);
+    let c1 = expand_end(kind, e1);
+    ExpandedPair { c0, c1 }
+}
+
+// The table of four partitions, once for each block.
+pub fn expand_table(kind: Kind, t: [EndpointPair; 4]) -> [ExpandedPair; 4]
+    ensures { λ r. ⌜ r ≡ expandedTable kind t ⌝ }
+{
+    [
+        expand_pair(kind, t[0]),
+        expand_pair(kind, t[1]),
+        expand_pair(kind, t[2]),
+        expand_pair(kind, t[3]),
+    ]
+}
+
+// What a kind shows of a 16-bit number.
+pub fn shown(kind: Kind, n: u16) -> u16
+    ensures { λ r. ⌜ r ≡ shownOf kind n ⌝ }
+{
+    match kind {
+        Kind::Unorm16 => n,
+        Kind::Srgb8 => n / 256,
+    }
+}
+
+// What is left of 64.
+fn rest(i: u32) -> u32
+    ensures { λ r. ⌜ (r ≡ 64 - i) × (r ≤ 64) ⌝ }
+{
+    if i < 64 { 64 - i } else { 0 }
+}
+
+// Two expanded channels mixed by a weight.
+pub fn mix(c0: u16, c1: u16, i: Level) -> u32
+    ensures { λ r. ⌜ r ≡ mixOf c0 c1 (i .0) ⌝ }
+{
+    let w = i.0 as u32;
+    ((c0 as u32) * rest(w) + (c1 as u32) * w + 32) / 64
+}
+
+// The same as 16 bits.
+fn mix_channel(c0: u16, c1: u16, i: Level) -> u16
+    ensures { λ r. ⌜ r ≡ mixOf c0 c1 (i .0) % 65536 ⌝ }
+{
+    (mix(c0, c1, i) % 65536) as u16
+}
+
+// The weight of a channel.
+fn weight(component: u8, first: Level, second: Level, channel: u8) -> Level
+    ensures { λ r. ⌜ r ≡ weightOf component first second channel ⌝ }
+{
+    if channel == component { second } else { first }
+}
+
+// A texel; the component that the component selector names (01: plane channel) takes the second weight, 4 or more standing for none.
+pub fn mix_texel(p: ExpandedPair, first: Level, second: Level, component: u8) -> Texel
+    ensures { λ r. ⌜ r ≡ texelOf p first second component ⌝ }
+{
+    Texel {
+        r: mix_channel(p.c0[0], p.c1[0], weight(component, first, second, 0)),
+        g: mix_channel(p.c0[1], p.c1[1], weight(component, first, second, 1)),
+        b: mix_channel(p.c0[2], p.c1[2], weight(component, first, second, 2)),
+        a: mix_channel(p.c0[3], p.c1[3], weight(component, first, second, 3)),
+    }
+}

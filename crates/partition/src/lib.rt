@@ -1,0 +1,206 @@
+// Which partition a texel belongs to: the seeds are made once for a block, the pattern is asked at each texel.
+ghost use mathlib.Core.Path.{_≡_};
+ghost use Prim.Native.Nat.{_-_, _<_, _≤_};
+ghost use Rattle.partition.specs.Hash.{hashOf};
+ghost use Rattle.partition.specs.Select.{bitShift, countShift, sh1, sh2, seedOf, firstLargest, doubled};
+ghost use Rattle.partition.specs.Seeds.{laneBy, laneFor, laneUnless, seedsFrom, seedsOf, selectBy};
+use std::num::wrapping_add_u32;
+use std::num::wrapping_sub_u32;
+
+// One of the four sums that are compared: x and y count so many times, over an offset.
+pub struct Lane {
+    pub x: u16,
+    pub y: u16,
+    pub offset: u16,
+}
+
+// What the pattern of a block is made of. An absent partition's lane is all 0.
+pub struct Seeds {
+    pub a: Lane,
+    pub b: Lane,
+    pub c: Lane,
+    pub d: Lane,
+}
+
+struct ShiftPair {
+    one: u32,
+    two: u32,
+}
+
+fn hash52(seed: u32) -> u32
+    ensures { λ r. ⌜ r ≡ hashOf seed ⌝ }
+{
+    let a = seed ^ (seed >> 15);
+    let b = wrapping_sub_u32(a, a << 17);
+    let c = wrapping_add_u32(b, b << 7);
+    let d = wrapping_add_u32(c, c << 4);
+    let e = d ^ (d >> 5);
+    let f = wrapping_add_u32(e, e << 16);
+    let g = f ^ (f >> 7);
+    let h = g ^ (g >> 3);
+    let i = h ^ (h << 6);
+    i ^ (i >> 17)
+}
+
+fn bit_shift(seed: u32) -> u32
+    ensures { λ r. ⌜ (r ≡ bitShift seed) × (r < 7) ⌝ }
+{
+    if seed / 2 % 2 == 1 { 4 } else { 5 }
+}
+
+fn count_shift(count: u8) -> u32
+    ensures { λ r. ⌜ (r ≡ countShift count) × (r < 7) ⌝ }
+{
+    if count == 3 { 6 } else { 5 }
+}
+
+fn shifts(seed: u32, count: u8) -> ShiftPair
+    ensures { λ r. ⌜ ((r .one ≡ sh1 seed count) × (r .two ≡ sh2 seed count)) × ((r .one < 7) × (r .two < 7)) ⌝ }
+{
+    let bit = bit_shift(seed);
+    let three = count_shift(count);
+    if seed % 2 == 1 {
+        ShiftPair {
+            one: bit,
+            two: three,
+        }
+    } else {
+        ShiftPair {
+            one: three,
+            two: bit,
+        }
+    }
+}
+
+// Four bits of the hash, squared and shifted.
+fn seed_of(rnum: u32, k: u32, sh: u32) -> u32
+    requires { ⌜ (k < 32) × (sh < 7) ⌝ }
+    ensures { λ r. ⌜ (r ≡ seedOf rnum k sh) × (r ≤ 225) ⌝ }
+{
+    let n = (rnum >> k) % 16;
+    (n * n) >> sh
+}
+
+// A small block's places count double.
+fn doubled_seed(small: bool, seed: u32) -> u16
+    requires { ⌜ seed ≤ 225 ⌝ }
+    ensures { λ r. ⌜ r ≡ doubled small seed ⌝ }
+{
+    if small {
+        (seed * 2) as u16
+    } else {
+        seed as u16
+    }
+}
+
+fn lane_for(small: bool, p: u32, q: u32, t: u32) -> Lane
+    requires { ⌜ (p ≤ 225) × (q ≤ 225) ⌝ }
+    ensures { λ r. ⌜ r ≡ laneFor small p q t ⌝ }
+{
+    Lane {
+        x: doubled_seed(small, p),
+        y: doubled_seed(small, q),
+        offset: (t % 64) as u16,
+    }
+}
+
+fn lane_unless(absent: bool, small: bool, p: u32, q: u32, t: u32) -> Lane
+    requires { ⌜ (p ≤ 225) × (q ≤ 225) ⌝ }
+    ensures { λ r. ⌜ r ≡ laneUnless absent small p q t ⌝ }
+{
+    if absent {
+        Lane {
+            x: 0,
+            y: 0,
+            offset: 0,
+        }
+    } else {
+        lane_for(small, p, q, t)
+    }
+}
+
+fn seeds_from(small: bool, rnum: u32, sh1: u32, sh2: u32, count: u8) -> Seeds
+    requires { ⌜ (sh1 < 7) × (sh2 < 7) ⌝ }
+    ensures { λ r. ⌜ r ≡ seedsFrom small rnum sh1 sh2 count ⌝ }
+{
+    let a = lane_unless(
+        count < 2,
+        small,
+        seed_of(rnum, 0, sh1),
+        seed_of(rnum, 4, sh2),
+        rnum >> 14,
+    );
+    let b = lane_unless(
+        count < 2,
+        small,
+        seed_of(rnum, 8, sh1),
+        seed_of(rnum, 12, sh2),
+        rnum >> 10,
+    );
+    let c = lane_unless(
+        count < 3,
+        small,
+        seed_of(rnum, 16, sh1),
+        seed_of(rnum, 20, sh2),
+        rnum >> 6,
+    );
+    let d = lane_unless(
+        count < 4,
+        small,
+        seed_of(rnum, 24, sh1),
+        seed_of(rnum, 28, sh2),
+        rnum >> 2,
+    );
+    Seeds { a, b, c, d }
+}
+
+fn less_one(count: u8) -> u32
+    ensures { λ r. ⌜ r ≡ count - 1 ⌝ }
+{
+    if count == 0 { 0 } else { (count as u32) - 1 }
+}
+
+// The seeds of a block with this partition index and so many partitions.
+pub fn partition_seeds(index: u16, count: u8, small: bool) -> Seeds
+    ensures { λ r. ⌜ r ≡ seedsOf index count small ⌝ }
+{
+    let seed = (index as u32) + less_one(count) * 1024;
+    let sh = shifts(seed, count);
+    seeds_from(small, hash52(seed), sh.one, sh.two, count)
+}
+
+fn lane_at(l: Lane, x: u8, y: u8) -> u32
+    ensures { λ r. ⌜ r ≡ laneBy l x y ⌝ }
+{
+    ((l.x as u32) * (x as u32) + (l.y as u32) * (y as u32) + (l.offset as u32)) % 64
+}
+
+fn first_largest(a: u32, b: u32, c: u32, d: u32) -> u8
+    ensures { λ r. ⌜ r ≡ firstLargest a b c d ⌝ }
+{
+    if a >= b && a >= c && a >= d {
+        0
+    } else if b >= c && b >= d {
+        1
+    } else if c >= d {
+        2
+    } else {
+        3
+    }
+}
+
+// The partition of the texel at x, y.
+pub fn partition_at(s: Seeds, x: u8, y: u8) -> u8
+    ensures { λ r. ⌜ r ≡ selectBy s x y ⌝ }
+{
+    let a = s.a;
+    let b = s.b;
+    let c = s.c;
+    let d = s.d;
+    first_largest(
+        lane_at(a, x, y),
+        lane_at(b, x, y),
+        lane_at(c, x, y),
+        lane_at(d, x, y),
+    )
+}

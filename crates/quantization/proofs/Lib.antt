@@ -1,0 +1,3 @@
+pub mod Arms
+pub mod Levels
+pub mod Ranges

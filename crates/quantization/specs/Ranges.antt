@@ -1,0 +1,49 @@
+-- The quantisation ranges, and the choice of the endpoint range.
+-- 01, "Bits of a block" (weight ranges) and "Packed numbers" (endpoint ranges).
+-- Assumes nothing.
+use Prim.Native.Nat.{ℕ, zero, suc, _+_, _-_, _*_, _^_}
+use mathlib.Core.List.{List, [], _∷_}
+use lib.Dec.{leb}
+use lib.ListN.{getD}
+use Rattle.laws.specs.Choice.{pick}
+use Rattle.encoding.specs.declared.Encoding.{Encoding}
+use Rattle.encoding.specs.declared.Encoding.the-variants.{Bits, Trits, Quints}
+use Rattle.encoding.specs.Encoding.{radix, sequenceBits}
+
+-- One table of twenty-one ranges by their reach: 0 to 11 are the weight ranges (1, 2, 3, 4, 5, 7, 9, 11, 15, 19, 23, 31),
+-- 4 to 20 the endpoint ranges (5, 7, 9, 11, 15, 19, 23, 31, 39, 47, 63, 79, 95, 127, 159, 191, 255).
+
+-- what stands above the bits of a number of each range
+abbrev pub encodings : List Encoding
+encodings =
+    Bits ∷ Trits ∷ Bits ∷ Quints ∷ Trits ∷ Bits ∷ Quints ∷ Trits ∷ Bits ∷ Quints ∷ Trits ∷ Bits
+    ∷ Quints ∷ Trits ∷ Bits ∷ Quints ∷ Trits ∷ Bits ∷ Quints ∷ Trits ∷ Bits ∷ []
+
+-- how many bits a number of each range has
+abbrev pub bitCounts : List ℕ
+bitCounts = 1 ∷ 0 ∷ 2 ∷ 0 ∷ 1 ∷ 3 ∷ 1 ∷ 2 ∷ 4 ∷ 2 ∷ 3 ∷ 5 ∷ 3 ∷ 4 ∷ 6 ∷ 4 ∷ 5 ∷ 7 ∷ 5 ∷ 6 ∷ 8 ∷ []
+
+-- past the table: no digit and no bits
+unfoldable pub encodingAt : ℕ → Encoding
+encodingAt k = getD encodings k Bits
+
+unfoldable pub bitsAt : ℕ → ℕ
+bitsAt k = getD bitCounts k 0
+
+-- what the range reaches: its largest number
+unfoldable pub mostAt : ℕ → ℕ
+mostAt k = radix (encodingAt k) * 2 ^ bitsAt k - 1
+
+-- the bits that n numbers of the range take
+unfoldable pub rangeBits : ℕ → ℕ → ℕ
+rangeBits k n = sequenceBits (encodingAt k) (bitsAt k) n
+
+-- 01: "The endpoint range is the largest of the seventeen that fits into the bits left over."
+-- the largest of the ranges 4 to 4 + i of which n numbers take at most that many bits; 4 where none does
+unfoldable pub largestTo : ℕ → ℕ → ℕ → ℕ
+largestTo n left zero = 4
+largestTo n left (suc i) = pick (leb (rangeBits (4 + suc i) n) left) (4 + suc i) (largestTo n left i)
+
+unfoldable pub endpointRange : ℕ → ℕ → ℕ
+unfolding largestTo
+endpointRange n left = largestTo n left 16

@@ -1,0 +1,3 @@
+pub mod Bounds
+pub mod Factors
+pub mod Points

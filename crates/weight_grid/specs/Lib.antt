@@ -1,0 +1,3 @@
+pub mod Bilinear
+pub mod Cell
+pub mod Place
