@@ -1,10 +1,8 @@
 -- The eleven bits of a 2D block mode. 01, "Bits of a block", "Block mode"; 000, "Block Mode", "ASTC 2D block mode layout".
 -- Assumes nothing.
 use Prim.Native.Nat.{ℕ, _+_, _-_, _*_, _/_, _%_, _^_}
-use mathlib.Core.Bool.{Bool}
 use lib.Dec.{eqb}
 use Rattle.laws.specs.Choice.{pick}
-use Rattle.block_mode.specs.declared.WeightGrid.{WeightGrid}
 use Rattle.block_mode.specs.declared.BlockMode.{BlockMode}
 use Rattle.block_mode.specs.declared.BlockMode.the-variants.{VoidExtent, Reserved, Grid}
 

@@ -2,22 +2,22 @@
 -- Assumes nothing.
 use mathlib.Core.Path.{_≡_}
 use Prim.Native.Nat.{ℕ, _+_, _*_, _/_, _%_, _<_}
-use lib.Bits.{bitAnd, bitOr, bitXor}
+use lib.Bits.{bitAnd, bitXor}
 use lib.Dec.{ltb}
 use Rattle.laws.specs.Choice.{pick}
 use Rattle.quantization.specs.declared.Rule.{Rule}
-use Rattle.quantization.specs.Unquantise.{expanded, unquantEndpoint, unquantWeight}
 
--- A is printed a..a, B and D are products of the stored number; 0 above the range
-unfoldable pub byRule : ℕ → Rule → ℕ → ℕ
-byRule top r v =
+-- one more above the limit, as a byte
+unfoldable pub stepped : ℕ → ℕ → ℕ
+stepped level limit = pick (ltb limit level) (level + 1) level % 256
+
+-- A is v % 2 * r .5, B and D are products of the stored number; 0 above the range
+unfoldable pub byRule : Rule → ℕ → ℕ
+unfolding stepped
+byRule r v =
     pick (ltb (r .0) v) 0
-    (bitOr (bitAnd (v % 2 * r .5) top)
-    (bitXor (v * r .1 / 256 * r .3 + bitAnd v (r .2) * r .4 / 128) (v % 2 * r .5) / 4))
+    (stepped ((v % 2 * r .5 + 1) / 4 + bitXor (v * r .1 / 256 * r .3 + bitAnd v (r .2) * r .4 / 128) (v % 2 * r .5) / 4) (r .6))
 
 -- the rule gives each stored number its level
-unfoldable pub RightEndpoint : ℕ → Rule → Type 0
-RightEndpoint k r = (v : ℕ) → v < 256 → byRule 128 r v ≡ unquantEndpoint k v
-
-unfoldable pub RightWeight : ℕ → Rule → Type 0
-RightWeight k r = (v : ℕ) → v < 256 → expanded (byRule 32 r v) ≡ unquantWeight k v
+unfoldable pub Right : (ℕ → ℕ) → Rule → Type 0
+Right level r = (v : ℕ) → v < 256 → byRule r v ≡ level v

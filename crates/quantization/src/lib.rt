@@ -3,12 +3,10 @@ use encoding::Encoding;
 use encoding::Level;
 use encoding::Stored;
 ghost use mathlib.Core.Path.{_≡_};
-ghost use Prim.Native.Nat.{_*_, _-_, _≤_};
-ghost use lib.Dec.{leb};
-ghost use Rattle.laws.specs.Choice.{pick};
+ghost use Prim.Native.Nat.{_-_, _≤_};
 ghost use Rattle.quantization.specs.Ranges.{encodingAt, bitsAt, mostAt, rangeBits, endpointRange};
 ghost use Rattle.quantization.specs.Unquantise.{unquantEndpoint, unquantWeight};
-ghost use Rattle.quantization.specs.Products.{byRule, RightEndpoint, RightWeight};
+ghost use Rattle.quantization.specs.Products.{stepped, byRule, Right};
 
 // What stands above the bits of a number of the range. From range 1 on trits, bits and quints take turns.
 pub fn encoding_at(range: u8) -> Encoding
@@ -87,53 +85,56 @@ pub fn endpoint_range(count: u32, left: u32) -> u8
     }
 }
 
-// How the numbers of a range are unquantised: the largest number, 256 / 2^bits to take off the digit (0: no digit), the bits
-// of B in place, C, the factor that copies these bits to their places, times 128, and A where a is 1.
-struct Rule(u8, u16, u8, u8, u16, u16);
+// How the numbers of a range are unquantised, by products: the largest number; 256 / 2^bits, which takes off the digit (0: none);
+// the bits of B in place; C; 128 times the factor that copies the bits to their places in B; A where a is 1; and the level
+// above which it is one more. A number with no digit is B / 4.
+// A caller that unquantises many numbers of one range takes the rule once.
+pub struct Rule(u8, u16, u8, u8, u16, u16, u8);
 
-// The rules of the endpoint ranges.
-fn endpoint_rule(range: u8) -> Rule
-    ensures { λ r. ⌜ RightEndpoint range r ⌝ }
+// The rule of an endpoint range.
+pub fn endpoint_rule(range: u8) -> Rule
+    ensures { λ r. ⌜ Right (unquantEndpoint range) r ⌝ }
 {
     match range {
-        4 => Rule(5, 128, 0, 204, 0, 511),
-        5 => Rule(7, 0, 255, 0, 18688, 0),
-        6 => Rule(9, 128, 0, 113, 0, 511),
-        7 => Rule(11, 64, 2, 93, 17792, 511),
-        8 => Rule(15, 0, 255, 0, 8704, 0),
-        9 => Rule(19, 64, 2, 54, 17152, 511),
-        10 => Rule(23, 32, 6, 44, 8512, 511),
-        11 => Rule(31, 0, 255, 0, 4224, 0),
-        12 => Rule(39, 32, 6, 26, 8352, 511),
-        13 => Rule(47, 16, 14, 22, 4160, 511),
-        14 => Rule(63, 0, 255, 0, 2080, 0),
-        15 => Rule(79, 16, 14, 13, 4128, 511),
-        16 => Rule(95, 8, 30, 11, 2064, 511),
-        17 => Rule(127, 0, 255, 0, 1032, 0),
-        18 => Rule(159, 8, 30, 6, 2056, 511),
-        19 => Rule(191, 4, 62, 5, 1028, 511),
-        20 => Rule(255, 0, 255, 0, 512, 0),
-        _ => Rule(0, 0, 0, 0, 0, 0),
+        4 => Rule(5, 128, 0, 204, 0, 511, 255),
+        5 => Rule(7, 0, 255, 0, 18688, 0, 255),
+        6 => Rule(9, 128, 0, 113, 0, 511, 255),
+        7 => Rule(11, 64, 2, 93, 17792, 511, 255),
+        8 => Rule(15, 0, 255, 0, 8704, 0, 255),
+        9 => Rule(19, 64, 2, 54, 17152, 511, 255),
+        10 => Rule(23, 32, 6, 44, 8512, 511, 255),
+        11 => Rule(31, 0, 255, 0, 4224, 0, 255),
+        12 => Rule(39, 32, 6, 26, 8352, 511, 255),
+        13 => Rule(47, 16, 14, 22, 4160, 511, 255),
+        14 => Rule(63, 0, 255, 0, 2080, 0, 255),
+        15 => Rule(79, 16, 14, 13, 4128, 511, 255),
+        16 => Rule(95, 8, 30, 11, 2064, 511, 255),
+        17 => Rule(127, 0, 255, 0, 1032, 0, 255),
+        18 => Rule(159, 8, 30, 6, 2056, 511, 255),
+        19 => Rule(191, 4, 62, 5, 1028, 511, 255),
+        20 => Rule(255, 0, 255, 0, 512, 0, 255),
+        _ => Rule(0, 0, 0, 0, 0, 0, 0),
     }
 }
 
-// The rules of the weight ranges that have bits.
-fn weight_rule(range: u8) -> Rule
-    requires { ⌜ (range ≡ 1 → ⊥) × (range ≡ 3 → ⊥) ⌝ }
-    ensures { λ r. ⌜ RightWeight range r ⌝ }
+// The rule of a weight range. With a digit alone the levels are 0, 32, 64 and 0, 16, 32, 48, 64.
+pub fn weight_rule(range: u8) -> Rule
+    ensures { λ r. ⌜ Right (unquantWeight range) r ⌝ }
 {
     match range {
-        0 => Rule(1, 0, 255, 0, 32256, 0),
-        2 => Rule(3, 0, 255, 0, 10752, 0),
-        4 => Rule(5, 128, 0, 50, 0, 127),
-        5 => Rule(7, 0, 255, 0, 4608, 0),
-        6 => Rule(9, 128, 0, 28, 0, 127),
-        7 => Rule(11, 64, 2, 23, 4416, 127),
-        8 => Rule(15, 0, 255, 0, 2176, 0),
-        9 => Rule(19, 64, 2, 13, 4224, 127),
-        10 => Rule(23, 32, 6, 11, 2112, 127),
-        11 => Rule(31, 0, 255, 0, 1056, 0),
-        _ => Rule(0, 0, 0, 0, 0, 0),
+        0 => Rule(1, 0, 255, 0, 32256, 0, 32),
+        1 => Rule(2, 256, 0, 128, 0, 0, 64),
+        2 => Rule(3, 0, 255, 0, 10752, 0, 32),
+        3 => Rule(4, 256, 0, 64, 0, 0, 64),
+        4 => Rule(5, 128, 0, 50, 0, 127, 32),
+        5 => Rule(7, 0, 255, 0, 4608, 0, 32),
+        6 => Rule(9, 128, 0, 28, 0, 127, 32),
+        7 => Rule(11, 64, 2, 23, 4416, 127, 32),
+        8 => Rule(15, 0, 255, 0, 2176, 0, 32),
+        9 => Rule(19, 64, 2, 13, 4224, 127, 32),
+        10 => Rule(23, 32, 6, 11, 2112, 127, 32),
+        11 => Rule(31, 0, 255, 0, 1056, 0, 32),
+        _ => Rule(0, 0, 0, 0, 0, 0, 0),
     }
 }
 
@@ -143,56 +144,42 @@ fn wide(x: u8) -> u32
     x as u32
 }
 
-// 000: "unq = D * C + B; unq = unq ^ A; unq = (A & top) | (unq >> 2);".
-fn by_rule(top: u32, rule: Rule, v: u8) -> u32
-    ensures { λ r. ⌜ r ≡ byRule top rule v ⌝ }
+// One more above the limit.
+fn stepped(level: u32, limit: u32) -> u8
+    requires { ⌜ level ≤ 2147483647 ⌝ }
+    ensures { λ r. ⌜ r ≡ stepped level limit ⌝ }
 {
+    if limit < level {
+        return ((level + 1) % 256) as u8;
+    }
+    (level % 256) as u8
+}
+
+// 000: "unq = D * C + B; unq = unq ^ A; unq = (A & top) | (unq >> 2);". A & top is (A + 1) / 4.
+pub fn unquantize(rule: Rule, s: Stored) -> Level
+    ensures { λ r. ⌜ r .0 ≡ byRule rule (s .0) ⌝ }
+{
+    let v = s.0;
     if rule.0 < v {
-        return 0;
+        return Level(0);
     }
     let a = wide(v % 2) * (rule.5 as u32);
     let b = wide(v & rule.2) * (rule.4 as u32) / 128;
     let d = wide(v) * (rule.1 as u32) / 256;
     let unq = (d * wide(rule.3) + b) ^ a;
-    (a & top) | (unq / 4)
+    Level(stepped((a + 1) / 4 + unq / 4, wide(rule.6)))
 }
 
 // The level of a stored endpoint number, 0..255.
 pub fn unquantize_endpoint(range: u8, s: Stored) -> Level
     ensures { λ r. ⌜ r .0 ≡ unquantEndpoint range (s .0) ⌝ }
 {
-    let v = s.0;
-    let rule = endpoint_rule(range);
-    Level(by_rule(128, rule, v) as u8)
+    unquantize(endpoint_rule(range), s)
 }
 
-// A multiple, or 0 above the most.
-fn multiple(step: u8, most: u8, v: u8) -> u8
-    requires { ⌜ step * most ≤ 64 ⌝ }
-    ensures { λ r. ⌜ r ≡ pick (leb v most) (step * v) 0 ⌝ }
-{
-    if most < v {
-        return 0;
-    }
-    step * v
-}
-
-// The level of a stored weight, 0..64. With a digit alone it is 0, 32, 63 or 0, 16, 32, 47, 63 before the last step adds 1
-// above 32.
+// The level of a stored weight, 0..64.
 pub fn unquantize_weight(range: u8, s: Stored) -> Level
     ensures { λ r. ⌜ r .0 ≡ unquantWeight range (s .0) ⌝ }
 {
-    let v = s.0;
-    if range == 1 {
-        return Level(multiple(32, 2, v));
-    }
-    if range == 3 {
-        return Level(multiple(16, 4, v));
-    }
-    let rule = weight_rule(range);
-    let unq = by_rule(32, rule, v) as u8;
-    if unq > 32 {
-        return Level(unq + 1);
-    }
-    Level(unq)
+    unquantize(weight_rule(range), s)
 }

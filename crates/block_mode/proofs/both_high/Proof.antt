@@ -1,7 +1,6 @@
-use mathlib.Core.Path.{_≡_, refl, sym, ap, _∙_}
+use mathlib.Core.Path.{_≡_}
 use lib.Dec.{ltb, eqb}
 use Rattle.laws.specs.Choice.{both}
-use borrow.Author.Tests.{eq-eqb, ne-eqb, lt-ltb, le-ltb}
 use Rattle.block_mode.specs.Back2D.{bothHigh}
 use borrow.Author.Needs.{needs}
 use Rattle.block_mode.proofs.both_high.Statement.{statement}

@@ -1,8 +1,8 @@
 use borrow.Author.Needs.{needs}
-use mathlib.Core.Path.{_≡_, refl, sym, ap, _∙_}
+use mathlib.Core.Path.{_≡_, refl, sym, _∙_}
 use native.Mathlib.Omega.{arith}
-use Prim.Native.Nat.{_≤_, _<_, _+_}
-use Rattle.quantization.specs.Ranges.{rangeBits, largestTo, endpointRange}
+use Prim.Native.Nat.{_≤_}
+use Rattle.quantization.specs.Ranges.{largestTo, endpointRange}
 use Rattle.quantization.proofs.Ranges.{here, down}
 use Rattle.quantization.proofs.endpoint_range.Statement.{statement}
 use Rattle.quantization.proofs.endpoint_range.Tie as tie
