@@ -1,0 +1,36 @@
+-- 01, "Faults of a block, first that holds (12 and 13 for solid blocks, 14 to 20 for the others)".
+-- Assumes nothing.
+use Prim.Native.Nat.{ℕ, _+_, _*_}
+use mathlib.Core.Bool.{Bool, true, false, not}
+use mathlib.Core.List.{List, [], _∷_}
+use lib.Dec.{eqb, ltb}
+use Rattle.laws.specs.Choice.{pick, both, either, all}
+use Rattle.bits.specs.Field.{field}
+use Rattle.block_header.specs.Reasons.{Reason, when, firstOf, gridReasons, endpointReasons}
+use Rattle.block_fault.specs.Bits.{modeAt, isVoid, isReserved, headerAt, extentAt}
+
+-- "extents neither all ones nor low < high on both axes"
+unfoldable pub badExtents : (ℕ → ℕ) → Bool
+badExtents e = not (either (all (λ i. eqb (e i) 8191) 4) (both (ltb (e 0) (e 1)) (ltb (e 2) (e 3))))
+
+-- 12: "bits 11..10 not both 1, or" bad extents
+unfoldable pub badVoidExtent : ℕ → Bool
+unfolding field badExtents extentAt
+badVoidExtent B = either (not (eqb (field B 10 2) 3)) (badExtents (extentAt B))
+
+-- 13: "solid block with bit 9 set (HDR)"
+unfoldable pub hdrVoidExtent : ℕ → Bool
+unfolding field
+hdrVoidExtent B = eqb (field B 9 1) 1
+
+unfoldable pub voidReasons : ℕ → List Reason
+voidReasons B = when (badVoidExtent B) 12 ∷ when (hdrVoidExtent B) 13 ∷ []
+
+-- 11: "reserved block mode", then 14 to 20
+unfoldable pub modeReasons : ℕ → ℕ → List Reason
+modeReasons fp B = when (isReserved (modeAt B)) 11 ∷ gridReasons fp (headerAt B) (endpointReasons (headerAt B) [])
+
+-- the fault of the block B at a footprint, 0 for none
+unfoldable pub faultOf : ℕ → ℕ → ℕ
+unfolding modeAt voidReasons modeReasons
+faultOf fp B = pick (isVoid (modeAt B)) (firstOf (voidReasons B)) (firstOf (modeReasons fp B))

@@ -1,0 +1,1 @@
+// What a block's bits say, and its fault.

@@ -1,0 +1,72 @@
+-- 01, "Numbers told to the caller": the reasons 14 to 20, which faults of blocks and refusals of sheets have in common.
+-- Assumes nothing.
+use Prim.Native.Nat.{ℕ, zero, suc, _+_, _*_, _/_}
+use mathlib.Core.Bool.{Bool, true, false}
+use mathlib.Core.List.{List, [], _∷_}
+use lib.Dec.{ltb, eqb}
+use lib.ListN.{getD}
+use Rattle.laws.specs.Choice.{pick, both, either}
+use Rattle.footprint.specs.Footprint.{widthOf, heightOf}
+use Rattle.block_mode.specs.declared.WeightGrid.{WeightGrid}
+use Rattle.block_header.specs.declared.Header.{Header}
+use Rattle.block_header.specs.Counts.{weightCount, weightBits, endpointCount, bitsLeft}
+
+-- a reason: whether it holds, and 01's number of it
+pub record Reason : Type 0 where
+  pub holds : Bool
+  pub told : ℕ
+
+abbrev pub when : Bool → ℕ → Reason
+when b n = record { holds = b; told = n }
+
+-- the number of the first reason that holds, 0 where none does
+abbrev pub firstOf : List Reason → ℕ
+firstOf [] = 0
+firstOf (r ∷ rs) = pick (r .holds) (r .told) (firstOf rs)
+
+-- 14: "weight grid wider or higher than the footprint"
+unfoldable pub gridTooLarge : ℕ → WeightGrid → Bool
+gridTooLarge fp g = either (ltb (widthOf fp) (g .width)) (ltb (heightOf fp) (g .height))
+
+-- 15: "more than 64 weights, both planes counted"
+unfoldable pub tooManyWeights : WeightGrid → Bool
+tooManyWeights g = ltb 64 (weightCount g)
+
+-- 16: "weight bits below 24 or above 96"
+unfoldable pub weightBitsOutside : WeightGrid → Bool
+weightBitsOutside g = either (ltb (weightBits g) 24) (ltb 96 (weightBits g))
+
+-- 17: "two planes with four partitions"
+unfoldable pub fourWithTwoPlanes : Header → Bool
+fourWithTwoPlanes h = both (eqb (h .grid .planes) 2) (eqb (h .partitions) 4)
+
+-- 18: "more than 18 endpoint numbers"
+unfoldable pub tooManyEndpoints : Header → Bool
+tooManyEndpoints h = ltb 18 (endpointCount h)
+
+-- 19: "endpoint bits below ceil(13C/5), C the endpoint numbers"
+unfoldable pub tooFewEndpointBits : Header → Bool
+tooFewEndpointBits h = ltb (bitsLeft h) ((13 * endpointCount h + 4) / 5)
+
+-- modes 2, 3, 7, 11, 14 and 15 are HDR
+unfoldable pub isHdr : ℕ → Bool
+isHdr m = either (eqb m 2) (either (eqb m 3) (either (eqb m 7) (either (eqb m 11) (either (eqb m 14) (eqb m 15)))))
+
+-- the test holds at some number below n
+abbrev pub some : (ℕ → Bool) → ℕ → Bool
+some f zero = false
+some f (suc n) = either (f n) (some f n)
+
+-- 20: "any partition has mode 2, 3, 7, 11, 14 or 15"
+unfoldable pub someHdr : Header → Bool
+someHdr h = some (λ p. isHdr (getD (h .modes) p 0)) (h .partitions)
+
+-- 14 to 17, in front of others
+abbrev pub gridReasons : ℕ → Header → List Reason → List Reason
+gridReasons fp h rest =
+    when (gridTooLarge fp (h .grid)) 14 ∷ when (tooManyWeights (h .grid)) 15 ∷ when (weightBitsOutside (h .grid)) 16
+    ∷ when (fourWithTwoPlanes h) 17 ∷ rest
+
+-- 18 to 20, in front of others
+abbrev pub endpointReasons : Header → List Reason → List Reason
+endpointReasons h rest = when (tooManyEndpoints h) 18 ∷ when (tooFewEndpointBits h) 19 ∷ when (someHdr h) 20 ∷ rest
