@@ -1,1 +1,256 @@
-// What a block's bits say, and its fault.
+// What a block's bits say: its fault, or its settings, read once.
+use bits::PhysicalBlock;
+use block_header::Header;
+use block_mode::BlockMode;
+use block_mode::WeightGrid;
+ghost use mathlib.Core.Path.{_≡_};
+ghost use Prim.Native.Nat.{_+_, _*_, _^_, _≤_, _<_};
+ghost use mathlib.Core.List.{[], _∷_};
+ghost use lib.Dec.{eqb, ltb};
+ghost use lib.ListN.{getD};
+ghost use Rattle.laws.specs.Choice.{pick, both, either};
+ghost use Rattle.laws.specs.Table.{padded};
+ghost use Rattle.bits.specs.Field.{field};
+ghost use Rattle.bits.specs.Block.{blockNumber};
+ghost use Rattle.block_header.specs.Counts.{weightBits};
+ghost use Rattle.block_mode.specs.Back2D.{Limits};
+ghost use Rattle.block_mode.specs.declared.BlockMode.the-variants.{Grid};
+ghost use Rattle.block_header.specs.Reasons.{firstOf};
+ghost use Rattle.block_fault.specs.Bits.{modeAt, modeOf, headerWith, selectorAt, extentAt};
+ghost use Rattle.block_fault.specs.Faults.{badExtents, voidReasons};
+ghost use Rattle.block_fault.specs.Settings.{stageOf, bareOf, verdictFrom, voidSettings, settingsOf};
+
+// What a stage of reading a block comes to.
+pub enum Stage {
+    Passed,
+    Stopped(u8),
+}
+
+// What a block is: coded, of one colour (01: solid), or with a fault, 01's number of it.
+pub enum Verdict {
+    Coded,
+    VoidExtent,
+    Fault(u8),
+}
+
+// The settings of a coded block without fault, all 0 for any other.
+pub struct Settings {
+    pub verdict: Verdict,
+    pub header: Header,
+}
+
+fn stage_for(fault: u8) -> Stage
+    ensures { λ r. ⌜ r ≡ stageOf fault ⌝ }
+{
+    if fault == 0 {
+        Stage::Passed
+    } else {
+        Stage::Stopped(fault)
+    }
+}
+
+fn bare(verdict: Verdict) -> Settings
+    ensures { λ r. ⌜ r ≡ bareOf verdict ⌝ }
+{
+    let grid = WeightGrid {
+        width: 0,
+        height: 0,
+        range: 0,
+        planes: 0,
+    };
+    let header = Header {
+        grid,
+        component: 0,
+        partitions: 0,
+        index: 0,
+        selector: 0,
+        modes: [0u8; 4],
+    };
+    Settings { verdict, header }
+}
+
+fn both(a: bool, b: bool) -> bool
+    ensures { λ r. ⌜ r ≡ both a b ⌝ }
+{
+    if a { b } else { false }
+}
+
+fn either(a: bool, b: bool) -> bool
+    ensures { λ r. ⌜ r ≡ either a b ⌝ }
+{
+    if a { true } else { b }
+}
+
+// Extent i of a void extent.
+fn extent(b: PhysicalBlock, i: u32) -> u64
+    requires { ⌜ i < 4 ⌝ }
+    ensures { λ r. ⌜ r ≡ extentAt (blockNumber b) i ⌝ }
+{
+    bits::field_at(b, 12 + 13 * i, 13)
+}
+
+fn bad_extents(s0: u64, s1: u64, t0: u64, t1: u64) -> bool
+    ensures { λ r. ⌜ r ≡ badExtents (λ i. getD (s0 ∷ s1 ∷ t0 ∷ t1 ∷ []) i 0) ⌝ }
+{
+    let ones = both(
+        t1 == 8191,
+        both(t0 == 8191, both(s1 == 8191, both(s0 == 8191, true))),
+    );
+    !either(ones, both(s0 < s1, t0 < t1))
+}
+
+// The fault of a void extent: 12, 13 or 0.
+fn void_fault(b: PhysicalBlock) -> u8
+    ensures { λ r. ⌜ r ≡ firstOf (voidReasons (blockNumber b)) ⌝ }
+{
+    if bits::field_at(b, 10, 2) != 3 {
+        return 12;
+    }
+    if bad_extents(extent(b, 0), extent(b, 1), extent(b, 2), extent(b, 3)) {
+        return 12;
+    }
+    if bits::field_at(b, 9, 1) == 1 {
+        return 13;
+    }
+    0
+}
+
+// The mode of partition i, of the mode bits past the selector; 0 past the last partition.
+fn mode_for(partitions: u8, selector: u8, code: u32, i: u8) -> u8
+    requires { ⌜ (partitions ≤ 4) × (selector ≤ 3) × (i ≤ 3) × (selector ≡ 0 → code < 16) ⌝ }
+    ensures { λ r. ⌜ r ≡ pick (ltb i partitions) (modeOf partitions selector code i) 0 ⌝ }
+{
+    if partitions <= i {
+        return 0;
+    }
+    if selector == 0 {
+        return code as u8;
+    }
+    let class = (code >> i) % 2;
+    let low = (code >> (partitions + 2 * i)) % 4;
+    (4 * (wide(selector) - 1 + class) + low) as u8
+}
+
+fn wide(x: u8) -> u32
+    ensures { λ r. ⌜ (r ≡ x) × (r ≤ 255) ⌝ }
+{
+    x as u32
+}
+
+// The four modes of a header.
+fn modes_for(partitions: u8, selector: u8, code: u32) -> [u8; 4]
+    requires { ⌜ (partitions ≤ 4) × (selector ≤ 3) × (selector ≡ 0 → code < 16) ⌝ }
+    ensures { λ r. ⌜ r ≡ padded 4 partitions (modeOf partitions selector code) 0 ⌝ }
+{
+    let m0 = mode_for(partitions, selector, code, 0);
+    let m1 = mode_for(partitions, selector, code, 1);
+    let m2 = mode_for(partitions, selector, code, 2);
+    let m3 = mode_for(partitions, selector, code, 3);
+    [m0, m1, m2, m3]
+}
+
+// The settings, once the grid, the partitions and the selector are known.
+fn header_with(b: PhysicalBlock, g: WeightGrid, partitions: u8, selector: u8) -> Header
+    requires { ⌜ (partitions ≤ 4) × (selector ≤ 3) × (g .planes ≤ 2) × (weightBits g ≤ 96) ⌝ }
+    ensures { λ r. ⌜ r ≡ headerWith (blockNumber b) g partitions selector ⌝ }
+{
+    let extra_width = block_header::extra_bits(partitions, selector);
+    let component_width = block_header::component_bits(g.planes);
+    let index_width = block_header::index_bits(partitions);
+    let selector_width = block_header::selector_bits(partitions);
+    let extra_from = 128 - block_header::weight_bits(g) - extra_width;
+    let extra = bits::field_at(b, extra_from, extra_width) as u32;
+    let base = bits::field_at(b, 13 + index_width + selector_width, 4) as u32;
+    let component = bits::field_at(b, extra_from - component_width, component_width) as u8;
+    let index = bits::field_at(b, 13, index_width) as u16;
+    let modes = modes_for(partitions, selector, extra * 16 + base);
+    Header {
+        grid: g,
+        component,
+        partitions,
+        index,
+        selector,
+        modes,
+    }
+}
+
+// The verdict of a stage: its fault, if it has one.
+fn verdict_of(s: Stage) -> Verdict
+    ensures { λ r. ⌜ r ≡ verdictFrom s ⌝ }
+{
+    match s {
+        Stage::Passed => Verdict::Coded,
+        Stage::Stopped(n) => Verdict::Fault(n),
+    }
+}
+
+// 17: two planes with four partitions.
+fn planes_fault(planes: u8, partitions: u8) -> u8
+    ensures { λ r. ⌜ r ≡ pick (both (eqb planes 2) (eqb partitions 4)) 17 0 ⌝ }
+{
+    if both(planes == 2, partitions == 4) {
+        17
+    } else {
+        0
+    }
+}
+
+// The header of a block whose mode is the grid g.
+fn header_at(b: PhysicalBlock, g: WeightGrid, partitions: u8) -> Header
+    requires { ⌜ (partitions ≤ 4) × (g .planes ≤ 2) × (weightBits g ≤ 96) ⌝ }
+    ensures { λ r. ⌜ r ≡ headerWith (blockNumber b) g partitions (selectorAt (blockNumber b) partitions) ⌝ }
+{
+    let from = 13 + block_header::index_bits(partitions);
+    let selector = bits::field_at(b, from, block_header::selector_bits(partitions)) as u8;
+    header_with(b, g, partitions, selector)
+}
+
+// The settings of a block whose mode is the grid g: each stage's fault is told at once.
+fn coded(b: PhysicalBlock, fp: u8, g: WeightGrid) -> Settings
+    requires { ⌜ modeAt (blockNumber b) ≡ Grid g ⌝ }
+    ensures { λ r. ⌜ r ≡ settingsOf fp (blockNumber b) ⌝ }
+{
+    let grid = stage_for(block_header::grid_fault(fp, g));
+    let Stage::Passed = grid else {
+        return bare(verdict_of(grid));
+    };
+    let partitions = bits::field_at(b, 11, 2) as u8 + 1;
+    let planes = stage_for(planes_fault(g.planes, partitions));
+    let Stage::Passed = planes else {
+        return bare(verdict_of(planes));
+    };
+    let h = header_at(b, g, partitions);
+    let ends = stage_for(block_header::endpoint_fault(h));
+    let Stage::Passed = ends else {
+        return bare(verdict_of(ends));
+    };
+    Settings {
+        verdict: Verdict::Coded,
+        header: h,
+    }
+}
+
+// The settings of a block, read once.
+pub fn read_settings(b: PhysicalBlock, fp: u8) -> Settings
+    ensures { λ r. ⌜ r ≡ settingsOf fp (blockNumber b) ⌝ }
+{
+    let mode = block_mode::block_mode(bits::field_at(b, 0, 11) as u16);
+    if let BlockMode::VoidExtent = mode {
+        return void_settings(b);
+    }
+    let BlockMode::Grid(g) = mode else {
+        return bare(Verdict::Fault(11));
+    };
+    coded(b, fp, g)
+}
+
+fn void_settings(b: PhysicalBlock) -> Settings
+    ensures { λ r. ⌜ r ≡ voidSettings (blockNumber b) ⌝ }
+{
+    let n = void_fault(b);
+    if n == 0 {
+        bare(Verdict::VoidExtent)
+    } else {
+        bare(Verdict::Fault(n))
+    }
+}

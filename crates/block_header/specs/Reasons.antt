@@ -61,6 +61,14 @@ some f (suc n) = either (f n) (some f n)
 unfoldable pub someHdr : Header → Bool
 someHdr h = some (λ p. isHdr (getD (h .modes) p 0)) (h .partitions)
 
+-- 14 to 16, which speak of the grid alone
+unfoldable pub gridFault : ℕ → WeightGrid → ℕ
+gridFault fp g = firstOf (when (gridTooLarge fp g) 14 ∷ when (tooManyWeights g) 15 ∷ when (weightBitsOutside g) 16 ∷ [])
+
+-- 18 to 20
+unfoldable pub endpointFault : Header → ℕ
+endpointFault h = firstOf (when (tooManyEndpoints h) 18 ∷ when (tooFewEndpointBits h) 19 ∷ when (someHdr h) 20 ∷ [])
+
 -- 14 to 17, in front of others
 abbrev pub gridReasons : ℕ → Header → List Reason → List Reason
 gridReasons fp h rest =

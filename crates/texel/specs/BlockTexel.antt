@@ -1,13 +1,17 @@
 -- What a block shows at a place: 000's stages from its bits, magenta for a fault. B is the number of its 128 bits.
 -- Assumes nothing.
-use Prim.Native.Nat.{ℕ}
+use Prim.Native.Nat.{ℕ, _*_, _/_, _%_}
+use mathlib.Core.List.{List}
 use lib.Dec.{eqb}
 use Rattle.laws.specs.Choice.{pick}
+use Rattle.laws.specs.Table.{tab}
+use Rattle.footprint.specs.Footprint.{widthOf, texelsOf}
 use Rattle.interpolation.specs.declared.Kind.{Kind}
 use Rattle.interpolation.specs.declared.Texel.{Texel}
+use Rattle.interpolation.specs.Expansion.{shownOf}
 use Rattle.block_fault.specs.Bits.{modeAt, isVoid, headerAt, endpointAt, weightAt, colourAt}
 use Rattle.block_fault.specs.Faults.{faultOf}
-use Rattle.texel.specs.Meaning.{texelFrom, solidTexel, magenta, shownChannel}
+use Rattle.texel.specs.Meaning.{texelFrom, solidTexel, magenta, channel, shownChannel}
 
 -- the texel of a block without fault
 unfoldable pub soundTexel : ℕ → Kind → ℕ → ℕ → ℕ → Texel
@@ -23,3 +27,13 @@ blockTexel fp kind B x y = pick (eqb (faultOf fp B) 0) (soundTexel fp kind B x y
 unfoldable pub blockNumberAt : ℕ → Kind → ℕ → ℕ → ℕ → ℕ → ℕ
 unfolding blockTexel
 blockNumberAt fp kind B x y c = shownChannel kind (blockTexel fp kind B x y) c
+
+-- "Channels are R, G, B, A, rows first": number k of a block, in 16 bits, is channel k % 4 of texel k / 4
+unfoldable pub blockChannel : ℕ → Kind → ℕ → ℕ → ℕ
+unfolding blockTexel
+blockChannel fp kind B k = channel (blockTexel fp kind B (k / 4 % widthOf fp) (k / 4 / widthOf fp)) (k % 4)
+
+-- all numbers that a one-block call writes
+unfoldable pub blockNumbers : ℕ → Kind → ℕ → List ℕ
+unfolding blockChannel tab
+blockNumbers fp kind B = tab (λ k. shownOf kind (blockChannel fp kind B k)) (4 * texelsOf fp)

@@ -1,0 +1,140 @@
+-- What each stage's answer says of the fault and the settings of a block.
+-- Assumes nothing.
+use mathlib.Core.Path.{_≡_, refl, sym, ap, ap₂, _∙_, subst}
+use mathlib.Core.Bool.{Bool, true, false}
+use mathlib.Core.List.{List, [], _∷_}
+use Prim.Native.Nat.{ℕ, _+_, _≤_, _<_}
+use native.Mathlib.Omega.{arith}
+use lib.Dec.{eqb}
+use borrow.Author.Tests.{eq-eqb, ne-eqb, eqb-true, eqb-false}
+use Rattle.laws.specs.Choice.{pick, both}
+use Rattle.block_mode.specs.declared.WeightGrid.{WeightGrid}
+use Rattle.block_mode.specs.declared.BlockMode.{BlockMode}
+use Rattle.block_mode.specs.declared.BlockMode.the-variants.{VoidExtent, Reserved, Grid}
+use Rattle.block_header.specs.declared.Header.{Header}
+use Rattle.block_header.specs.Counts.{weightBits}
+use Rattle.block_header.specs.Reasons.{Reason, when, firstOf, gridTooLarge, tooManyWeights, weightBitsOutside, fourWithTwoPlanes, tooManyEndpoints, tooFewEndpointBits, someHdr, gridFault, endpointFault, gridReasons, endpointReasons}
+use Rattle.block_fault.specs.declared.Stage.{Stage}
+use Rattle.block_fault.specs.declared.Stage.the-variants.{Passed, Stopped}
+use Rattle.block_fault.specs.declared.Verdict.{Verdict}
+use Rattle.block_fault.specs.declared.Verdict.the-variants as verdict
+use Rattle.block_fault.specs.declared.Settings.{Settings}
+use Rattle.block_fault.specs.Bits.{modeAt, isVoid, isReserved, gridIn, partitionsAt, selectorAt, headerWith, headerAt}
+use Rattle.block_fault.specs.Faults.{voidReasons, modeReasons, faultOf}
+use Rattle.block_fault.specs.Settings.{stageOf, verdictFrom, verdictOf, bareOf, withHeader, voidSettings, settingsOf}
+
+-- ---- a stage
+
+pub stage-passed : (n : ℕ) → stageOf n ≡ Passed → n ≡ 0
+unfolding stageOf
+stage-passed n e = go (eqb n 0) refl e where
+  go : (t : Bool) → eqb n 0 ≡ t → pick t Passed (Stopped n) ≡ Passed → n ≡ 0
+  go true q r = eqb-true n 0 q
+  go false q r = cc
+
+pub stage-stopped : (n m : ℕ) → stageOf n ≡ Stopped m → (n ≡ m) × (n ≡ 0 → ⊥)
+unfolding stageOf
+stage-stopped n m e = go (eqb n 0) refl e where
+  go : (t : Bool) → eqb n 0 ≡ t → pick t Passed (Stopped n) ≡ Stopped m → (n ≡ m) × (n ≡ 0 → ⊥)
+  go true q r = absurd (let z : _≡_ {A = ℕ} 0 1 = cc in omega arith)
+  go false q r = (cc, eqb-false n 0 q)
+
+-- ---- the fault of a coded block
+
+-- the reasons before and after 17, as the stages take them
+staged : (a b c d : Bool) (rest : ℕ)
+    → pick a 14 (pick b 15 (pick c 16 (pick d 17 rest))) ≡ pick (eqb (pick a 14 (pick b 15 (pick c 16 0))) 0) (pick d 17 rest) (pick a 14 (pick b 15 (pick c 16 0)))
+staged true b c d rest = refl
+staged false true c d rest = refl
+staged false false true d rest = refl
+staged false false false d rest = refl
+
+module _ (fp B : ℕ) (g : WeightGrid) (m : modeAt B ≡ Grid g) where
+  pub header-is : headerAt B ≡ headerWith B g (partitionsAt B) (selectorAt B (partitionsAt B))
+  unfolding headerAt
+  header-is = rw m
+
+  header-grid : headerAt B .grid ≡ g
+  unfolding headerWith
+  header-grid = ap (λ (h : Header). h .grid) header-is
+
+  fault-first : faultOf fp B
+      ≡ pick (eqb (gridFault fp (headerAt B .grid)) 0) (pick (fourWithTwoPlanes (headerAt B)) 17 (endpointFault (headerAt B))) (gridFault fp (headerAt B .grid))
+  unfolding faultOf modeReasons gridFault endpointFault
+  fault-first =
+      rw m
+      (staged (gridTooLarge fp (headerAt B .grid)) (tooManyWeights (headerAt B .grid)) (weightBitsOutside (headerAt B .grid)) (fourWithTwoPlanes (headerAt B))
+      (firstOf (endpointReasons (headerAt B) [])))
+
+  pub fault-staged : faultOf fp B ≡ pick (eqb (gridFault fp g) 0) (pick (fourWithTwoPlanes (headerAt B)) 17 (endpointFault (headerAt B))) (gridFault fp g)
+  fault-staged =
+      fault-first ∙ ap (λ (k : WeightGrid). pick (eqb (gridFault fp k) 0) (pick (fourWithTwoPlanes (headerAt B)) 17 (endpointFault (headerAt B))) (gridFault fp k)) header-grid
+
+  four-is : fourWithTwoPlanes (headerAt B) ≡ both (eqb (g .planes) 2) (eqb (partitionsAt B) 4)
+  unfolding fourWithTwoPlanes headerWith
+  four-is = rw header-is
+
+  -- settings with a fault, and without
+  pub settled-fault : (n : ℕ) → faultOf fp B ≡ n → (n ≡ 0 → ⊥) → bareOf (verdict.Fault n) ≡ settingsOf fp B
+  unfolding settingsOf verdictOf
+  settled-fault n e h = rw (e, ne-eqb n 0 h)
+
+  pub settled-coded : faultOf fp B ≡ 0 → _≡_ {A = Settings} (record { verdict = verdict.Coded; header = headerAt B }) (settingsOf fp B)
+  unfolding settingsOf verdictOf
+  settled-coded e = rw (e, m)
+
+  -- each stage that stops tells its fault
+  pub stop-grid : {n k : ℕ} {st : Stage} {v : Verdict} {r : Settings} → n ≡ gridFault fp g → st ≡ stageOf n → st ≡ Stopped k → v ≡ verdictFrom st → r ≡ bareOf v → r ≡ settingsOf fp B
+  stop-grid {n} {k} en es et ev er =
+      let q = stage-stopped n k (sym es ∙ et) in
+      let f : faultOf fp B ≡ k = fault-staged ∙ rw (← en, ne-eqb n 0 (q .1)) (q .0) in
+      rw (er, ev, et) (settled-fault k f (λ z. q .1 (q .0 ∙ z)))
+
+  module _ (pass : gridFault fp g ≡ 0) where
+    stop-planes-fault : faultOf fp B ≡ pick (fourWithTwoPlanes (headerAt B)) 17 (endpointFault (headerAt B))
+    stop-planes-fault = fault-staged ∙ rw pass
+
+    pub stop-planes : {p n k : ℕ} {st : Stage} {v : Verdict} {r : Settings} → p ≡ partitionsAt B → n ≡ pick (both (eqb (g .planes) 2) (eqb p 4)) 17 0
+        → st ≡ stageOf n → st ≡ Stopped k → v ≡ verdictFrom st → r ≡ bareOf v → r ≡ settingsOf fp B
+    stop-planes {p} {n} {k} ep en es et ev er =
+        let q = stage-stopped n k (sym es ∙ et) in
+        rw (er, ev, et) (settled-fault k (stop-planes-fault ∙ go (fourWithTwoPlanes (headerAt B)) (en ∙ rw (ep, ← four-is)) q) (λ z. q .1 (q .0 ∙ z)))
+      where
+        go : (t : Bool) → n ≡ pick t 17 0 → (n ≡ k) × (n ≡ 0 → ⊥) → pick t 17 (endpointFault (headerAt B)) ≡ k
+        go true e q = sym e ∙ q .0
+        go false e q = absurd (q .1 e)
+
+    module _ {p n : ℕ} (ep : p ≡ partitionsAt B) (en : n ≡ pick (both (eqb (g .planes) 2) (eqb p 4)) 17 0) (ok : n ≡ 0) where
+      ends-fault : faultOf fp B ≡ endpointFault (headerAt B)
+      ends-fault = stop-planes-fault ∙ go (fourWithTwoPlanes (headerAt B)) (sym ok ∙ en ∙ rw (ep, ← four-is)) where
+        go : (t : Bool) → _≡_ {A = ℕ} 0 (pick t 17 0) → pick t 17 (endpointFault (headerAt B)) ≡ endpointFault (headerAt B)
+        go true e = absurd (omega arith)
+        go false e = refl
+
+      pub header-read : {h : Header} → h ≡ headerWith B g p (selectorAt B p) → h ≡ headerAt B
+      header-read e = e ∙ rw ep (sym header-is)
+
+      pub stop-ends : {h : Header} {f k : ℕ} {st : Stage} {v : Verdict} {r : Settings} → h ≡ headerWith B g p (selectorAt B p) → f ≡ endpointFault h
+          → st ≡ stageOf f → st ≡ Stopped k → v ≡ verdictFrom st → r ≡ bareOf v → r ≡ settingsOf fp B
+      stop-ends {h} {f} {k} eh ef es et ev er =
+          let q = stage-stopped f k (sym es ∙ et) in
+          rw (er, ev, et) (settled-fault k (ends-fault ∙ ap endpointFault (sym (header-read eh)) ∙ sym ef ∙ q .0) (λ z. q .1 (q .0 ∙ z)))
+
+      pub pass-ends : {h : Header} {f : ℕ} {st : Stage} → h ≡ headerWith B g p (selectorAt B p) → f ≡ endpointFault h
+          → st ≡ stageOf f → st ≡ Passed → _≡_ {A = Settings} (record { verdict = verdict.Coded; header = h }) (settingsOf fp B)
+      pass-ends {h} {f} eh ef es et =
+          rw (header-read eh) (settled-coded (ends-fault ∙ ap endpointFault (sym (header-read eh)) ∙ sym ef ∙ stage-passed f (sym es ∙ et)))
+
+-- ---- the other modes
+
+module _ (fp B : ℕ) where
+  pub settled-void : modeAt B ≡ VoidExtent → voidSettings B ≡ settingsOf fp B
+  unfolding voidSettings settingsOf verdictOf faultOf
+  settled-void m = rw m (go (eqb (firstOf (voidReasons B)) 0)) where
+    go : (t : Bool) → bareOf (pick t verdict.VoidExtent (verdict.Fault (firstOf (voidReasons B)))) ≡ withHeader (pick t verdict.VoidExtent (verdict.Fault (firstOf (voidReasons B)))) (headerAt B)
+    go true = refl
+    go false = refl
+
+  pub settled-reserved : modeAt B ≡ Reserved → bareOf (verdict.Fault 11) ≡ settingsOf fp B
+  unfolding settingsOf verdictOf faultOf modeReasons
+  settled-reserved m = rw m

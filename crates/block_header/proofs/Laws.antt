@@ -1,0 +1,86 @@
+-- Bounds of the counts, and the reasons one by one.
+-- Assumes nothing.
+use mathlib.Core.Path.{_≡_, refl}
+use Prim.Native.Nat.{ℕ, _+_, _*_, _/_, _≤_, _<_}
+use native.Mathlib.Nat.{mul-le-mul}
+use native.Mathlib.Omega.{arith}
+use Rattle.encoding.specs.Encoding.{sequenceBits}
+use Rattle.encoding.proofs.Laws.{code-le}
+use Rattle.quantization.specs.Ranges.{encodingAt, bitsAt, rangeBits}
+use Rattle.quantization.proofs.Ranges.{bits-le}
+use mathlib.Core.Bool.{Bool, true, false}
+use borrow.Author.Tests.{lt-ltb, le-ltb, ltb-false}
+use lib.Dec.{ltb}
+use Rattle.laws.specs.Choice.{pick, either}
+use Rattle.footprint.specs.Footprint.{widthOf, heightOf}
+use Rattle.block_mode.specs.declared.WeightGrid.{WeightGrid}
+use Rattle.block_header.specs.declared.Header.{Header}
+use Rattle.block_header.specs.Counts.{weightCount, weightBits, endpointCount, bitsLeft}
+use Rattle.block_header.specs.Reasons.{gridTooLarge, tooManyWeights, weightBitsOutside, tooManyEndpoints, tooFewEndpointBits, someHdr, gridFault, endpointFault}
+
+-- a number takes at most eleven bits
+pub range-bits-le : (k n m : ℕ) → n ≤ m → rangeBits k n ≤ m * 8 + 3 * m
+unfolding rangeBits sequenceBits
+range-bits-le k n m h = let p : n * bitsAt k ≤ m * 8 = mul-le-mul h (bits-le k) in omega (arith, code-le (encodingAt k) n)
+
+-- ---- 14 to 16, one by one
+
+module _ (fp : ℕ) (g : WeightGrid) where
+  pub too-wide : widthOf fp < g .width → 14 ≡ gridFault fp g
+  unfolding gridFault gridTooLarge
+  too-wide h = rw (lt-ltb _ _ h)
+
+  module _ (w : g .width ≤ widthOf fp) where
+    pub too-high : heightOf fp < g .height → 14 ≡ gridFault fp g
+    unfolding gridFault gridTooLarge
+    too-high h = rw (le-ltb _ _ w, lt-ltb _ _ h)
+
+    module _ (l : g .height ≤ heightOf fp) where
+      pub too-many : 64 < weightCount g → 15 ≡ gridFault fp g
+      unfolding gridFault gridTooLarge tooManyWeights
+      too-many h = rw (le-ltb _ _ w, le-ltb _ _ l, lt-ltb _ _ h)
+
+      module _ (n : weightCount g ≤ 64) where
+        pub too-short : weightBits g < 24 → 16 ≡ gridFault fp g
+        unfolding gridFault gridTooLarge tooManyWeights weightBitsOutside
+        too-short h = rw (le-ltb _ _ w, le-ltb _ _ l, le-ltb _ _ n, lt-ltb _ _ h)
+
+        pub too-long : 24 ≤ weightBits g → 96 < weightBits g → 16 ≡ gridFault fp g
+        unfolding gridFault gridTooLarge tooManyWeights weightBitsOutside
+        too-long k h = rw (le-ltb _ _ w, le-ltb _ _ l, le-ltb _ _ n, le-ltb _ _ k, lt-ltb _ _ h)
+
+        pub grid-sound : 24 ≤ weightBits g → weightBits g ≤ 96 → 0 ≡ gridFault fp g
+        unfolding gridFault gridTooLarge tooManyWeights weightBitsOutside
+        grid-sound k h = rw (le-ltb _ _ w, le-ltb _ _ l, le-ltb _ _ n, le-ltb _ _ k, le-ltb _ _ h)
+
+-- a grid without fault has at most 96 weight bits
+pub grid-bits : (fp : ℕ) (g : WeightGrid) → gridFault fp g ≡ 0 → weightBits g ≤ 96
+unfolding gridFault weightBitsOutside
+grid-bits fp g e = go (gridTooLarge fp g) (tooManyWeights g) (ltb (weightBits g) 24) (ltb 96 (weightBits g)) refl e where
+  go : (a b c d : Bool) → ltb 96 (weightBits g) ≡ d → _≡_ {A = ℕ} (pick a 14 (pick b 15 (pick (either c d) 16 0))) 0 → weightBits g ≤ 96
+  go true b c d q r = absurd (omega arith)
+  go false true c d q r = absurd (omega arith)
+  go false false true d q r = absurd (omega arith)
+  go false false false true q r = absurd (omega arith)
+  go false false false false q r = ltb-false 96 (weightBits g) q
+
+-- ---- 18 to 20, one by one
+
+module _ (h : Header) where
+  pub count-over : 18 < endpointCount h → 18 ≡ endpointFault h
+  unfolding endpointFault tooManyEndpoints
+  count-over l = rw (lt-ltb _ _ l)
+
+  module _ (n : endpointCount h ≤ 18) where
+    pub bits-short : bitsLeft h < (13 * endpointCount h + 4) / 5 → 19 ≡ endpointFault h
+    unfolding endpointFault tooManyEndpoints tooFewEndpointBits
+    bits-short l = rw (le-ltb _ _ n, lt-ltb _ _ l)
+
+    module _ (m : (13 * endpointCount h + 4) / 5 ≤ bitsLeft h) where
+      pub hdr-there : someHdr h ≡ true → 20 ≡ endpointFault h
+      unfolding endpointFault tooManyEndpoints tooFewEndpointBits
+      hdr-there e = rw (le-ltb _ _ n, le-ltb _ _ m, e)
+
+      pub ends-sound : someHdr h ≡ false → 0 ≡ endpointFault h
+      unfolding endpointFault tooManyEndpoints tooFewEndpointBits
+      ends-sound e = rw (le-ltb _ _ n, le-ltb _ _ m, e)

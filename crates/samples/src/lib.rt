@@ -1,0 +1,1 @@
+// Definitions and a theorem only: see specs/ and proofs/.
