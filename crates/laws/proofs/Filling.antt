@@ -11,7 +11,7 @@ use lib.Seq.{getD-set-same, getD-set-other, ext-getD}
 use lib.Dec.{ltb}
 use borrow.Author.Tests.{lt-ltb, le-ltb}
 use Rattle.laws.specs.Choice.{pick}
-use Rattle.laws.specs.Table.{tabFrom, tab, padded}
+use Rattle.laws.specs.Table.{tabFrom, tab, padded, putFour}
 
 module _ {A : Type 0} where
   length-from : (f : ℕ → A) (i n : ℕ) → length (tabFrom f i n) ≡ n
@@ -49,6 +49,27 @@ module _ {A : Type 0} where
         | yes p ↦ getD-set-other l n k v d (λ q. omega (arith, q)) ∙ w k p
         | no p ↦ let q : k ≡ n = omega arith in subst (λ (j : ℕ). getD (set l n v) j d ≡ f j) (sym q) (getD-set-same l n v d h ∙ e)
       ]
+
+  -- stores of f's values at the next four places
+  pub filled-four : (f : ℕ → A) (d : A) (l : List A) (n : ℕ) (a b c e : A) → n + 4 ≤ length l → Filled f d l n
+      → a ≡ f n → b ≡ f (n + 1) → c ≡ f (n + 2) → e ≡ f (n + 3) → Filled f d (putFour l n a b c e) (n + 4)
+  filled-four f d l n a b c e h w ea eb ec ee =
+      let l1 : List A = set l n a in
+      let l2 : List A = set l1 (n + 1) b in
+      let l3 : List A = set l2 (n + 2) c in
+      let n1 : length l1 ≡ length l = length-set l n a in
+      let n2 : length l2 ≡ length l1 = length-set l1 (n + 1) b in
+      let n3 : length l3 ≡ length l2 = length-set l2 (n + 2) c in
+      let z1 : n + 1 + 1 ≡ n + 2 = omega arith in
+      let z2 : n + 2 + 1 ≡ n + 3 = omega arith in
+      let z3 : n + 3 + 1 ≡ n + 4 = omega arith in
+      let w1 : Filled f d l1 (n + 1) = filled-more f d l n a (omega arith) w ea in
+      let w2 : Filled f d l2 (n + 2) = subst (Filled f d l2) z1 (filled-more f d l1 (n + 1) b (omega arith) w1 eb) in
+      let w3 : Filled f d l3 (n + 3) = subst (Filled f d l3) z2 (filled-more f d l2 (n + 2) c (omega arith) w2 ec) in
+      subst (Filled f d (set l3 (n + 3) e)) z3 (filled-more f d l3 (n + 3) e (omega arith) w3 ee)
+
+  pub length-four : (l : List A) (n : ℕ) (a b c e : A) → length (putFour l n a b c e) ≡ length l
+  length-four l n a b c e = simp length-set
 
   -- a list that holds f everywhere is f's table
   pub filled-all : (f : ℕ → A) (d : A) (l : List A) (n : ℕ) → length l ≡ n → Filled f d l n → l ≡ tab f n

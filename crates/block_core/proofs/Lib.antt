@@ -1,0 +1,3 @@
+pub mod Painting
+pub mod Levels
+pub mod Shows

@@ -1,0 +1,109 @@
+-- Texels laid into a buffer row by row, four numbers each.
+-- Assumes nothing.
+use mathlib.Core.Path.{_≡_, refl, sym, ap, ap₂, _∙_, subst}
+use mathlib.Core.List.{List}
+use Prim.Native.Nat.{ℕ, suc, _+_, _*_, _/_, _%_, _≤_, _<_}
+use native.Mathlib.Nat.{mul-le-mul-right, mul-comm, suc-mul, add-mul}
+use native.Mathlib.Omega.{arith}
+use lib.Arith.{digits-div, digits-mod}
+use lib.Dec.{eqb}
+use lib.ListN.{length, getD}
+use Rattle.laws.specs.Choice.{pick}
+use Rattle.encoding.specs.declared.Level.{Level}
+use Rattle.block_mode.specs.declared.WeightGrid.{WeightGrid}
+use Rattle.partition.specs.declared.Seeds.{Seeds}
+use Rattle.partition.specs.Seeds.{selectBy}
+use Rattle.weight_grid.specs.Cell.{level}
+use Rattle.weight_grid.specs.Bilinear.{infillOf}
+use Rattle.interpolation.specs.declared.ExpandedPair.{ExpandedPair}
+use Rattle.interpolation.specs.Texel.{texelOf}
+use Rattle.block_core.specs.Prepared.{noExpanded, texelAt}
+use Rattle.laws.specs.Table.{putFour}
+use Rattle.laws.proofs.Filling.{Filled, filled-four, length-four}
+use Rattle.footprint.specs.Footprint.{widthOf, heightOf, texelsOf}
+use Rattle.interpolation.specs.declared.Texel.{Texel}
+use Rattle.texel.specs.Meaning.{channel}
+use Rattle.block_core.specs.Held.{numberIn, RowsTo, Shown}
+
+-- the list holds the first n numbers of texels given by their place
+pub record Laid (width : ℕ) (texel : ℕ → ℕ → Texel) (l : List ℕ) (n : ℕ) : Type 0 where
+  pub size : length l ≡ 576
+  pub holds : Filled (numberIn width texel) 0 l n
+
+quarter : (t c : ℕ) → c < 4 → ((4 * t + c) / 4 ≡ t) × ((4 * t + c) % 4 ≡ c)
+quarter t c h = (omega arith, omega arith)
+
+-- number c of texel t
+number-of : (width t c : ℕ) (texel : ℕ → ℕ → Texel) → c < 4 → channel (texel (t % width) (t / width)) c ≡ numberIn width texel (4 * t + c)
+unfolding numberIn
+number-of width t c texel h = rw (quarter t c h .0, quarter t c h .1)
+
+-- one texel more
+pub laid-more : (width : ℕ) (texel : ℕ → ℕ → Texel) (l : List ℕ) (t : ℕ) {u : Texel} → 4 * t + 4 ≤ 576 → u ≡ texel (t % width) (t / width) → Laid width texel l (4 * t)
+    → Laid width texel (putFour l (4 * t) (u .r) (u .g) (u .b) (u .a)) (4 * (t + 1))
+unfolding channel
+laid-more width texel l t {u} h e w =
+    let z : 4 * t + 4 ≡ 4 * (t + 1) = omega arith in
+    let y : 4 * t ≡ 4 * t + 0 = omega arith in
+    let f = numberIn width texel in
+    record {
+      size = length-four l (4 * t) (u .r) (u .g) (u .b) (u .a) ∙ w .size;
+      holds = subst (Filled f 0 (putFour l (4 * t) (u .r) (u .g) (u .b) (u .a))) z
+          (filled-four f 0 l (4 * t) (u .r) (u .g) (u .b) (u .a) (omega (arith, w .size)) (w .holds)
+          (ap (λ (v : Texel). channel v 0) e ∙ number-of width t 0 texel (omega arith) ∙ ap f (sym y))
+          (ap (λ (v : Texel). channel v 1) e ∙ number-of width t 1 texel (omega arith))
+          (ap (λ (v : Texel). channel v 2) e ∙ number-of width t 2 texel (omega arith))
+          (ap (λ (v : Texel). channel v 3) e ∙ number-of width t 3 texel (omega arith)));
+    }
+
+-- the same at x, y
+pub laid-texel : (width : ℕ) (texel : ℕ → ℕ → Texel) (l : List ℕ) (x y : ℕ) {u : Texel} {i : ℕ} → x < width → 4 * (y * width + x) + 4 ≤ 576 → u ≡ texel x y → i ≡ 4 * (y * width + x)
+    → Laid width texel l (4 * (y * width + x)) → Laid width texel (putFour l i (u .r) (u .g) (u .b) (u .a)) (4 * (y * width + (x + 1)))
+laid-texel width texel l x y {u} {i} h k e ei w =
+    let t = y * width + x in
+    let z : t + 1 ≡ y * width + (x + 1) = omega arith in
+    let f = laid-more width texel l t {u = u} k (e ∙ ap₂ texel (sym (digits-mod y h)) (sym (digits-div y h))) w in
+    subst (λ (n : ℕ). Laid width texel (putFour l i (u .r) (u .g) (u .b) (u .a)) (4 * n)) z
+    (subst (λ (j : ℕ). Laid width texel (putFour l j (u .r) (u .g) (u .b) (u .a)) (4 * (t + 1))) (sym ei) f)
+
+pub rows-laid : (width : ℕ) (texel : ℕ → ℕ → Texel) (l : List ℕ) (y : ℕ) → RowsTo width texel l y → Laid width texel l (4 * (y * width + 0))
+unfolding Filled
+rows-laid width texel l y r = record { size = r .size; holds = λ k h. r .holds k (omega arith) }
+
+pub laid-rows : (width : ℕ) (texel : ℕ → ℕ → Texel) (l : List ℕ) (x y : ℕ) → x ≡ width → Laid width texel l (4 * (y * width + x)) → RowsTo width texel l (y + 1)
+unfolding Filled
+laid-rows width texel l x y e w = record { size = w .size; holds = λ k h. w .holds k (omega (arith, add-mul y 1 width)) }
+
+-- a place of a row lies in the buffer
+pub place-fits : (fp x y : ℕ) → widthOf fp ≤ 12 → heightOf fp ≤ 12 → x < widthOf fp → y < heightOf fp → 4 * (y * widthOf fp + x) + 4 ≤ 576
+place-fits fp x y hw hh hx hy =
+    let m : suc y * widthOf fp ≤ 12 * widthOf fp = mul-le-mul-right (widthOf fp) (omega arith) in
+    omega (arith, suc-mul y (widthOf fp))
+
+pub rows-none : (width : ℕ) (texel : ℕ → ℕ → Texel) (l : List ℕ) → length l ≡ 576 → RowsTo width texel l 0
+rows-none width texel l e = record { size = e; holds = λ k h. absurd (omega arith) }
+
+pub rows-shown : (fp : ℕ) (texel : ℕ → ℕ → Texel) (l : List ℕ) (y : ℕ) → y ≡ heightOf fp → RowsTo (widthOf fp) texel l y → Shown fp texel l
+unfolding texelsOf
+rows-shown fp texel l y e r = record { size = r .size; holds = λ k h. r .holds k (rw e (omega (arith, mul-comm (widthOf fp) (heightOf fp)))) }
+
+pub laid-none : (width : ℕ) (texel : ℕ → ℕ → Texel) (l : List ℕ) → length l ≡ 576 → Laid width texel l (4 * 0)
+unfolding Filled
+laid-none width texel l e = record { size = e; holds = λ k h. absurd (omega arith) }
+
+pub laid-shown : (fp : ℕ) (texel : ℕ → ℕ → Texel) (l : List ℕ) (t : ℕ) → t ≡ texelsOf fp → Laid (widthOf fp) texel l (4 * t) → Shown fp texel l
+unfolding Filled
+laid-shown fp texel l t e w = record { size = w .size; holds = λ k h. w .holds k (rw e h) }
+
+-- the texel, step by step
+pub told : (g : WeightGrid) (component : ℕ) (levels : List Level) (table : List ExpandedPair) (seeds : Seeds) (gs gt x y : ℕ) {first second : Level} {p k : ℕ} {t : Texel}
+    → first ≡ level (infillOf levels (g .width) (g .height) (g .planes) 0 gs gt)
+    → second .0 ≡ pick (eqb (g .planes) 2) (infillOf levels (g .width) (g .height) (g .planes) 1 gs gt) (first .0)
+    → p ≡ selectBy seeds x y → k ≡ pick (eqb (g .planes) 2) component 4 → t ≡ texelOf (getD table p noExpanded) first second k
+    → t ≡ texelAt g component levels table seeds gs gt x y
+unfolding texelAt
+told g component levels table seeds gs gt x y {first} {second} ef es ep ek et =
+    let e : second ≡ level (pick (eqb (g .planes) 2) (infillOf levels (g .width) (g .height) (g .planes) 1 gs gt) (infillOf levels (g .width) (g .height) (g .planes) 0 gs gt)) =
+    (let q : second .0 ≡ pick (eqb (g .planes) 2) (infillOf levels (g .width) (g .height) (g .planes) 1 gs gt) (infillOf levels (g .width) (g .height) (g .planes) 0 gs gt) = es ∙ ap (λ (l : Level). pick (eqb (g .planes) 2) (infillOf levels (g .width) (g .height) (g .planes) 1 gs gt) (l .0)) ef in
+    λ i. record { 0 = q i }) in
+    rw (et, ef, e, ep, ek)

@@ -1,0 +1,82 @@
+use mathlib.Core.Path.{_≡_, refl, sym, ap, _∙_}
+use Rattle.bits.specs.Block.{blockNumber}
+use Rattle.block_fault.specs.declared.Settings.{Settings}
+use Rattle.block_fault.specs.declared.Verdict.the-variants as verdict
+use Rattle.block_fault.specs.Bits.{headerAt}
+use Rattle.block_fault.specs.Settings.{verdictOf}
+use Rattle.block_fault.proofs.Verdicts.{settings-verdict, told-fault, told-void, told-coded, coded-header, coded-counts}
+use Rattle.texel.specs.Meaning.{magenta}
+use Rattle.block_core.proofs.Shows.{shown-held, shows-fault, shows-void, shows-coded}
+use borrow.Author.Needs.{needs}
+use Rattle.block_core.proofs.decode_into.Statement.{statement}
+use Rattle.block_core.proofs.decode_into.Tie as tie
+
+-- the settings that were read
+verdict-is : (c : tie.After-read-settings) → verdictOf (c .before .args .fp) (blockNumber (c .before .args .block)) ≡ c .read-settings .result .verdict
+verdict-is c = sym (ap (λ (s : Settings). s .verdict) (c .read-settings .ensures) ∙ settings-verdict (c .before .args .fp) (blockNumber (c .before .args .block)))
+
+header-is : (c : tie.After-read-settings) → verdictOf (c .before .args .fp) (blockNumber (c .before .args .block)) ≡ verdict.Coded → c .read-settings .result .header ≡ headerAt (blockNumber (c .before .args .block))
+header-is c e = ap (λ (s : Settings). s .header) (c .read-settings .ensures) ∙ coded-header (c .before .args .fp) (blockNumber (c .before .args .block)) e
+
+read-settings-requires : tie.Need-read-settings-requires
+read-settings-requires c κs = search needs
+
+enum-known-v : tie.Need-enum-known-v
+enum-known-v c = search needs
+
+flood-requires : tie.Need-flood-requires
+flood-requires c κs = search needs
+
+enum-told : tie.Need-enum-told
+enum-told c = search needs
+
+colours-requires : tie.Need-colours-requires
+colours-requires c κs = search needs
+
+flood-requires-2 : tie.Need-flood-requires-2
+flood-requires-2 c κs = search needs
+
+enum-told-2 : tie.Need-enum-told-2
+enum-told-2 c = search needs
+
+paint-coded-requires : tie.Need-paint-coded-requires
+paint-coded-requires c κs =
+    let r = c .before .before .before .before in
+    let k = told-coded _ _ (verdict-is r ∙ c .before .before .enum-told2 .given .1) in
+    rw (header-is r (verdict-is r ∙ c .before .before .enum-told2 .given .1)) (coded-counts _ _ (k .0) (k .1))
+
+returns : tie.Need-returns
+unfolding magenta
+returns c =
+    let r = c .before .before .before .before .before in
+    let k = told-fault _ _ _ (verdict-is r ∙ c .before .before .before .v .given .1) in
+    (sym (k .0), λ e. shown-held _ _ _ _ _ (λ x y. shows-fault _ _ _ x y (k .1)) (c .flood .ensures e))
+
+returns-2 : tie.Need-returns-2
+returns-2 c =
+    let r = c .before .before .before .before .before in
+    let k = told-void _ _ (verdict-is r ∙ c .before .before .before .enum-told .given .1) in
+    (sym (k .0), λ e. shown-held _ _ _ _ _ (λ x y. c .before .before .colours .ensures ∙ shows-void _ _ _ x y (k .0) (k .1)) (c .flood2 .ensures e))
+
+returns-3 : tie.Need-returns-3
+returns-3 c =
+    let r = c .before .before .before .before .before in
+    let v = verdict-is r ∙ c .before .before .before .enum-told2 .given .1 in
+    let k = told-coded _ _ v in
+    (sym (k .0), λ e. shown-held _ _ _ _ _ (λ x y. shows-coded _ _ _ x y (k .0) (k .1) _ (header-is r v)) (c .paint-coded .ensures e))
+
+pub decode-into-spec : {M : Type 1} → statement M
+decode-into-spec =
+    tie.close
+    (tie.spec
+    read-settings-requires
+    enum-known-v
+    flood-requires
+    enum-told
+    colours-requires
+    flood-requires-2
+    enum-told-2
+    paint-coded-requires
+    returns
+    returns-2
+    returns-3)

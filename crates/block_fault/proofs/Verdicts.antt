@@ -1,0 +1,75 @@
+-- What a verdict says of the block.
+-- Assumes nothing.
+use mathlib.Core.Path.{_≡_, refl, sym, ap, _∙_}
+use mathlib.Core.Bool.{Bool, true, false}
+use mathlib.Core.List.{List, [], _∷_}
+use Prim.Native.Nat.{ℕ, _≤_, _<_}
+use native.Mathlib.Omega.{arith}
+use lib.Dec.{eqb, ltb}
+use borrow.Author.Tests.{eqb-true, eqb-false, ltb-false}
+use Rattle.laws.specs.Choice.{pick}
+use Rattle.block_header.specs.declared.Header.{Header}
+use Rattle.block_header.specs.Counts.{weightCount, endpointCount}
+use Rattle.block_header.specs.Reasons.{firstOf, gridTooLarge, tooManyWeights, weightBitsOutside, fourWithTwoPlanes, tooManyEndpoints, tooFewEndpointBits, someHdr}
+use Rattle.block_fault.specs.declared.Verdict.{Verdict}
+use Rattle.block_fault.specs.declared.Verdict.the-variants as verdict
+use Rattle.block_fault.specs.Bits.{modeAt, isVoid, isReserved, headerAt}
+use Rattle.block_fault.specs.Faults.{modeReasons, faultOf}
+use Rattle.block_fault.specs.Settings.{verdictOf, withHeader, settingsOf}
+
+header-verdict : (v : Verdict) (h : Header) → withHeader v h .verdict ≡ v
+header-verdict verdict.Coded h = refl
+header-verdict verdict.VoidExtent h = refl
+header-verdict (verdict.Fault n) h = refl
+
+module _ (fp B : ℕ) where
+  pub settings-verdict : settingsOf fp B .verdict ≡ verdictOf fp B
+  unfolding settingsOf
+  settings-verdict = header-verdict (verdictOf fp B) (headerAt B)
+
+  pub told-fault : (n : ℕ) → verdictOf fp B ≡ verdict.Fault n → (faultOf fp B ≡ n) × (faultOf fp B ≡ 0 → ⊥)
+  unfolding verdictOf
+  told-fault n e = go (eqb (faultOf fp B) 0) (isVoid (modeAt B)) refl e where
+    go : (t u : Bool) → eqb (faultOf fp B) 0 ≡ t → pick t (pick u verdict.VoidExtent verdict.Coded) (verdict.Fault (faultOf fp B)) ≡ verdict.Fault n → (faultOf fp B ≡ n) × (faultOf fp B ≡ 0 → ⊥)
+    go true true q r = absurd (let z : _≡_ {A = ℕ} 0 1 = cc in omega arith)
+    go true false q r = absurd (let z : _≡_ {A = ℕ} 0 1 = cc in omega arith)
+    go false u q r = (cc, eqb-false (faultOf fp B) 0 q)
+
+  pub told-void : verdictOf fp B ≡ verdict.VoidExtent → (faultOf fp B ≡ 0) × (isVoid (modeAt B) ≡ true)
+  unfolding verdictOf
+  told-void e = go (eqb (faultOf fp B) 0) (isVoid (modeAt B)) refl refl e where
+    go : (t u : Bool) → eqb (faultOf fp B) 0 ≡ t → isVoid (modeAt B) ≡ u → pick t (pick u verdict.VoidExtent verdict.Coded) (verdict.Fault (faultOf fp B)) ≡ verdict.VoidExtent → (faultOf fp B ≡ 0) × (isVoid (modeAt B) ≡ true)
+    go true true q w r = (eqb-true (faultOf fp B) 0 q, w)
+    go true false q w r = absurd (let z : _≡_ {A = ℕ} 0 1 = cc in omega arith)
+    go false u q w r = absurd (let z : _≡_ {A = ℕ} 0 1 = cc in omega arith)
+
+  pub told-coded : verdictOf fp B ≡ verdict.Coded → (faultOf fp B ≡ 0) × (isVoid (modeAt B) ≡ false)
+  unfolding verdictOf
+  told-coded e = go (eqb (faultOf fp B) 0) (isVoid (modeAt B)) refl refl e where
+    go : (t u : Bool) → eqb (faultOf fp B) 0 ≡ t → isVoid (modeAt B) ≡ u → pick t (pick u verdict.VoidExtent verdict.Coded) (verdict.Fault (faultOf fp B)) ≡ verdict.Coded → (faultOf fp B ≡ 0) × (isVoid (modeAt B) ≡ false)
+    go true true q w r = absurd (let z : _≡_ {A = ℕ} 0 1 = cc in omega arith)
+    go true false q w r = (eqb-true (faultOf fp B) 0 q, w)
+    go false u q w r = absurd (let z : _≡_ {A = ℕ} 0 1 = cc in omega arith)
+
+  pub coded-header : verdictOf fp B ≡ verdict.Coded → settingsOf fp B .header ≡ headerAt B
+  unfolding settingsOf
+  coded-header e = rw e
+
+  -- a reason that is not told does not hold, and neither does any later one
+  passed : (t : Bool) (n rest : ℕ) → (n ≡ 0 → ⊥) → pick t n rest ≡ 0 → (t ≡ false) × (rest ≡ 0)
+  passed true n rest h e = absurd (h e)
+  passed false n rest h e = (refl, e)
+
+  -- a coded block without fault has at most 64 weights and 18 endpoint numbers
+  pub coded-counts : faultOf fp B ≡ 0 → isVoid (modeAt B) ≡ false → (weightCount (headerAt B .grid) ≤ 64) × (endpointCount (headerAt B) ≤ 18)
+  unfolding faultOf modeReasons tooManyWeights tooManyEndpoints
+  coded-counts e v =
+      let h = headerAt B in
+      let a = rw v at e in
+      let b = passed (isReserved (modeAt B)) 11 _ (λ z. omega arith) a .1 in
+      let c = passed (gridTooLarge fp (h .grid)) 14 _ (λ z. omega arith) b .1 in
+      let d = passed (ltb 64 (weightCount (h .grid))) 15 _ (λ z. omega arith) c in
+      let f = passed (weightBitsOutside (h .grid)) 16 _ (λ z. omega arith) (d .1) .1 in
+      let g = passed (fourWithTwoPlanes h) 17 _ (λ z. omega arith) f .1 in
+      let k = passed (ltb 18 (endpointCount h)) 18 _ (λ z. omega arith) g in
+      (ltb-false 64 _ (d .0), ltb-false 18 _ (k .0))
