@@ -89,14 +89,14 @@ module _ (κ : Encoding) (b : ℕ) (xs : List ℕ) where
         there l = share-at (g * groupSize κ + k) l ∙ rw (digits-div g h, digits-mod g h, share-group κ g k)
 
     -- bits past the end being 0, the code that is read is the code that was written
-    code-is : (g : ℕ) → codeAt κ b (packed κ b xs) g ≡ groupCode κ b xs g
+    pub code-is : (g : ℕ) → codeAt κ b (packed κ b xs) g ≡ groupCode κ b xs g
     unfolding codeAt
     code-is g =
         stream-ext (codeBits κ) _ _ (groupSize κ) (share-is g)
         ∙ restream (codeBits κ) (shareBits κ) (bits-next κ) (bits-zero κ) (groupCode κ b xs g) (groupSize κ)
         ∙ mod-eq-of-lt (lt-of-lt-of-le (group-lt g) (pow-mono (code-mono κ (groupSize κ) (length (digits g)) (omega (arith, count g)))))
 
-    digit-is : (i : ℕ) → i < length xs → digit κ (groupCode κ b xs (i / groupSize κ)) (i % groupSize κ) ≡ getD xs i 0 / 2 ^ b
+    pub digit-is : (i : ℕ) → i < length xs → digit κ (groupCode κ b xs (i / groupSize κ)) (i % groupSize κ) ≡ getD xs i 0 / 2 ^ b
     unfolding groupCode
     digit-is i h =
         let e : i / groupSize κ * groupSize κ + i % groupSize κ ≡ i = div-add-mod' i (groupSize κ) in

@@ -1,0 +1,89 @@
+-- What an acceptable mode sheet is.
+-- Assumes nothing.
+use mathlib.Core.Path.{_≡_, refl, subst}
+use mathlib.Core.Bool.{Bool, true, false}
+use Prim.Native.Nat.{ℕ, _+_, _*_, _/_, _≤_}
+use native.Mathlib.Omega.{arith}
+use lib.Dec.{T, ltb, eqb}
+use borrow.Author.Tests.{ltb-false}
+use Rattle.laws.specs.Choice.{pick}
+use Rattle.quantization.specs.Ranges.{mostAt}
+use Rattle.block_mode.specs.declared.ModeBits.{ModeBits}
+use Rattle.block_mode.specs.declared.ModeBits.the-variants.{Mode, NoMode}
+use Rattle.block_mode.specs.Back2D.{modeBits, Limits}
+use Rattle.block_header.specs.Counts.{weightCount, weightBits, endpointCount, bitsLeft, endpointRangeOf}
+use Rattle.block_header.specs.Reasons.{tooManyWeights, weightBitsOutside, tooManyEndpoints, tooFewEndpointBits}
+use Rattle.symbolic_block.specs.declared.SymbolicBlock.{SymbolicBlock}
+use Rattle.symbolic_block.specs.Fields.{gridOf, headerOf, colourIn, extentIn, modeIn, endpointIn, weightIn}
+use Rattle.symbolic_block.specs.Refusals.{within, isNoMode, unknownFootprint, badMark, badWidth, badHeight, badRange, badPlanes, badComponent, badPartitions, badIndex, badSelector, badModes, someInUse, noBlockMode, modesMisfit, badEndpoints, badWeights, modeRefusals}
+use Rattle.symbolic_block.specs.Writing.{modeNumber}
+use Rattle.symbolic_block.proofs.Reasons.{None, reasonAt, none-at, either-none}
+use Rattle.symbolic_block.proofs.Lists.{not-not}
+
+pub record Fine (fp : ℕ) (s : SymbolicBlock) : Type 0 where
+  pub footprint : fp ≤ 13
+  pub mark-0 : s .mark ≡ 0
+  pub limits : Limits (gridOf s)
+  pub component-in : s .component ≤ pick (eqb (s .planes) 2) 3 0
+  pub partitions-low : 1 ≤ s .partitions
+  pub partitions-most : s .partitions ≤ 4
+  pub index-in : s .index ≤ pick (eqb (s .partitions) 1) 0 1023
+  pub selector-in : s .selector ≤ pick (eqb (s .partitions) 1) 0 3
+  pub modes-in : T (within 4 (s .partitions) 15 (modeIn s))
+  pub colours-0 : T (within 4 0 0 (colourIn s))
+  pub extents-0 : T (within 4 0 0 (extentIn s))
+  pub found : modeBits (gridOf s) ≡ Mode (modeNumber (modeBits (gridOf s)))
+  pub count-most : weightCount (gridOf s) ≤ 64
+  pub bits-most : weightBits (gridOf s) ≤ 96
+  pub selected : modesMisfit (headerOf s) ≡ false
+  pub numbers-most : endpointCount (headerOf s) ≤ 18
+  pub enough : (13 * endpointCount (headerOf s) + 4) / 5 ≤ bitsLeft (headerOf s)
+  pub endpoints-in : T (within 18 (endpointCount (headerOf s)) (mostAt (endpointRangeOf (headerOf s))) (endpointIn s))
+  pub weights-in : T (within 64 (weightCount (gridOf s)) (mostAt (s .range)) (weightIn s))
+
+a-mode : (x : ModeBits) → isNoMode x ≡ false → x ≡ Mode (modeNumber x)
+a-mode (Mode m) e = refl
+a-mode NoMode e = let z : _≡_ {A = Bool} true false = e in absurd (subst T z tt)
+
+-- reason i of a mode sheet does not hold
+abbrev Not : ℕ → SymbolicBlock → ℕ → Type 0
+Not fp s i = reasonAt (modeRefusals fp s) i .holds ≡ false
+
+pub fine : (fp : ℕ) (s : SymbolicBlock) → (s .mark ≡ 1 → ⊥) → None (modeRefusals fp s) → Fine fp s
+unfolding modeRefusals unknownFootprint badMark badWidth badHeight badRange badPlanes badComponent badPartitions badIndex badSelector badModes someInUse noBlockMode badEndpoints badWeights tooManyWeights weightBitsOutside tooManyEndpoints tooFewEndpointBits
+fine fp s m n =
+    let at = none-at (modeRefusals fp s) n in
+    let w = either-none (ltb (s .width) 2) (ltb 12 (s .width)) (at 2) in
+    let h = either-none (ltb (s .height) 2) (ltb 12 (s .height)) (at 3) in
+    let p = either-none (ltb (s .planes) 1) (ltb 2 (s .planes)) (at 5) in
+    let q = either-none (ltb (s .partitions) 1) (ltb 4 (s .partitions)) (at 7) in
+    let b = either-none (ltb (weightBits (gridOf s)) 24) (ltb 96 (weightBits (gridOf s))) (at 16) in
+    record {
+      footprint = ltb-false 13 fp (at 0);
+      mark-0 = omega (arith, m, ltb-false 1 (s .mark) (at 1));
+      limits = record {
+        width-low = ltb-false (s .width) 2 (w .0);
+        width-most = ltb-false 12 (s .width) (w .1);
+        height-low = ltb-false (s .height) 2 (h .0);
+        height-most = ltb-false 12 (s .height) (h .1);
+        range-most = ltb-false 11 (s .range) (at 4);
+        planes-low = ltb-false (s .planes) 1 (p .0);
+        planes-most = ltb-false 2 (s .planes) (p .1);
+      };
+      component-in = ltb-false (pick (eqb (s .planes) 2) 3 0) (s .component) (at 6);
+      partitions-low = ltb-false (s .partitions) 1 (q .0);
+      partitions-most = ltb-false 4 (s .partitions) (q .1);
+      index-in = ltb-false (pick (eqb (s .partitions) 1) 0 1023) (s .index) (at 8);
+      selector-in = ltb-false (pick (eqb (s .partitions) 1) 0 3) (s .selector) (at 9);
+      modes-in = not-not (within 4 (s .partitions) 15 (modeIn s)) (at 10);
+      colours-0 = not-not (within 4 0 0 (colourIn s)) (at 11);
+      extents-0 = not-not (within 4 0 0 (extentIn s)) (at 12);
+      found = a-mode (modeBits (gridOf s)) (at 13);
+      count-most = ltb-false 64 (weightCount (gridOf s)) (at 15);
+      bits-most = ltb-false 96 (weightBits (gridOf s)) (b .1);
+      selected = at 18;
+      numbers-most = ltb-false 18 (endpointCount (headerOf s)) (at 19);
+      enough = ltb-false (bitsLeft (headerOf s)) ((13 * endpointCount (headerOf s) + 4) / 5) (at 20);
+      endpoints-in = not-not (within 18 (endpointCount (headerOf s)) (mostAt (endpointRangeOf (headerOf s))) (endpointIn s)) (at 22);
+      weights-in = not-not (within 64 (weightCount (gridOf s)) (mostAt (s .range)) (weightIn s)) (at 23);
+    }

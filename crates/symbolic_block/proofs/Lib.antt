@@ -1,0 +1,16 @@
+pub mod Reasons
+pub mod Lists
+pub mod Laid
+pub mod Classes
+pub mod Numbers
+pub mod Opened
+pub mod Room
+pub mod Fine
+pub mod Written
+pub mod Void
+pub mod Read
+pub mod Shown
+pub mod ReadsAs
+pub mod Smallest
+pub mod Types
+pub mod Demand

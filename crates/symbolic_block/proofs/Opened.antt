@@ -1,0 +1,136 @@
+-- The definitions by cases on void extents and on all others, one case at a time.
+-- Assumes nothing.
+use mathlib.Core.Path.{_≡_, refl, sym, _∙_}
+use mathlib.Core.Bool.{Bool, true, false}
+use mathlib.Core.List.{List, []}
+use Prim.Native.Nat.{ℕ}
+use native.Mathlib.Omega.{arith}
+use lib.Dec.{ltb}
+use borrow.Author.Tests.{eq-eqb, ne-eqb}
+use Rattle.laws.specs.Choice.{pick}
+use Rattle.bits.specs.Field.{field, reverse}
+use Rattle.quantization.specs.Ranges.{encodingAt, bitsAt, rangeBits}
+use Rattle.integer_sequence.specs.Reading.{number}
+use Rattle.block_mode.specs.declared.BlockMode.{BlockMode}
+use Rattle.block_mode.specs.declared.BlockMode.the-variants.{VoidExtent, Reserved, Grid}
+use Rattle.block_header.specs.declared.Header.{Header}
+use Rattle.block_header.specs.Counts.{weightCount, weightBits, endpointCount, endpointRangeOf}
+use Rattle.block_header.specs.Reasons.{Reason, firstOf, gridReasons, endpointReasons}
+use Rattle.block_fault.specs.Bits.{modeAt, isVoid, isReserved, gridIn, partitionsAt, selectorAt, headerWith, headerAt, endpointsFrom, endpointAt, weightAt, extentAt, colourAt}
+use Rattle.block_fault.specs.Faults.{badVoidExtent, hdrVoidExtent, voidReasons, modeReasons, faultOf}
+use Rattle.interpolation.specs.declared.Kind.{Kind}
+use Rattle.texel.specs.Meaning.{texelFrom, solidTexel}
+use Rattle.texel.specs.BlockTexel.{blockTexel}
+use Rattle.symbolic_block.specs.declared.SymbolicBlock.{SymbolicBlock}
+use Rattle.symbolic_block.specs.Fields.{headerOf, colourIn, endpointIn, weightIn}
+use Rattle.symbolic_block.specs.Refusals.{modeRefusals, voidRefusals, refusals, refusalOf}
+use Rattle.symbolic_block.specs.Picture.{pictureOf}
+use Rattle.symbolic_block.specs.Cells.{laid}
+use Rattle.symbolic_block.specs.Writing.{modeCells, voidCells, blockOf}
+use Rattle.symbolic_block.specs.Reading.{modeBlock, voidBlock, readBlock}
+use Rattle.symbolic_block.proofs.Reasons.{None, none-first, first-none}
+
+-- ---- a symbolic block
+
+module _ (s : SymbolicBlock) (m : s .mark ≡ 1) where
+  pub refusals-void : (fp : ℕ) → refusals fp s ≡ voidRefusals fp s
+  unfolding refusals
+  refusals-void fp = rw (eq-eqb (s .mark) 1 m)
+
+  pub block-void : blockOf s ≡ laid (voidCells s)
+  unfolding blockOf
+  block-void = rw (eq-eqb (s .mark) 1 m)
+
+  pub picture-void : (fp : ℕ) (kind : Kind) (x y : ℕ) → pictureOf fp kind s x y ≡ solidTexel (colourIn s)
+  unfolding pictureOf
+  picture-void fp kind x y = rw (eq-eqb (s .mark) 1 m)
+
+module _ (s : SymbolicBlock) (m : s .mark ≡ 1 → ⊥) where
+  pub refusals-mode : (fp : ℕ) → refusals fp s ≡ modeRefusals fp s
+  unfolding refusals
+  refusals-mode fp = rw (ne-eqb (s .mark) 1 m)
+
+  pub block-mode : blockOf s ≡ laid (modeCells s)
+  unfolding blockOf
+  block-mode = rw (ne-eqb (s .mark) 1 m)
+
+  pub picture-mode : (fp : ℕ) (kind : Kind) (x y : ℕ) → pictureOf fp kind s x y ≡ texelFrom fp kind (headerOf s) (endpointIn s) (weightIn s) x y
+  unfolding pictureOf
+  picture-mode fp kind x y = rw (ne-eqb (s .mark) 1 m)
+
+pub refusal-is : (fp : ℕ) (s : SymbolicBlock) → refusalOf fp s ≡ firstOf (refusals fp s)
+unfolding refusalOf
+refusal-is fp s = refl
+
+-- ---- a block
+
+module _ (B : ℕ) (v : isVoid (modeAt B) ≡ true) where
+  pub fault-void : (fp : ℕ) → faultOf fp B ≡ firstOf (voidReasons B)
+  unfolding faultOf
+  fault-void fp = rw v
+
+  pub read-void : readBlock B ≡ voidBlock (colourAt B) (extentAt B)
+  unfolding readBlock
+  read-void = rw v
+
+  pub texel-void : (fp : ℕ) (kind : Kind) (x y : ℕ) → faultOf fp B ≡ 0 → blockTexel fp kind B x y ≡ solidTexel (colourAt B)
+  unfolding blockTexel
+  texel-void fp kind x y e = rw (e, v)
+
+module _ (B : ℕ) (v : isVoid (modeAt B) ≡ false) where
+  pub fault-mode : (fp : ℕ) → faultOf fp B ≡ firstOf (modeReasons fp B)
+  unfolding faultOf
+  fault-mode fp = rw v
+
+  pub read-mode : readBlock B ≡ modeBlock (headerAt B) (endpointAt B (headerAt B)) (weightAt B (headerAt B))
+  unfolding readBlock
+  read-mode = rw v
+
+  pub texel-mode : (fp : ℕ) (kind : Kind) (x y : ℕ) → faultOf fp B ≡ 0
+      → blockTexel fp kind B x y ≡ texelFrom fp kind (headerAt B) (endpointAt B (headerAt B)) (weightAt B (headerAt B)) x y
+  unfolding blockTexel
+  texel-mode fp kind x y e = rw (e, v)
+
+-- the faults of a block, none of which holds
+pub no-void-fault : (fp B : ℕ) → isVoid (modeAt B) ≡ true → faultOf fp B ≡ 0 → (badVoidExtent B ≡ false) × (hdrVoidExtent B ≡ false)
+unfolding voidReasons
+no-void-fault fp B v e = let n : None (voidReasons B) = first-none (voidReasons B) tt (sym (fault-void B v fp) ∙ e) in (n .0, n .1 .0)
+
+pub void-no-fault : (fp B : ℕ) → isVoid (modeAt B) ≡ true → badVoidExtent B ≡ false → hdrVoidExtent B ≡ false → faultOf fp B ≡ 0
+unfolding voidReasons
+void-no-fault fp B v a b = fault-void B v fp ∙ none-first (voidReasons B) (a, (b, tt))
+
+abbrev pub modeFaults : ℕ → Header → List Reason
+modeFaults fp h = gridReasons fp h (endpointReasons h [])
+
+pub no-mode-fault : (fp B : ℕ) → isVoid (modeAt B) ≡ false → faultOf fp B ≡ 0 → (isReserved (modeAt B) ≡ false) × None (modeFaults fp (headerAt B))
+unfolding modeReasons
+no-mode-fault fp B v e = let n : None (modeReasons fp B) = first-none (modeReasons fp B) tt (sym (fault-mode B v fp) ∙ e) in n
+
+pub mode-no-fault : (fp B : ℕ) → isVoid (modeAt B) ≡ false → isReserved (modeAt B) ≡ false → None (modeFaults fp (headerAt B)) → faultOf fp B ≡ 0
+unfolding modeReasons
+mode-no-fault fp B v r n = fault-mode B v fp ∙ none-first (modeReasons fp B) (r, n)
+
+-- ---- its settings and numbers
+
+pub header-is : (B : ℕ) → headerAt B ≡ headerWith B (gridIn (modeAt B)) (partitionsAt B) (selectorAt B (partitionsAt B))
+unfolding headerAt
+header-is B = refl
+
+pub endpoint-is : (B : ℕ) (h : Header) (i : ℕ) → endpointAt B h i
+    ≡ pick (ltb i (endpointCount h)) (number (encodingAt (endpointRangeOf h)) (bitsAt (endpointRangeOf h))
+    (field B (endpointsFrom (h .partitions)) (rangeBits (endpointRangeOf h) (endpointCount h))) i) 0
+unfolding endpointAt rangeBits
+endpoint-is B h i = refl
+
+pub weight-is : (B : ℕ) (h : Header) (i : ℕ) → weightAt B h i
+    ≡ pick (ltb i (weightCount (h .grid))) (number (encodingAt (h .grid .range)) (bitsAt (h .grid .range))
+    (field (reverse 128 B) 0 (weightBits (h .grid))) i) 0
+unfolding weightAt weightBits rangeBits
+weight-is B h i = refl
+
+-- a mode is a void extent, reserved or a grid
+pub a-grid : (m : BlockMode) → isVoid m ≡ false → isReserved m ≡ false → m ≡ Grid (gridIn m)
+a-grid VoidExtent v r = let z : _≡_ {A = Bool} true false = v in absurd (let w : _≡_ {A = ℕ} 0 1 = cc in omega arith)
+a-grid Reserved v r = let z : _≡_ {A = Bool} true false = r in absurd (let w : _≡_ {A = ℕ} 0 1 = cc in omega arith)
+a-grid (Grid g) v r = refl

@@ -1,0 +1,75 @@
+-- A block without fault shows the picture of the symbolic block that it reads as.
+-- Assumes nothing.
+use mathlib.Core.Path.{_≡_, refl, sym, ap, ap₂, _∙_}
+use mathlib.Core.Bool.{Bool, true, false}
+use Prim.Native.Nat.{ℕ, _<_}
+use native.Mathlib.Omega.{arith}
+use lib.ListN.{getD}
+use Rattle.laws.specs.Table.{tab}
+use Rattle.laws.proofs.Filling.{getD-tab, tab-ext}
+use Rattle.quantization.specs.Unquantise.{unquantEndpoint, unquantWeight}
+use Rattle.integer_sequence.specs.Reading.{stored}
+use Rattle.weight_grid.specs.Cell.{level}
+use Rattle.interpolation.specs.declared.Kind.{Kind}
+use Rattle.block_header.specs.declared.Header.{Header}
+use Rattle.block_header.specs.Counts.{endpointRangeOf}
+use Rattle.block_fault.specs.Bits.{modeAt, isVoid, headerAt, endpointAt, weightAt, colourAt, extentAt}
+use Rattle.block_fault.specs.Faults.{faultOf}
+use Rattle.texel.specs.Meaning.{endpointLevels, weightLevels, mixedTexel, texelFrom, solidTexel}
+use Rattle.texel.specs.BlockTexel.{blockTexel}
+use Rattle.symbolic_block.specs.Fields.{numberIn}
+use Rattle.symbolic_block.specs.Picture.{pictureOf}
+use Rattle.symbolic_block.specs.Reading.{modeBlock, voidBlock, readBlock}
+use Rattle.symbolic_block.proofs.Lists.{stored-at}
+use Rattle.symbolic_block.proofs.Opened.{picture-void, picture-mode, read-void, read-mode, texel-void, texel-mode}
+
+-- ---- a texel follows from the numbers
+
+levels-same : (range : ℕ) (f g : ℕ → ℕ) → ((i : ℕ) → i < 18 → f i ≡ g i) → endpointLevels range f ≡ endpointLevels range g
+unfolding endpointLevels
+levels-same range f g h =
+    tab-ext (λ i. level (unquantEndpoint range (f i))) (λ i. level (unquantEndpoint range (g i))) (level 0) 18
+    (λ i l. ap (λ (x : ℕ). level (unquantEndpoint range x)) (h i l))
+
+weights-same : (range : ℕ) (f g : ℕ → ℕ) → ((i : ℕ) → i < 64 → f i ≡ g i) → weightLevels range f ≡ weightLevels range g
+unfolding weightLevels
+weights-same range f g h =
+    tab-ext (λ i. level (unquantWeight range (f i))) (λ i. level (unquantWeight range (g i))) (level 0) 64
+    (λ i l. ap (λ (x : ℕ). level (unquantWeight range x)) (h i l))
+
+pub texel-same : (fp : ℕ) (kind : Kind) (h : Header) (e f v w : ℕ → ℕ) (x y : ℕ) → ((i : ℕ) → i < 18 → e i ≡ f i) → ((i : ℕ) → i < 64 → v i ≡ w i)
+    → texelFrom fp kind h e v x y ≡ texelFrom fp kind h f w x y
+unfolding texelFrom
+texel-same fp kind h e f v w x y p q =
+    ap₂ (λ ends weights. mixedTexel fp kind h ends weights x y) (levels-same (endpointRangeOf h) e f p) (weights-same (h .grid .range) v w q)
+
+pub solid-same : (f g : ℕ → ℕ) → ((i : ℕ) → i < 4 → f i ≡ g i) → solidTexel f ≡ solidTexel g
+unfolding solidTexel
+solid-same f g h =
+    let e0 = h 0 (omega arith) in
+    let e1 = h 1 (omega arith) in
+    let e2 = h 2 (omega arith) in
+    let e3 = h 3 (omega arith) in
+    λ i. record { r = e0 i; g = e1 i; b = e2 i; a = e3 i }
+
+-- ---- what is read
+
+module _ (fp : ℕ) (kind : Kind) (B x y : ℕ) where
+  void-picture : pictureOf fp kind (voidBlock (colourAt B) (extentAt B)) x y ≡ solidTexel (colourAt B)
+  unfolding voidBlock
+  void-picture =
+      picture-void (voidBlock (colourAt B) (extentAt B)) refl fp kind x y
+      ∙ solid-same (λ i. getD (tab (colourAt B) 4) i 0) (colourAt B) (λ i h. getD-tab (colourAt B) 4 i 0 h)
+
+  mode-picture : (h : Header) → pictureOf fp kind (modeBlock h (endpointAt B h) (weightAt B h)) x y ≡ texelFrom fp kind h (endpointAt B h) (weightAt B h) x y
+  unfolding modeBlock
+  mode-picture h =
+      picture-mode (modeBlock h (endpointAt B h) (weightAt B h)) (λ e. omega (arith, e)) fp kind x y
+      ∙ texel-same fp kind h (numberIn (tab (λ i. stored (endpointAt B h i)) 18)) (endpointAt B h)
+      (numberIn (tab (λ i. stored (weightAt B h i)) 64)) (weightAt B h) x y (stored-at (endpointAt B h) 18) (stored-at (weightAt B h) 64)
+
+  pub block-shows : faultOf fp B ≡ 0 → blockTexel fp kind B x y ≡ pictureOf fp kind (readBlock B) x y
+  block-shows e = go (isVoid (modeAt B)) refl where
+    go : (v : Bool) → isVoid (modeAt B) ≡ v → blockTexel fp kind B x y ≡ pictureOf fp kind (readBlock B) x y
+    go true v = texel-void B v fp kind x y e ∙ sym (rw (read-void B v) void-picture)
+    go false v = texel-mode B v fp kind x y e ∙ sym (rw (read-mode B v) (mode-picture (headerAt B)))

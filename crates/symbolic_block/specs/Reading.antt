@@ -1,0 +1,109 @@
+-- 01, "Words of demand 3": the symbolic block that a block without fault reads as. B is the number of its 128 bits.
+-- Assumes nothing.
+use mathlib.Core.Path.{_≡_}
+use Prim.Native.Nat.{ℕ, _+_, _*_, _^_, _<_}
+use lib.Dec.{ltb}
+use Rattle.laws.specs.Choice.{pick}
+use Rattle.laws.specs.Table.{tab}
+use Rattle.integer_sequence.specs.Reading.{stored}
+use Rattle.block_header.specs.declared.Header.{Header}
+use Rattle.block_fault.specs.Bits.{modeAt, isVoid, gridIn, partitionsAt, indexAt, selectorAt, baseAt, extraAt, componentAt, modeOf, headerAt, endpointAt, weightAt, extentAt, colourAt}
+use Rattle.symbolic_block.specs.declared.SymbolicBlock.{SymbolicBlock}
+use Rattle.symbolic_block.specs.Fields.{colourIn, extentIn, modeIn, endpointIn, weightIn}
+
+-- a mode sheet; colours and extents unused
+unfoldable pub modeBlock : Header → (ℕ → ℕ) → (ℕ → ℕ) → SymbolicBlock
+modeBlock h endpoint weight = record {
+  mark = 0;
+  colours = tab (λ i. 0) 4;
+  extents = tab (λ i. 0) 4;
+  width = h .grid .width;
+  height = h .grid .height;
+  range = h .grid .range;
+  planes = h .grid .planes;
+  component = h .component;
+  partitions = h .partitions;
+  index = h .index;
+  selector = h .selector;
+  modes = h .modes;
+  endpoints = tab (λ i. stored (endpoint i)) 18;
+  weights = tab (λ i. stored (weight i)) 64;
+}
+
+-- a void extent (01: solid sheet); all else unused
+unfoldable pub voidBlock : (ℕ → ℕ) → (ℕ → ℕ) → SymbolicBlock
+voidBlock colour extent = record {
+  mark = 1;
+  colours = tab colour 4;
+  extents = tab extent 4;
+  width = 0;
+  height = 0;
+  range = 0;
+  planes = 0;
+  component = 0;
+  partitions = 0;
+  index = 0;
+  selector = 0;
+  modes = tab (λ i. 0) 4;
+  endpoints = tab (λ i. stored 0) 18;
+  weights = tab (λ i. stored 0) 64;
+}
+
+-- "a sheet of zeros"
+unfoldable pub zeroBlock : SymbolicBlock
+unfolding tab
+zeroBlock = record {
+  mark = 0;
+  colours = tab (λ i. 0) 4;
+  extents = tab (λ i. 0) 4;
+  width = 0;
+  height = 0;
+  range = 0;
+  planes = 0;
+  component = 0;
+  partitions = 0;
+  index = 0;
+  selector = 0;
+  modes = tab (λ i. 0) 4;
+  endpoints = tab (λ i. stored 0) 18;
+  weights = tab (λ i. stored 0) 64;
+}
+
+-- what the reader tells of a block without fault
+unfoldable pub readBlock : ℕ → SymbolicBlock
+unfolding tab modeBlock voidBlock headerAt endpointAt weightAt extentAt colourAt modeAt
+readBlock B =
+    pick (isVoid (modeAt B)) (voidBlock (colourAt B) (extentAt B))
+    (modeBlock (headerAt B) (endpointAt B (headerAt B)) (weightAt B (headerAt B)))
+
+-- a field that only void extents use, and one that only the others use: "each unused one is 0"
+abbrev pub ofVoid : ℕ → ℕ → ℕ
+ofVoid B x = pick (isVoid (modeAt B)) x 0
+
+abbrev pub ofMode : ℕ → ℕ → ℕ
+ofMode B x = pick (isVoid (modeAt B)) 0 x
+
+-- the selector, the settings that follow from it, and the modes' bits
+abbrev pub selectorIn : ℕ → ℕ
+selectorIn B = selectorAt B (partitionsAt B)
+
+abbrev pub modesCodeIn : ℕ → ℕ
+modesCodeIn B = extraAt B (gridIn (modeAt B)) (partitionsAt B) (selectorIn B) * 2 ^ 4 + baseAt B (partitionsAt B)
+
+-- "It then reads as a sheet when each used field is what "Bits of a block" and "Packed numbers" make of its bits and each unused one is 0."
+pub record ReadsAs (B : ℕ) (s : SymbolicBlock) : Type 0 where
+  pub mark : s .mark ≡ ofVoid B 1
+  pub colours : (i : ℕ) → i < 4 → colourIn s i ≡ ofVoid B (colourAt B i)
+  pub extents : (i : ℕ) → i < 4 → extentIn s i ≡ ofVoid B (extentAt B i)
+  pub width : s .width ≡ ofMode B (gridIn (modeAt B) .width)
+  pub height : s .height ≡ ofMode B (gridIn (modeAt B) .height)
+  pub range : s .range ≡ ofMode B (gridIn (modeAt B) .range)
+  pub planes : s .planes ≡ ofMode B (gridIn (modeAt B) .planes)
+  pub component : s .component ≡ ofMode B (componentAt B (gridIn (modeAt B)) (partitionsAt B) (selectorIn B))
+  pub partitions : s .partitions ≡ ofMode B (partitionsAt B)
+  pub index : s .index ≡ ofMode B (indexAt B (partitionsAt B))
+  pub selector : s .selector ≡ ofMode B (selectorIn B)
+  pub modes : (i : ℕ) → i < 4 → modeIn s i
+      ≡ ofMode B (pick (ltb i (partitionsAt B)) (modeOf (partitionsAt B) (selectorIn B) (modesCodeIn B) i) 0)
+  pub endpoints : (i : ℕ) → i < 18 → endpointIn s i ≡ ofMode B (endpointAt B (headerAt B) i)
+  pub weights : (i : ℕ) → i < 64 → weightIn s i ≡ ofMode B (weightAt B (headerAt B) i)
