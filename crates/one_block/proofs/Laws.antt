@@ -1,0 +1,115 @@
+-- The refusals of a one-block call one by one, and what a call comes to in each event.
+-- Assumes nothing.
+use mathlib.Core.Path.{_≡_, refl, sym, ap, _∙_, subst}
+use mathlib.Core.Bool.{Bool, true, false, not}
+use mathlib.Core.List.{List}
+use Prim.Native.Nat.{ℕ, _*_, _/_, _^_, _≤_, _<_}
+use native.Mathlib.Nat.{mod-eq-of-lt}
+use native.Mathlib.Omega.{arith}
+use lib.Dec.{eqb, ltb}
+use lib.ListN.{length, getD}
+use borrow.Author.Tests.{lt-ltb, le-ltb, ltb-false, eq-eqb, ne-eqb, eqb-true}
+use Rattle.laws.specs.Choice.{pick}
+use Rattle.laws.specs.Table.{tab}
+use Rattle.laws.proofs.Filling.{tab-ext}
+use Rattle.bits.specs.Field.{field}
+use Rattle.bits.specs.Block.{numberOf}
+use Rattle.bits.proofs.Blocks.{Bytes, number-lt}
+use Rattle.bits.proofs.Halves.{low-is}
+use Rattle.footprint.proofs.Laws.{texels-le}
+use Rattle.footprint.specs.Footprint.{texelsOf}
+use Rattle.interpolation.specs.declared.Kind.{Kind}
+use Rattle.block_fault.specs.Faults.{faultOf}
+use Rattle.interpolation.specs.Expansion.{shownOf}
+use Rattle.texel.specs.BlockTexel.{blockChannel, blockNumbers}
+use Rattle.block_core.specs.Held.{Held}
+use Rattle.one_block.specs.declared.Answer.{Answer}
+use Rattle.one_block.specs.declared.Answer.the-variants.{Refused, Faulty, Decoded}
+use Rattle.one_block.specs.Calls.{blockRefusal, answerFor, blockAnswer, blockOut}
+
+-- ---- the reasons one by one
+
+module _ (fp bytes numbers : ℕ) where
+  pub unknown-footprint : 13 < fp → 1 ≡ blockRefusal fp bytes numbers
+  unfolding blockRefusal
+  unknown-footprint h = rw (lt-ltb _ _ h)
+
+  module _ (known : fp ≤ 13) where
+    pub not-sixteen : (bytes ≡ 16 → ⊥) → 4 ≡ blockRefusal fp bytes numbers
+    unfolding blockRefusal
+    not-sixteen h = rw (le-ltb _ _ known, ne-eqb _ _ h)
+
+    pub wrong-numbers : bytes ≡ 16 → (numbers ≡ 4 * texelsOf fp → ⊥) → 5 ≡ blockRefusal fp bytes numbers
+    unfolding blockRefusal
+    wrong-numbers b h = rw (le-ltb _ _ known, eq-eqb _ _ b, ne-eqb _ _ h)
+
+    pub accepted : bytes ≡ 16 → numbers ≡ 4 * texelsOf fp → 0 ≡ blockRefusal fp bytes numbers
+    unfolding blockRefusal
+    accepted b h = rw (le-ltb _ _ known, eq-eqb _ _ b, eq-eqb _ _ h)
+
+-- and back
+pub record Accepted (fp bytes numbers : ℕ) : Type 0 where
+  pub known : fp ≤ 13
+  pub sixteen : bytes ≡ 16
+  pub size : numbers ≡ 4 * texelsOf fp
+
+pub not-refused : (fp bytes numbers : ℕ) → blockRefusal fp bytes numbers ≡ 0 → Accepted fp bytes numbers
+unfolding blockRefusal
+not-refused fp bytes numbers e = go (ltb 13 fp) (eqb bytes 16) (eqb numbers (4 * texelsOf fp)) refl refl refl e where
+  go : (a b c : Bool) → ltb 13 fp ≡ a → eqb bytes 16 ≡ b → eqb numbers (4 * texelsOf fp) ≡ c
+      → _≡_ {A = ℕ} (pick a 1 (pick (not b) 4 (pick (not c) 5 0))) 0 → Accepted fp bytes numbers
+  go true b c p q r e = absurd (omega arith)
+  go false false c p q r e = absurd (omega arith)
+  go false true false p q r e = absurd (omega arith)
+  go false true true p q r e = record { known = ltb-false 13 fp p; sixteen = eqb-true bytes 16 q; size = eqb-true numbers _ r }
+
+-- the buffer of 576 numbers is long enough
+pub fits-in : (fp bytes numbers : ℕ) → blockRefusal fp bytes numbers ≡ 0 → numbers ≤ 576
+fits-in fp bytes numbers e = omega (arith, not-refused fp bytes numbers e .size, texels-le fp)
+
+-- ---- what a call comes to
+
+module _ (fp : ℕ) (s : List ℕ) (old : List ℕ) where
+  module _ (h : blockRefusal fp (length s) (length old) ≡ 0 → ⊥) where
+    pub refused : Refused (blockRefusal fp (length s) (length old)) ≡ blockAnswer fp s (length old)
+    unfolding blockAnswer
+    refused = rw (ne-eqb _ _ h)
+
+    pub untouched : (kind : Kind) → old ≡ blockOut kind fp s old
+    unfolding blockOut
+    untouched kind = rw (ne-eqb _ _ h)
+
+  module _ (e : blockRefusal fp (length s) (length old) ≡ 0) where
+    pub answered : answerFor (faultOf fp (numberOf s)) ≡ blockAnswer fp s (length old)
+    unfolding blockAnswer
+    answered = rw (eq-eqb _ _ e)
+
+    pub written : (kind : Kind) → blockNumbers fp kind (numberOf s) ≡ blockOut kind fp s old
+    unfolding blockOut
+    written kind = rw (eq-eqb _ _ e)
+
+-- sixteen bytes are one number of 128 bits
+pub loaded : (s : List ℕ) → Bytes s → length s ≡ 16 → field (numberOf s) 0 128 ≡ numberOf s
+loaded s b e =
+    let h : numberOf s < 2 ^ 128 = subst (λ (n : ℕ). numberOf s < 2 ^ (8 * n)) e (number-lt s b) in
+    sym (low-is (numberOf s) 128) ∙ mod-eq-of-lt h
+
+-- a call that is not refused: the answer, and the first numbers of a buffer that holds the block, as shown
+module _ (fp : ℕ) (s old : List ℕ) (b : Bytes s) (B : ℕ) (l : B ≡ field (numberOf s) 0 128) (e : blockRefusal fp (length s) (length old) ≡ 0) where
+  number : B ≡ numberOf s
+  number = l ∙ loaded s b (not-refused _ _ _ e .sixteen)
+
+  pub told : answerFor (faultOf fp B) ≡ blockAnswer fp s (length old)
+  told = ap (λ (x : ℕ). answerFor (faultOf fp x)) number ∙ answered fp s old e
+
+  pub copied : (kind : Kind) (buffer : List ℕ) (show : ℕ → ℕ) → ((x : ℕ) → show x ≡ shownOf kind x) → Held fp kind B buffer
+      → tab (λ k. show (getD buffer k 0)) (length old) ≡ blockOut kind fp s old
+  unfolding blockNumbers
+  copied kind buffer show same h =
+      ap (tab (λ k. show (getD buffer k 0))) (not-refused _ _ _ e .size)
+      ∙ numbers
+      ∙ ap (blockNumbers fp kind) number
+      ∙ written fp s old e kind
+    where
+      numbers : tab (λ k. show (getD buffer k 0)) (4 * texelsOf fp) ≡ blockNumbers fp kind B
+      numbers = tab-ext _ _ 0 (4 * texelsOf fp) (λ k p. same _ ∙ ap (shownOf kind) (h .holds k p))

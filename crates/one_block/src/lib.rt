@@ -1,0 +1,101 @@
+// One block to texels: a call for each kind.
+use interpolation::Kind;
+ghost use mathlib.Core.Path.{_≡_};
+ghost use Prim.Native.Nat.{_/_, _≤_};
+ghost use lib.ListN.{length, getD};
+ghost use Rattle.laws.specs.Table.{tab};
+ghost use Rattle.interpolation.specs.declared.Kind.the-variants.{Unorm16, Srgb8};
+ghost use Rattle.one_block.specs.Calls.{blockRefusal, answerFor, blockAnswer, blockOut};
+
+// What a call comes to: refused or faulty, with 01's number, or decoded.
+pub enum Answer {
+    Refused(u8),
+    Faulty(u8),
+    Decoded,
+}
+
+// The first refusal that holds, 0 for none.
+pub fn refusal(fp: u8, bytes: usize, numbers: usize) -> u8
+    ensures { λ r. ⌜ r ≡ blockRefusal fp bytes numbers ⌝ }
+{
+    if 13 < fp {
+        return 1;
+    }
+    if bytes != 16 {
+        return 4;
+    }
+    if numbers != 4 * (footprint::texels(fp) as usize) {
+        return 5;
+    }
+    0
+}
+
+fn answer_for(fault: u8) -> Answer
+    ensures { λ r. ⌜ r ≡ answerFor fault ⌝ }
+{
+    if fault == 0 {
+        Answer::Decoded
+    } else {
+        Answer::Faulty(fault)
+    }
+}
+
+// The first numbers of the buffer, as they stand.
+fn copy_words(from: &[u16; 576], out: &mut [u16])
+    requires { ⌜ length (now out) ≤ 576 ⌝ }
+    ensures { λ r. ⌜ now (out .exit) ≡ tab (λ k. getD (now (from .entry)) k 0) (length (now (out .entry))) ⌝ }
+{
+    let mut k: usize = 0;
+    while k < out.len() {
+        out[k] = from[k];
+        k += 1;
+    }
+}
+
+// The first numbers of the buffer, their top bytes.
+fn copy_bytes(from: &[u16; 576], out: &mut [u8])
+    requires { ⌜ length (now out) ≤ 576 ⌝ }
+    ensures { λ r. ⌜ now (out .exit) ≡ tab (λ k. getD (now (from .entry)) k 0 / 256) (length (now (out .entry))) ⌝ }
+{
+    let mut k: usize = 0;
+    while k < out.len() {
+        out[k] = top_byte(from[k]);
+        k += 1;
+    }
+}
+
+fn top_byte(x: u16) -> u8
+    ensures { λ r. ⌜ r ≡ x / 256 ⌝ }
+{
+    (x / 256) as u8
+}
+
+// The texels of a block in kind 0: four numbers of 16 bits each.
+pub fn decode_unorm16(fp: u8, block: &[u8], out: &mut [u16]) -> Answer
+    ensures { λ r. ⌜ r ≡ blockAnswer fp (now (block .entry)) (length (now (out .entry))) ⌝ }
+    ensures { λ r. ⌜ now (out .exit) ≡ blockOut Unorm16 fp (now (block .entry)) (now (out .entry)) ⌝ }
+{
+    let n = refusal(fp, block.len(), out.len());
+    if n != 0 {
+        return Answer::Refused(n);
+    }
+    let mut buffer = [0u16; 576];
+    let fault = block_core::decode_into(bits::load(block), fp, Kind::Unorm16, &mut buffer);
+    copy_words(&buffer, out);
+    answer_for(fault)
+}
+
+// The texels of a block in kind 1: four bytes each.
+pub fn decode_srgb8(fp: u8, block: &[u8], out: &mut [u8]) -> Answer
+    ensures { λ r. ⌜ r ≡ blockAnswer fp (now (block .entry)) (length (now (out .entry))) ⌝ }
+    ensures { λ r. ⌜ now (out .exit) ≡ blockOut Srgb8 fp (now (block .entry)) (now (out .entry)) ⌝ }
+{
+    let n = refusal(fp, block.len(), out.len());
+    if n != 0 {
+        return Answer::Refused(n);
+    }
+    let mut buffer = [0u16; 576];
+    let fault = block_core::decode_into(bits::load(block), fp, Kind::Srgb8, &mut buffer);
+    copy_bytes(&buffer, out);
+    answer_for(fault)
+}
