@@ -24,7 +24,7 @@ use Rattle.interpolation.specs.Expansion.{shownOf}
 use Rattle.texel.specs.BlockTexel.{blockChannel, blockNumbers}
 use Rattle.block_core.specs.Held.{Held}
 use Rattle.one_block.specs.declared.Answer.{Answer}
-use Rattle.one_block.specs.declared.Answer.the-variants.{Refused, Faulty, Decoded}
+use Rattle.one_block.specs.declared.Answer.the-variants.{Refused, Faulty, Done}
 use Rattle.one_block.specs.Calls.{blockRefusal, answerFor, blockAnswer, blockOut}
 
 -- ---- the reasons one by one

@@ -13,7 +13,7 @@ use Rattle.block_header.specs.Reasons.{when, firstOf}
 use Rattle.block_fault.specs.Faults.{faultOf}
 use Rattle.texel.specs.BlockTexel.{blockNumbers}
 use Rattle.one_block.specs.declared.Answer.{Answer}
-use Rattle.one_block.specs.declared.Answer.the-variants.{Refused, Faulty, Decoded}
+use Rattle.one_block.specs.declared.Answer.the-variants.{Refused, Faulty, Done}
 
 -- "The one-block call refuses 1, 4, 5": 1 footprint above 13; 4 block bytes not exactly 16; 5 result buffer not exactly 4 numbers for
 -- each texel. 0 where it does not refuse.
@@ -25,11 +25,11 @@ blockRefusal fp bytes numbers =
 abbrev pub numberTold : Answer → ℕ
 numberTold (Refused n) = n
 numberTold (Faulty n) = n
-numberTold Decoded = 0
+numberTold Done = 0
 
 -- the answer of a block that is not refused, by its fault
 unfoldable pub answerFor : ℕ → Answer
-answerFor fault = pick (eqb fault 0) Decoded (Faulty fault)
+answerFor fault = pick (eqb fault 0) Done (Faulty fault)
 
 -- the answer for the bytes s and a result buffer of so many numbers
 unfoldable pub blockAnswer : ℕ → List ℕ → ℕ → Answer

@@ -5,13 +5,24 @@ ghost use Prim.Native.Nat.{_/_, _≤_};
 ghost use lib.ListN.{length, getD};
 ghost use Rattle.laws.specs.Table.{tab};
 ghost use Rattle.interpolation.specs.declared.Kind.the-variants.{Unorm16, Srgb8};
-ghost use Rattle.one_block.specs.Calls.{blockRefusal, answerFor, blockAnswer, blockOut};
+ghost use Rattle.one_block.specs.Calls.{blockRefusal, numberTold, answerFor, blockAnswer, blockOut};
 
-// What a call comes to: refused or faulty, with 01's number, or decoded.
+// What a call comes to: refused or faulty, with 01's number, or done.
 pub enum Answer {
     Refused(u8),
     Faulty(u8),
-    Decoded,
+    Done,
+}
+
+// 01's number of an answer.
+pub fn number_told(a: Answer) -> u8
+    ensures { λ r. ⌜ r ≡ numberTold a ⌝ }
+{
+    match a {
+        Answer::Refused(n) => n,
+        Answer::Faulty(n) => n,
+        Answer::Done => 0,
+    }
 }
 
 // The first refusal that holds, 0 for none.
@@ -34,7 +45,7 @@ fn answer_for(fault: u8) -> Answer
     ensures { λ r. ⌜ r ≡ answerFor fault ⌝ }
 {
     if fault == 0 {
-        Answer::Decoded
+        Answer::Done
     } else {
         Answer::Faulty(fault)
     }
@@ -57,10 +68,10 @@ fn copy_bytes(from: &[u16; 576], out: &mut [u8])
     requires { ⌜ length (now out) ≤ 576 ⌝ }
     ensures { λ r. ⌜ now (out .exit) ≡ tab (λ k. getD (now (from .entry)) k 0 / 256) (length (now (out .entry))) ⌝ }
 {
-    let mut k: usize = 0;
-    while k < out.len() {
-        out[k] = top_byte(from[k]);
-        k += 1;
+    let mut i: usize = 0;
+    while i < out.len() {
+        out[i] = top_byte(from[i]);
+        i += 1;
     }
 }
 

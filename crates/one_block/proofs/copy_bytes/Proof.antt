@@ -11,10 +11,10 @@ abbrev told : List ℕ → ℕ → ℕ
 told from k = getD from k 0 / 256
 
 abbrev Inv-loop : tie.InvT-loop
-Inv-loop from out₀ k₀ out k = (k ≤ length out₀) × (length out₀ ≤ 576) × Filling (told from) 0 (length out₀) out k
+Inv-loop from out₀ i₀ out i = (i ≤ length out₀) × (length out₀ ≤ 576) × Filling (told from) 0 (length out₀) out i
 
 abbrev μ-loop : tie.MeasureT-loop
-μ-loop from out₀ k₀ out k = length out₀ - k
+μ-loop from out₀ i₀ out i = length out₀ - i
 
 loop-holds : tie.Need-loop-holds Inv-loop μ-loop
 loop-holds c = (omega arith, c .before .pre, filling-start _ 0 _ _ refl)
@@ -31,8 +31,8 @@ top-byte-requires c κs = tt
 slice-write-out : tie.Need-slice-write-out Inv-loop μ-loop
 slice-write-out c = omega (arith, c .before .before .before .loop .inv .2 .size)
 
-add-k : tie.Need-add-k Inv-loop μ-loop
-add-k c = omega (arith, c .before .before .before .loop .inv .2 .size)
+add-i : tie.Need-add-i Inv-loop μ-loop
+add-i c = omega (arith, c .before .before .before .loop .inv .2 .size)
 
 loop-less : tie.Need-loop-less Inv-loop μ-loop
 loop-less c = omega (arith, c .before .before .before .loop .inv .2 .size)
@@ -62,7 +62,7 @@ copy-bytes-spec =
     element-copy-out-top-byte
     top-byte-requires
     slice-write-out
-    add-k
+    add-i
     loop-less
     loop-again
     same-length

@@ -1,0 +1,56 @@
+use mathlib.Core.Path.{sym}
+use native.Mathlib.Omega.{arith}
+use lib.Seq.{length-take-le}
+use Rattle.footprint.proofs.Laws.{texels-le}
+use borrow.Author.Needs.{needs}
+use Rattle.unpack.proofs.unpack_unorm16.Statement.{statement}
+use Rattle.unpack.proofs.unpack_unorm16.Tie as tie
+
+texels-requires : tie.Need-texels-requires
+texels-requires c κs = search needs
+
+cast-n : tie.Need-cast-n
+cast-n c = search needs
+
+mul-n : tie.Need-mul-n
+mul-n c = search needs
+
+array-borrow-prefix-numbers : tie.Need-array-borrow-prefix-numbers
+array-borrow-prefix-numbers c = omega (arith, c .texels .ensures, texels-le (c .before .before .args .fp))
+
+slice-aggregate-decode-unorm16 : tie.Need-slice-aggregate-decode-unorm16
+slice-aggregate-decode-unorm16 c = sym (length-take-le _ _ (omega (arith, c .before .texels .ensures, texels-le (c .before .before .before .args .fp))))
+
+decode-unorm16-requires : tie.Need-decode-unorm16-requires
+decode-unorm16-requires c κs = search needs
+
+slice-aggregate-tell : tie.Need-slice-aggregate-tell
+slice-aggregate-tell c = search needs
+
+number-told-requires : tie.Need-number-told-requires
+number-told-requires c κs = search needs
+
+tell-requires : tie.Need-tell-requires
+tell-requires c κs = search needs
+
+texels-requires-2 : tie.Need-texels-requires-2
+texels-requires-2 c κs = search needs
+
+returns : tie.Need-returns
+returns c = search needs
+
+pub unpack-unorm16-spec : {M : Type 1} → statement M
+unpack-unorm16-spec =
+    tie.close
+    (tie.spec
+    texels-requires
+    cast-n
+    mul-n
+    array-borrow-prefix-numbers
+    slice-aggregate-decode-unorm16
+    decode-unorm16-requires
+    slice-aggregate-tell
+    number-told-requires
+    tell-requires
+    texels-requires-2
+    returns)
