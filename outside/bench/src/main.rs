@@ -1,0 +1,112 @@
+//! Time of the library's image calls against the reference's: bench [ROUNDS]
+//!
+//! 1,024 by 1,024 texels at 6x6 and 12x12, both kinds, mixed LDR mode blocks from the reference's
+//! writer. Library and reference take turns in one process; thread CPU time, median of the rounds.
+//! Buffers are filled once before the first round and not cleared between calls.
+
+use reference::random::{Random, mode_block};
+use reference::{FOOTPRINTS, decode_image_u8, decode_image_u16, write};
+
+const SIDE: usize = 1024;
+const SEED: u64 = 1;
+
+#[repr(C)]
+struct Timespec {
+    seconds: i64,
+    nanoseconds: i64,
+}
+
+const CLOCK_THREAD_CPUTIME_ID: i32 = 3;
+
+unsafe extern "C" {
+    fn clock_gettime(clock: i32, time: *mut Timespec) -> i32;
+}
+
+/// CPU time of this thread in milliseconds.
+fn thread_time() -> f64 {
+    let mut time = Timespec { seconds: 0, nanoseconds: 0 };
+    assert_eq!(unsafe { clock_gettime(CLOCK_THREAD_CPUTIME_ID, &mut time) }, 0);
+    time.seconds as f64 * 1e3 + time.nanoseconds as f64 / 1e6
+}
+
+fn timed(call: impl FnOnce()) -> f64 {
+    let start = thread_time();
+    call();
+    thread_time() - start
+}
+
+fn median(times: &mut [f64]) -> f64 {
+    times.sort_by(f64::total_cmp);
+    times[times.len() / 2]
+}
+
+fn blocks(footprint: usize) -> Vec<u8> {
+    let (w, h) = FOOTPRINTS[footprint];
+    let mut r = Random(SEED);
+    let count = SIDE.div_ceil(w) * SIDE.div_ceil(h);
+    (0..count).flat_map(|_| write(footprint, &mode_block(&mut r, footprint)).unwrap()).collect()
+}
+
+/// Runs both in turns; answers the ratio of the medians.
+fn measure(name: &str, rounds: usize, mut ours: impl FnMut(), mut theirs: impl FnMut()) -> f64 {
+    let (mut library, mut reference) = (Vec::new(), Vec::new());
+    for round in 0..rounds {
+        // Each goes first in every other round.
+        if round % 2 == 0 {
+            library.push(timed(&mut ours));
+            reference.push(timed(&mut theirs));
+        } else {
+            reference.push(timed(&mut theirs));
+            library.push(timed(&mut ours));
+        }
+    }
+    let (library, reference) = (median(&mut library), median(&mut reference));
+    let ratio = library / reference;
+    println!("{name}: library {library:.2} ms, reference {reference:.2} ms, ratio {ratio:.2}");
+    ratio
+}
+
+fn main() {
+    let rounds: usize = std::env::args().nth(1).map_or(21, |n| n.parse().expect("bench [ROUNDS]"));
+    println!(
+        "{SIDE} by {SIDE}, seed {SEED}, {rounds} rounds, medians of thread CPU time, buffers not cleared between calls"
+    );
+    let side = SIDE as u32;
+    let mut worst = 0f64;
+    for footprint in [4, 13] {
+        let (w, h) = FOOTPRINTS[footprint];
+        let blocks = blocks(footprint);
+        let mut tally = [0; 3];
+
+        let (mut ours, mut theirs) = (vec![1u16; 4 * SIDE * SIDE], vec![2u16; 4 * SIDE * SIDE]);
+        let answer = library::decode_image_unorm16(footprint as u8, side, side, &blocks, &mut ours, &mut tally);
+        decode_image_u16(footprint, SIDE, SIDE, &blocks, &mut theirs);
+        assert!(answer == 0 && tally == [0; 3] && ours == theirs, "{w}x{h} kind 0: not the same texels");
+        worst = worst.max(measure(
+            &format!("{w}x{h} kind 0"),
+            rounds,
+            || {
+                library::decode_image_unorm16(footprint as u8, side, side, &blocks, &mut ours, &mut tally);
+            },
+            || {
+                decode_image_u16(footprint, SIDE, SIDE, &blocks, &mut theirs);
+            },
+        ));
+
+        let (mut ours, mut theirs) = (vec![1u8; 4 * SIDE * SIDE], vec![2u8; 4 * SIDE * SIDE]);
+        let answer = library::decode_image_srgb8(footprint as u8, side, side, &blocks, &mut ours, &mut tally);
+        decode_image_u8(footprint, SIDE, SIDE, &blocks, &mut theirs);
+        assert!(answer == 0 && tally == [0; 3] && ours == theirs, "{w}x{h} kind 1: not the same texels");
+        worst = worst.max(measure(
+            &format!("{w}x{h} kind 1"),
+            rounds,
+            || {
+                library::decode_image_srgb8(footprint as u8, side, side, &blocks, &mut ours, &mut tally);
+            },
+            || {
+                decode_image_u8(footprint, SIDE, SIDE, &blocks, &mut theirs);
+            },
+        ));
+    }
+    println!("largest ratio {worst:.2}");
+}

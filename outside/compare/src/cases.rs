@@ -1,0 +1,427 @@
+//! One case of each sort: what the reference expects, what the library gives, smaller cases.
+
+use std::fmt;
+
+use reference::{
+    FOOTPRINTS, NUMBERS, SymbolicBlock, Tally, block_refusal, decode_image_u8, decode_image_u16, decode_u8, decode_u16,
+    image_refusal, read, read_refusal, write,
+};
+
+/// A case that can be run, printed and made smaller.
+pub trait Case: fmt::Display + Sized {
+    /// What differs between library and reference, if anything.
+    fn difference(&self) -> Option<String>;
+    /// Simpler cases to try.
+    fn smaller(&self) -> Vec<Self>;
+}
+
+/// Greedy search for a smaller case that still differs.
+pub fn shrink<C: Case>(mut case: C) -> C {
+    let mut tries = 0;
+    'search: loop {
+        for smaller in case.smaller() {
+            tries += 1;
+            if tries > 20_000 {
+                return case;
+            }
+            if smaller.difference().is_some() {
+                case = smaller;
+                continue 'search;
+            }
+        }
+        return case;
+    }
+}
+
+/// A number of a lent buffer.
+trait Number: Copy + PartialEq + fmt::Debug {
+    const MARK: Self;
+    fn other(self) -> Self;
+}
+
+impl Number for u8 {
+    const MARK: u8 = 0xA7;
+    fn other(self) -> u8 {
+        !self
+    }
+}
+
+impl Number for u16 {
+    const MARK: u16 = 0xA75C;
+    fn other(self) -> u16 {
+        !self
+    }
+}
+
+const GUARD: usize = 8;
+
+/// Lends a buffer and tells where it differs from what is expected afterwards. Where something
+/// is expected (`Some`) the buffer starts with other numbers everywhere, else it must stay as it was.
+fn lend<T: Number>(
+    len: usize, expected: Option<&[T]>, row: usize, what: &str, expected_answer: u8, call: impl FnOnce(&mut [T]) -> u8,
+) -> Option<String> {
+    let mut buffer = vec![T::MARK; len + 2 * GUARD];
+    if let Some(expected) = expected {
+        for (at, e) in buffer[GUARD..].iter_mut().zip(expected) {
+            *at = e.other();
+        }
+    }
+    let answer = call(&mut buffer[GUARD..GUARD + len]);
+    if answer != expected_answer {
+        return Some(format!("{what} answers {answer}, expected {expected_answer}"));
+    }
+    let inside = &buffer[GUARD..GUARD + len];
+    for (i, &given) in inside.iter().enumerate() {
+        let wanted = expected.map_or(T::MARK, |e| e[i]);
+        if given == wanted {
+            continue;
+        }
+        let Some(expected) = expected else {
+            return Some(format!("{what} is refused by {answer} but writes number {i}"));
+        };
+        let texel = i / 4;
+        return Some(format!(
+            "{what}, texel x {} y {}: {:?}, expected {:?}",
+            texel % row,
+            texel / row,
+            &inside[4 * texel..][..4],
+            &expected[4 * texel..][..4],
+        ));
+    }
+    let guards = buffer[..GUARD].iter().chain(&buffer[GUARD + len..]);
+    guards.into_iter().any(|&g| g != T::MARK).then(|| format!("{what} writes outside the buffer"))
+}
+
+fn hex(bytes: &[u8]) -> String {
+    bytes.iter().map(|b| format!("{b:02X}")).collect::<Vec<_>>().join(" ")
+}
+
+fn size_name(footprint: u8) -> String {
+    match FOOTPRINTS.get(footprint as usize) {
+        Some((w, h)) => format!("footprint {footprint} ({w}x{h})"),
+        None => format!("footprint {footprint}"),
+    }
+}
+
+/// The one-block calls, the reader of symbolic blocks, and the writer on what was read.
+#[derive(Clone)]
+pub struct BlockCase {
+    pub footprint: u8,
+    pub block: Vec<u8>,
+    pub out_len: usize,
+}
+
+impl BlockCase {
+    pub fn new(footprint: usize, block: [u8; 16]) -> BlockCase {
+        let (w, h) = FOOTPRINTS[footprint];
+        BlockCase { footprint: footprint as u8, block: block.to_vec(), out_len: 4 * w * h }
+    }
+
+    /// The block, where the call isn't refused.
+    pub fn whole(&self) -> Option<&[u8; 16]> {
+        let refusal = block_refusal(self.footprint as usize, self.block.len(), self.out_len);
+        (refusal == 0).then(|| self.block.as_slice().try_into().unwrap())
+    }
+
+    fn decode_difference(&self) -> Option<String> {
+        let f = self.footprint as usize;
+        let Some(block) = self.whole() else {
+            let refusal = block_refusal(f, self.block.len(), self.out_len);
+            return lend(self.out_len, None, 1, "decode_block_unorm16", refusal, |out| {
+                library::decode_block_unorm16(self.footprint, &self.block, out)
+            })
+            .or_else(|| {
+                lend(self.out_len, None, 1, "decode_block_srgb8", refusal, |out| {
+                    library::decode_block_srgb8(self.footprint, &self.block, out)
+                })
+            });
+        };
+        let row = FOOTPRINTS[f].0;
+        let mut numbers = vec![0; self.out_len];
+        let fault = decode_u16(f, block, &mut numbers);
+        let mut bytes = vec![0; self.out_len];
+        decode_u8(f, block, &mut bytes);
+        lend(self.out_len, Some(&numbers), row, "decode_block_unorm16", fault, |out| {
+            library::decode_block_unorm16(self.footprint, &self.block, out)
+        })
+        .or_else(|| {
+            lend(self.out_len, Some(&bytes), row, "decode_block_srgb8", fault, |out| {
+                library::decode_block_srgb8(self.footprint, &self.block, out)
+            })
+        })
+    }
+
+    fn read_difference(&self) -> Option<String> {
+        let f = self.footprint as usize;
+        let refusal = read_refusal(f, self.block.len());
+        let expected = match refusal {
+            0 => read(f, self.block.as_slice().try_into().unwrap()),
+            refusal => Err(refusal),
+        };
+        let (answer, numbers) = match expected {
+            Ok(s) => (0, s.to_numbers()),
+            Err(number) => (number, [0; NUMBERS]),
+        };
+        let mut given = numbers.map(|n| !n);
+        let given_answer = library::read_symbolic(self.footprint, &self.block, &mut given);
+        if given_answer != answer {
+            return Some(format!("read_symbolic answers {given_answer}, expected {answer}"));
+        }
+        if given != numbers {
+            return Some(number_difference("read_symbolic", &given, &numbers));
+        }
+        (answer == 0).then(|| write_difference(self.footprint, &numbers)).flatten()
+    }
+}
+
+fn number_difference(what: &str, given: &[u16; NUMBERS], expected: &[u16; NUMBERS]) -> String {
+    let at = (0..NUMBERS).find(|&i| given[i] != expected[i]).unwrap();
+    format!("{what}, number {at}: {}, expected {}", given[at], expected[at])
+}
+
+fn write_difference(footprint: u8, numbers: &[u16; NUMBERS]) -> Option<String> {
+    let (answer, block) = match write(footprint as usize, &SymbolicBlock::from_numbers(numbers)) {
+        Ok(block) => (0, block),
+        Err(number) => (number, [0; 16]),
+    };
+    let mut given = block.map(|b| !b);
+    let given_answer = library::write_symbolic(footprint, numbers, &mut given);
+    if given_answer != answer {
+        return Some(format!("write_symbolic answers {given_answer}, expected {answer}"));
+    }
+    (given != block).then(|| format!("write_symbolic gives {}, expected {}", hex(&given), hex(&block)))
+}
+
+impl Case for BlockCase {
+    fn difference(&self) -> Option<String> {
+        self.decode_difference().or_else(|| self.read_difference())
+    }
+
+    fn smaller(&self) -> Vec<BlockCase> {
+        let mut cases = Vec::new();
+        let exact = self.whole().is_some();
+        for footprint in 0..self.footprint.min(14) {
+            let mut case = BlockCase { footprint, ..self.clone() };
+            if exact {
+                let (w, h) = FOOTPRINTS[footprint as usize];
+                case.out_len = 4 * w * h;
+            }
+            cases.push(case);
+        }
+        for bit in (0..8 * self.block.len()).rev() {
+            if self.block[bit / 8] >> (bit % 8) & 1 == 1 {
+                let mut case = self.clone();
+                case.block[bit / 8] ^= 1 << (bit % 8);
+                cases.push(case);
+            }
+        }
+        if !exact {
+            for len in [0, self.block.len() / 2, self.block.len().saturating_sub(1)] {
+                if len < self.block.len() {
+                    cases.push(BlockCase { block: self.block[..len].to_vec(), ..self.clone() });
+                }
+            }
+            for out_len in [0, self.out_len / 2, self.out_len.saturating_sub(1)] {
+                if out_len < self.out_len {
+                    cases.push(BlockCase { out_len, ..self.clone() });
+                }
+            }
+        }
+        cases
+    }
+}
+
+impl fmt::Display for BlockCase {
+    fn fmt(&self, f: &mut fmt::Formatter) -> fmt::Result {
+        writeln!(f, "block call, {}, out length {}", size_name(self.footprint), self.out_len)?;
+        writeln!(f, "block {}", hex(&self.block))?;
+        if let Some(block) = self.whole() {
+            match read(self.footprint as usize, block) {
+                Ok(s) => writeln!(f, "{s:?}")?,
+                Err(fault) => writeln!(f, "fault {fault}")?,
+            }
+        }
+        Ok(())
+    }
+}
+
+/// The writer on any numbers; what it writes goes through the block calls.
+#[derive(Clone)]
+pub struct SymbolicCase {
+    pub footprint: u8,
+    pub numbers: [u16; NUMBERS],
+}
+
+impl Case for SymbolicCase {
+    fn difference(&self) -> Option<String> {
+        write_difference(self.footprint, &self.numbers).or_else(|| {
+            let block = write(self.footprint as usize, &SymbolicBlock::from_numbers(&self.numbers)).ok()?;
+            BlockCase::new(self.footprint as usize, block).difference()
+        })
+    }
+
+    fn smaller(&self) -> Vec<SymbolicCase> {
+        let mut cases = Vec::new();
+        for footprint in 0..self.footprint.min(14) {
+            cases.push(SymbolicCase { footprint, ..self.clone() });
+        }
+        for (i, &n) in self.numbers.iter().enumerate().rev() {
+            for less in [0, n / 2, n.saturating_sub(1)] {
+                if less < n {
+                    let mut case = self.clone();
+                    case.numbers[i] = less;
+                    cases.push(case);
+                }
+            }
+        }
+        cases
+    }
+}
+
+impl fmt::Display for SymbolicCase {
+    fn fmt(&self, f: &mut fmt::Formatter) -> fmt::Result {
+        writeln!(f, "write call, {}", size_name(self.footprint))?;
+        writeln!(f, "{:?}", SymbolicBlock::from_numbers(&self.numbers))
+    }
+}
+
+/// The image calls.
+#[derive(Clone)]
+pub struct ImageCase {
+    pub footprint: u8,
+    pub width: u32,
+    pub height: u32,
+    pub blocks: Vec<u8>,
+    pub out_len: usize,
+}
+
+/// A void extent, all channels 0.
+const PLAIN: [u8; 16] = [0xFC, 0xFD, 0xFF, 0xFF, 0xFF, 0xFF, 0xFF, 0xFF, 0, 0, 0, 0, 0, 0, 0, 0];
+
+impl ImageCase {
+    pub fn refusal(&self) -> u8 {
+        image_refusal(self.footprint as usize, self.width, self.height, self.blocks.len(), self.out_len)
+    }
+
+    pub fn tally(&self) -> Tally {
+        let mut out = vec![0; self.out_len];
+        let (f, w, h) = (self.footprint as usize, self.width as usize, self.height as usize);
+        decode_image_u8(f, w, h, &self.blocks, &mut out)
+    }
+
+    /// The part of an accepted image from block column and row `left`, `top` on, so many texels large.
+    fn part(&self, left: usize, top: usize, width: u32, height: u32) -> ImageCase {
+        let (w, h) = FOOTPRINTS[self.footprint as usize];
+        let across = self.width.div_ceil(w as u32) as usize;
+        let (new_across, new_down) = (width.div_ceil(w as u32) as usize, height.div_ceil(h as u32) as usize);
+        let mut blocks = Vec::new();
+        for row in top..top + new_down {
+            blocks.extend_from_slice(&self.blocks[16 * (row * across + left)..][..16 * new_across]);
+        }
+        ImageCase { width, height, blocks, out_len: 4 * (width * height) as usize, ..*self }
+    }
+}
+
+impl Case for ImageCase {
+    fn difference(&self) -> Option<String> {
+        let refusal = self.refusal();
+        let (f, w, h) = (self.footprint as usize, self.width as usize, self.height as usize);
+        let (mut numbers, mut bytes, mut expected) = (Vec::new(), Vec::new(), [0; 3]);
+        if refusal == 0 {
+            numbers.resize(self.out_len, 0);
+            bytes.resize(self.out_len, 0);
+            let tally = decode_image_u16(f, w, h, &self.blocks, &mut numbers);
+            assert_eq!(tally, decode_image_u8(f, w, h, &self.blocks, &mut bytes));
+            expected = [tally.faulty, tally.first_index, tally.first_fault as u64];
+        }
+        let tally_difference = |what: &str, tally: [u64; 3]| {
+            (tally != expected).then(|| format!("{what} tells {tally:?}, expected {expected:?}"))
+        };
+        let row = w.max(1);
+        let mut tally = expected.map(|n| !n);
+        let wanted = (refusal == 0).then_some(numbers.as_slice());
+        lend(self.out_len, wanted, row, "decode_image_unorm16", refusal, |out| {
+            library::decode_image_unorm16(self.footprint, self.width, self.height, &self.blocks, out, &mut tally)
+        })
+        .or_else(|| tally_difference("decode_image_unorm16", tally))
+        .or_else(|| {
+            let mut tally = expected.map(|n| !n);
+            let wanted = (refusal == 0).then_some(bytes.as_slice());
+            lend(self.out_len, wanted, row, "decode_image_srgb8", refusal, |out| {
+                library::decode_image_srgb8(self.footprint, self.width, self.height, &self.blocks, out, &mut tally)
+            })
+            .or_else(|| tally_difference("decode_image_srgb8", tally))
+        })
+    }
+
+    fn smaller(&self) -> Vec<ImageCase> {
+        let mut cases = Vec::new();
+        if self.refusal() != 0 {
+            for footprint in 0..self.footprint.min(14) {
+                cases.push(ImageCase { footprint, ..self.clone() });
+            }
+            for (width, height) in [(self.width / 2, self.height), (self.width, self.height / 2)] {
+                if (width, height) != (self.width, self.height) {
+                    cases.push(ImageCase { width, height, ..self.clone() });
+                }
+            }
+            for (len, out_len) in [(self.blocks.len() / 2, self.out_len), (self.blocks.len(), self.out_len / 2)] {
+                if (len, out_len) != (self.blocks.len(), self.out_len) {
+                    cases.push(ImageCase { blocks: self.blocks[..len].to_vec(), out_len, ..*self });
+                }
+            }
+            return cases;
+        }
+        let (w, h) = FOOTPRINTS[self.footprint as usize];
+        for width in [1, self.width / 2, self.width - 1] {
+            if (1..self.width).contains(&width) {
+                cases.push(self.part(0, 0, width, self.height));
+            }
+        }
+        for height in [1, self.height / 2, self.height - 1] {
+            if (1..self.height).contains(&height) {
+                cases.push(self.part(0, 0, self.width, height));
+            }
+        }
+        for left in [self.width / w as u32 / 2, 1] {
+            if left > 0 && left * (w as u32) < self.width {
+                cases.push(self.part(left as usize, 0, self.width - left * w as u32, self.height));
+            }
+        }
+        for top in [self.height / h as u32 / 2, 1] {
+            if top > 0 && top * (h as u32) < self.height {
+                cases.push(self.part(0, top as usize, self.width, self.height - top * h as u32));
+            }
+        }
+        for at in (0..self.blocks.len()).step_by(16) {
+            if self.blocks[at..at + 16] != PLAIN {
+                let mut case = self.clone();
+                case.blocks[at..at + 16].copy_from_slice(&PLAIN);
+                cases.push(case);
+            }
+        }
+        cases
+    }
+}
+
+impl fmt::Display for ImageCase {
+    fn fmt(&self, f: &mut fmt::Formatter) -> fmt::Result {
+        let (name, len) = (size_name(self.footprint), self.blocks.len());
+        writeln!(
+            f,
+            "image call, {name}, {} by {}, {len} block bytes, out length {}",
+            self.width, self.height, self.out_len
+        )?;
+        for (index, block) in self.blocks.chunks(16).enumerate().take(64) {
+            let fault = match block.try_into() {
+                Ok(block) if self.footprint < 14 => reference::fault(self.footprint as usize, block),
+                _ => 0,
+            };
+            writeln!(f, "block {index}: {} fault {fault}", hex(block))?;
+        }
+        if len > 64 * 16 {
+            writeln!(f, "and {} blocks more", len / 16 - 64)?;
+        }
+        Ok(())
+    }
+}

@@ -1,0 +1,134 @@
+//! Compares the proved library with the vectors and the reference: compare [--seed N] [--blocks N]
+
+mod cases;
+mod make;
+mod seen;
+
+use std::time::{SystemTime, UNIX_EPOCH};
+
+use cases::{BlockCase, Case, ImageCase, SymbolicCase, shrink};
+use reference::random::Random;
+use reference::{SymbolicBlock, block_refusal, read_refusal, refusal};
+use seen::Seen;
+
+/// Failing cases that are made smaller and printed; the others are only counted.
+const PRINTED: u64 = 5;
+
+struct Run {
+    seen: Seen,
+    passed: u64,
+    failed: u64,
+    /// Failing cases printed so far.
+    printed: u64,
+    /// Blocks that the one-block calls got, without the vectors.
+    blocks: u64,
+}
+
+impl Run {
+    fn case(&mut self, case: impl Case) {
+        let Some(difference) = case.difference() else {
+            self.passed += 1;
+            return;
+        };
+        self.failed += 1;
+        if self.printed < PRINTED {
+            self.printed += 1;
+            println!("FAILED: {difference}\n{case}");
+            let small = shrink(case);
+            println!("smallest found: {}\n{small}", small.difference().unwrap_or_default());
+        }
+    }
+
+    fn block(&mut self, case: BlockCase) {
+        let (f, len) = (case.footprint as usize, case.block.len());
+        self.seen.count("block call, refusal", block_refusal(f, len, case.out_len) as u32);
+        self.seen.count("read call, refusal", read_refusal(f, len) as u32);
+        if let Some(block) = case.whole() {
+            self.seen.block(f, block);
+            self.blocks += 1;
+        }
+        self.case(case);
+    }
+
+    fn symbolic(&mut self, case: SymbolicCase) {
+        let s = SymbolicBlock::from_numbers(&case.numbers);
+        self.seen.symbolic(case.footprint, &s, refusal(case.footprint as usize, &s));
+        self.case(case);
+    }
+
+    fn image(&mut self, case: ImageCase) {
+        let refusal = case.refusal();
+        self.seen.count("image call, refusal", refusal as u32);
+        if refusal == 0 {
+            let tally = case.tally();
+            self.seen.count("image, footprint", case.footprint as u32);
+            self.seen.count("image, first fault", tally.first_fault as u32);
+            self.seen.count("image, first faulty block not the first block", (tally.first_index > 0) as u32);
+            self.seen.count("image, several faulty blocks", (tally.faulty > 1) as u32);
+            self.seen.count("image, side of 4096", (case.width == 4096 || case.height == 4096) as u32);
+        }
+        self.case(case);
+    }
+}
+
+/// The stored vectors against the library.
+fn vectors(run: &mut Run) {
+    let outcome = vectors::check(
+        &vectors::Decoder {
+            unorm16: &|footprint, block, out| library::decode_block_unorm16(footprint as u8, block, out),
+            srgb8: &|footprint, block, out| library::decode_block_srgb8(footprint as u8, block, out),
+            alpha_like_colours: false,
+        },
+        &vectors::STORED,
+    );
+    let [texels, digests, illegal, hdr] = outcome.passed;
+    println!("vectors agree: texels {texels}, digests {digests}, illegal {illegal}, HDR {hdr}");
+    for line in outcome.failed.iter().take(PRINTED as usize) {
+        println!("FAILED: vector, {line}");
+    }
+    run.passed += outcome.passed.iter().sum::<u64>();
+    run.failed += outcome.failed.len() as u64;
+}
+
+fn argument(name: &str) -> Option<u64> {
+    let arguments: Vec<String> = std::env::args().collect();
+    let at = arguments.iter().position(|a| a == name)?;
+    Some(arguments.get(at + 1).and_then(|v| v.parse().ok()).unwrap_or_else(|| panic!("{name} takes a number")))
+}
+
+fn main() {
+    let now = SystemTime::now().duration_since(UNIX_EPOCH).map_or(1, |d| d.as_nanos() as u64 % 1_000_000_000_000);
+    let seed = argument("--seed").unwrap_or(now);
+    let blocks = argument("--blocks").unwrap_or(1_000_000);
+    println!("seed {seed}, {blocks} blocks");
+    let mut r = Random(seed);
+    let mut run = Run { seen: Seen::new(), passed: 0, failed: 0, printed: 0, blocks: 0 };
+    vectors(&mut run);
+    for case in make::every_mode(&mut r) {
+        run.block(case);
+    }
+    for case in make::edges(&mut r) {
+        run.image(case);
+    }
+    while run.blocks < blocks {
+        for _ in 0..100 {
+            run.block(make::block(&mut r));
+        }
+        for _ in 0..25 {
+            run.symbolic(make::symbolic(&mut r));
+        }
+        for _ in 0..2 {
+            run.block(make::refused_block(&mut r));
+            run.image(make::refused_image(&mut r));
+        }
+        run.image(make::image(&mut r));
+    }
+    let never = run.seen.report();
+    for line in &never {
+        println!("{line}");
+    }
+    println!("seed {seed}, {} blocks", run.blocks);
+    let failed = run.failed + never.len() as u64;
+    println!("{} passed, {failed} failed", run.passed);
+    std::process::exit((failed != 0) as i32);
+}

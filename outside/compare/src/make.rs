@@ -1,0 +1,271 @@
+//! Random cases.
+
+use reference::random::*;
+use reference::tables::WEIGHT_RANGES;
+use reference::{FOOTPRINTS, NUMBERS, SymbolicBlock, refusal, write};
+
+use crate::cases::{BlockCase, ImageCase, SymbolicCase};
+
+/// A block for any footprint: random, written, loosely written, mutated.
+fn any_block(r: &mut Random, footprint: usize) -> [u8; 16] {
+    match r.below(20) {
+        0..4 => r.bytes(),
+        4..7 => block_of_any_mode(r),
+        7 => void_extent_block(r),
+        8..13 => write(footprint, &symbolic_block(r, footprint)).unwrap(),
+        13..16 => {
+            let s = symbolic_block(r, footprint);
+            loose_block(r, footprint, &s)
+        }
+        _ => {
+            let block = write(footprint, &symbolic_block(r, footprint)).unwrap();
+            flip_bits(r, block)
+        }
+    }
+}
+
+pub fn block(r: &mut Random) -> BlockCase {
+    let footprint = footprint(r);
+    let block = any_block(r, footprint);
+    BlockCase::new(footprint, block)
+}
+
+/// Blocks of every block mode at every footprint that has some, written and loosely written.
+pub fn every_mode(r: &mut Random) -> Vec<BlockCase> {
+    let mut cases = Vec::new();
+    for f in 0..FOOTPRINTS.len() {
+        for mode in 0..2048 {
+            for _ in 0..2 {
+                let Some(s) = block_of_mode(r, f, mode) else { continue };
+                cases.push(BlockCase::new(f, write(f, &s).unwrap()));
+                let loose = loose_block(r, f, &s);
+                cases.push(BlockCase::new(f, loose));
+            }
+        }
+    }
+    cases
+}
+
+/// A footprint that is refused.
+fn bad_footprint(r: &mut Random) -> u8 {
+    if r.once_in(2) { 14 } else { 14 + r.below(242) as u8 }
+}
+
+/// A length near the right one, or 0, or any.
+fn other_length(r: &mut Random, right: usize) -> usize {
+    match r.below(6) {
+        0 => 0,
+        1 => right + 1,
+        2 => right.saturating_sub(1),
+        3 => 2 * right,
+        4 => right / 4,
+        _ => r.below(2 * right + 2),
+    }
+}
+
+/// A block call that is refused; several reasons may hold at once.
+pub fn refused_block(r: &mut Random) -> BlockCase {
+    let mut case = block(r);
+    let reason = 1 + r.below(7);
+    if reason & 1 != 0 {
+        case.footprint = bad_footprint(r);
+    }
+    if reason & 2 != 0 {
+        let len = other_length(r, 16);
+        case.block.resize(len, 0x42);
+    }
+    if reason & 4 != 0 {
+        case.out_len = other_length(r, case.out_len);
+    }
+    case
+}
+
+/// Values at the fields' limits.
+const LIMITS: [u16; 28] = [
+    0, 1, 2, 3, 4, 5, 6, 7, 8, 11, 12, 13, 15, 16, 31, 32, 63, 64, 191, 255, 256, 1023, 1024, 8190, 8191, 8192, 32768,
+    65535,
+];
+
+/// Numbers of a symbolic block: acceptable, nearly so, or anything.
+pub fn symbolic(r: &mut Random) -> SymbolicCase {
+    let f = footprint(r);
+    let sort = r.below(16);
+    let s = match sort {
+        0..3 => symbolic_block(r, f),
+        3..11 => {
+            let mut s = symbolic_block(r, f);
+            let used = Used::new(&s);
+            for _ in 0..1 + r.below(2) {
+                spoil(r, &mut s, &used);
+            }
+            s
+        }
+        11..13 => {
+            // Settings that no block of this footprint may have; numbers where they are acceptable.
+            let mut s = settings(r, true);
+            if refusal(f, &s) == 0 {
+                fill_numbers(r, &mut s);
+            }
+            s
+        }
+        13 => hdr_block(r, f),
+        14 => {
+            let mut numbers = [0; NUMBERS];
+            for number in &mut numbers {
+                *number = r.pick(&LIMITS);
+            }
+            SymbolicBlock::from_numbers(&numbers)
+        }
+        _ => {
+            let mut s = void_extent(r);
+            match r.below(4) {
+                0 => s.extents.swap(0, 1),
+                1 => s.extents.swap(2, 3),
+                2 => s.extents[r.below(4)] = r.pick(&LIMITS),
+                _ => s.extents[1] = s.extents[0],
+            }
+            s
+        }
+    };
+    let footprint = if r.once_in(64) { bad_footprint(r) } else { f as u8 };
+    SymbolicCase { footprint, numbers: s.to_numbers() }
+}
+
+/// A symbolic block that is refused by 20 alone.
+fn hdr_block(r: &mut Random, footprint: usize) -> SymbolicBlock {
+    loop {
+        let s = settings(r, true);
+        if refusal(footprint, &s) == 20 {
+            return s;
+        }
+    }
+}
+
+/// Endpoint numbers and weights in use and their largest.
+struct Used {
+    endpoints: usize,
+    endpoint_most: u16,
+    weights: usize,
+    weight_most: u16,
+}
+
+impl Used {
+    /// Of an acceptable symbolic block.
+    fn new(s: &SymbolicBlock) -> Used {
+        if s.mark == 1 {
+            return Used { endpoints: 0, endpoint_most: 0, weights: 0, weight_most: 0 };
+        }
+        Used {
+            endpoints: s.modes[..s.partitions as usize].iter().map(|&m| 2 * (m as usize / 4 + 1)).sum(),
+            endpoint_most: s.endpoint_most(),
+            weights: (s.width * s.height * s.planes) as usize,
+            weight_most: WEIGHT_RANGES[s.range as usize].most,
+        }
+    }
+}
+
+/// Changes one field or number.
+fn spoil(r: &mut Random, s: &mut SymbolicBlock, used: &Used) {
+    let limit = r.pick(&LIMITS);
+    match r.below(24) {
+        0 => s.mark = limit,
+        1 => s.colours[r.below(4)] = limit,
+        2 => s.extents[r.below(4)] = limit,
+        3 => s.width = r.below(14) as u16,
+        4 => s.height = r.below(14) as u16,
+        5 => (s.width, s.height) = (2 + r.below(11) as u16, 2 + r.below(11) as u16),
+        6 => s.range = r.below(13) as u16,
+        7 => s.planes = r.below(4) as u16,
+        8 => s.plane_channel = r.below(5) as u16,
+        9 => s.partitions = r.below(6) as u16,
+        10 => s.index = limit,
+        11 => s.selector = r.below(5) as u16,
+        12..15 => s.modes[r.below(4)] = r.below(17) as u16,
+        15 => {
+            let partitions = s.partitions.min(4) as usize;
+            s.modes[..partitions].fill(r.below(16) as u16);
+        }
+        16 => s.endpoints[r.below(18)] = limit,
+        17 => s.weights[r.below(64)] = limit,
+        // The first unused one, and a used one just above its range.
+        18 => s.endpoints[used.endpoints.min(17)] = 1,
+        19 => s.weights[used.weights.min(63)] = 1,
+        20 => s.endpoints[r.below(used.endpoints.max(1))] = used.endpoint_most + 1,
+        21 => s.weights[r.below(used.weights.max(1))] = used.weight_most + 1,
+        _ => {
+            let mut numbers = s.to_numbers();
+            numbers[r.below(NUMBERS)] = limit;
+            *s = SymbolicBlock::from_numbers(&numbers);
+        }
+    }
+}
+
+/// An image of small sides, some of its blocks faulty.
+pub fn image(r: &mut Random) -> ImageCase {
+    let f = footprint(r);
+    let side = |r: &mut Random| 1 + if r.once_in(3) { r.below(13) } else { r.below(40) } as u32;
+    let (width, height) = (side(r), side(r));
+    // From no faulty block to many; mostly few, so that every fault comes first now and then.
+    let many = r.pick(&[0, 20, 5, 1]);
+    image_of(r, f, width, height, many)
+}
+
+/// One block in `many` is of any sort (0: none), the others are without fault.
+fn image_of(r: &mut Random, f: usize, width: u32, height: u32, many: usize) -> ImageCase {
+    let (w, h) = FOOTPRINTS[f];
+    let count = (width as usize).div_ceil(w) * (height as usize).div_ceil(h);
+    let mut blocks = Vec::new();
+    for _ in 0..count {
+        blocks.extend(if many > 0 && r.once_in(many) {
+            any_block(r, f)
+        } else {
+            write(f, &symbolic_block(r, f)).unwrap()
+        });
+    }
+    ImageCase { footprint: f as u8, width, height, blocks, out_len: 4 * (width * height) as usize }
+}
+
+/// Images with a side of 4,096, at every footprint.
+pub fn edges(r: &mut Random) -> Vec<ImageCase> {
+    let mut cases = Vec::new();
+    for f in 0..FOOTPRINTS.len() {
+        let other = 1 + r.below(20) as u32;
+        let (width, height) = if r.once_in(2) { (4096, other) } else { (other, 4096) };
+        cases.push(image_of(r, f, width, height, 200));
+    }
+    cases
+}
+
+/// An image call that is refused; several reasons may hold at once.
+pub fn refused_image(r: &mut Random) -> ImageCase {
+    let mut case = image(r);
+    let reason = 1 + r.below(15);
+    if reason & 1 != 0 {
+        case.footprint = bad_footprint(r);
+    }
+    if reason & 2 != 0 {
+        let side = r.pick(&[0, 4097, 4098, 65536, 1 << 31, u32::MAX]);
+        if r.once_in(2) {
+            case.width = side;
+        } else {
+            case.height = side;
+        }
+        // Lengths that such an image would have, where they are small enough to lend.
+        if let (Some((w, h)), true) = (FOOTPRINTS.get(case.footprint as usize), r.once_in(2)) {
+            let (width, height) = (case.width as usize, case.height as usize);
+            let count = width.div_ceil(*w) * height.div_ceil(*h);
+            if width * height < 1_000_000 {
+                case.blocks.resize(16 * count, 0x42);
+                case.out_len = 4 * width * height;
+            }
+        }
+    }
+    if reason & 4 != 0 {
+        let len = other_length(r, case.blocks.len());
+        case.blocks.resize(len, 0x42);
+    }
+    if reason & 8 != 0 {
+        case.out_len = other_length(r, case.out_len);
+    }
+    case
+}

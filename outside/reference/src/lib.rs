@@ -1,0 +1,42 @@
+//! A second reader and writer of ASTC blocks (2D, LDR), written from the public documents only.
+//!
+//! Words: 01's "sheet" is a symbolic block here, its "solid" block a void extent,
+//! its "widen" is unquantise (stored numbers) or expand (endpoints to 16 bits).
+
+mod block;
+mod colour;
+mod decode;
+pub mod random;
+mod refusals;
+mod sequence;
+mod symbolic;
+pub mod tables;
+
+pub use block::fault;
+pub use decode::{decode, decode_image_u8, decode_image_u16, decode_u8, decode_u16};
+pub use refusals::{block_refusal, image_refusal, read_refusal};
+pub use symbolic::{NUMBERS, SymbolicBlock, picture, read, refusal, write};
+
+/// Width and height of footprints 0 to 13.
+#[rustfmt::skip]
+pub const FOOTPRINTS: [(usize, usize); 14] = [
+    (4, 4), (5, 4), (5, 5), (6, 5), (6, 6), (8, 5), (8, 6), (8, 8),
+    (10, 5), (10, 6), (10, 8), (10, 10), (12, 10), (12, 12),
+];
+
+/// What a texel's numbers are.
+#[derive(Clone, Copy, PartialEq, Eq, Debug)]
+pub enum Kind {
+    /// Kind 0: four 16-bit numbers.
+    Unorm16,
+    /// Kind 1: four bytes, before the sRGB curve.
+    Srgb8,
+}
+
+/// What an image call tells of faulty blocks: their count, raster index and fault of the first.
+#[derive(Clone, Copy, PartialEq, Eq, Debug, Default)]
+pub struct Tally {
+    pub faulty: u64,
+    pub first_index: u64,
+    pub first_fault: u8,
+}

@@ -1,0 +1,249 @@
+//! Seeded random numbers, blocks and symbolic blocks for tests.
+
+use crate::block::{Settings, is_hdr, parse};
+use crate::colour::Pattern;
+use crate::sequence::{QUINT_STEPS, TRIT_STEPS, bit_count, smallest_code};
+use crate::symbolic::write_by;
+use crate::tables::{BLOCK_MODES, BlockMode, Digit, ENDPOINT_RANGES, Grid, QUINTS, TRITS, WEIGHT_RANGES};
+use crate::{FOOTPRINTS, SymbolicBlock, refusal};
+
+/// SplitMix64.
+#[derive(Clone)]
+pub struct Random(pub u64);
+
+impl Random {
+    pub fn word(&mut self) -> u64 {
+        self.0 = self.0.wrapping_add(0x9E3779B97F4A7C15);
+        let mut z = self.0;
+        z = (z ^ z >> 30).wrapping_mul(0xBF58476D1CE4E5B9);
+        z = (z ^ z >> 27).wrapping_mul(0x94D049BB133111EB);
+        z ^ z >> 31
+    }
+
+    /// A number below n (n under 2^32).
+    pub fn below(&mut self, n: usize) -> usize {
+        (((self.word() >> 32) * n as u64) >> 32) as usize
+    }
+
+    /// True once in n times.
+    pub fn once_in(&mut self, n: usize) -> bool {
+        self.below(n) == 0
+    }
+
+    pub fn pick<T: Copy>(&mut self, from: &[T]) -> T {
+        from[self.below(from.len())]
+    }
+
+    /// A number of 0..=most, the ends more often.
+    fn number(&mut self, most: u16) -> u16 {
+        match self.below(8) {
+            0 => 0,
+            1 => most,
+            _ => self.below(most as usize + 1) as u16,
+        }
+    }
+
+    /// Sixteen random bytes.
+    pub fn bytes(&mut self) -> [u8; 16] {
+        let (a, b) = (self.word(), self.word());
+        (a as u128 | (b as u128) << 64).to_le_bytes()
+    }
+}
+
+/// An acceptable void extent.
+pub fn void_extent(r: &mut Random) -> SymbolicBlock {
+    let mut s = SymbolicBlock { mark: 1, ..SymbolicBlock::ZERO };
+    s.colours = [0; 4].map(|_: u16| r.number(65535));
+    s.extents = [8191; 4];
+    if !r.once_in(3) {
+        for axis in 0..2 {
+            let low = r.number(8190);
+            s.extents[2 * axis] = low;
+            s.extents[2 * axis + 1] = low + 1 + r.number(8190 - low);
+        }
+    }
+    s
+}
+
+/// Settings of a mode block that may or may not be acceptable: grid, partitions, modes.
+/// `hdr` lets HDR modes in.
+pub fn settings(r: &mut Random, hdr: bool) -> SymbolicBlock {
+    loop {
+        if let BlockMode::Grid(grid) = BLOCK_MODES[r.below(2048)] {
+            return settings_of(r, grid, hdr);
+        }
+    }
+}
+
+/// Settings with a given grid.
+fn settings_of(r: &mut Random, grid: Grid, hdr: bool) -> SymbolicBlock {
+    let mut s = SymbolicBlock::ZERO;
+    s.width = grid.width as u16;
+    s.height = grid.height as u16;
+    s.range = grid.range as u16;
+    s.planes = grid.planes as u16;
+    if s.planes == 2 {
+        s.plane_channel = r.below(4) as u16;
+    }
+    s.partitions = 1 + r.below(4) as u16;
+    let mode = |r: &mut Random, low: usize, high: usize| loop {
+        let mode = low + r.below(high - low + 1);
+        if hdr || !is_hdr(mode as u8) {
+            return mode as u16;
+        }
+    };
+    if s.partitions == 1 {
+        s.modes[0] = mode(r, 0, 15);
+        return s;
+    }
+    s.index = r.below(1024) as u16;
+    s.selector = r.below(4) as u16;
+    if s.selector == 0 {
+        s.modes[..s.partitions as usize].fill(mode(r, 0, 15));
+    } else {
+        let low = 4 * (s.selector as usize - 1);
+        for i in 0..s.partitions as usize {
+            s.modes[i] = mode(r, low, low + 7);
+        }
+    }
+    s
+}
+
+/// Random endpoint numbers and weights for acceptable settings.
+pub fn fill_numbers(r: &mut Random, s: &mut SymbolicBlock) {
+    let endpoint_most = ENDPOINT_RANGES[s.endpoint_range()].most;
+    for i in 0..s.endpoint_count() {
+        s.endpoints[i] = r.number(endpoint_most);
+    }
+    let weight_most = WEIGHT_RANGES[s.range as usize].most;
+    for i in 0..s.weight_count() {
+        s.weights[i] = r.number(weight_most);
+    }
+}
+
+/// An acceptable mode block.
+pub fn mode_block(r: &mut Random, footprint: usize) -> SymbolicBlock {
+    let mut s = loop {
+        let s = settings(r, false);
+        if refusal(footprint, &s) == 0 {
+            break s;
+        }
+    };
+    fill_numbers(r, &mut s);
+    s
+}
+
+/// An acceptable block of this block mode, if the footprint has any.
+pub fn block_of_mode(r: &mut Random, footprint: usize, mode: usize) -> Option<SymbolicBlock> {
+    let BlockMode::Grid(grid) = BLOCK_MODES[mode] else { return None };
+    let mut plain = SymbolicBlock { partitions: 1, ..SymbolicBlock::ZERO };
+    plain.width = grid.width as u16;
+    plain.height = grid.height as u16;
+    plain.range = grid.range as u16;
+    plain.planes = grid.planes as u16;
+    if refusal(footprint, &plain) != 0 {
+        return None;
+    }
+    loop {
+        let mut s = settings_of(r, grid, false);
+        if refusal(footprint, &s) == 0 {
+            fill_numbers(r, &mut s);
+            return Some(s);
+        }
+    }
+}
+
+/// An acceptable symbolic block, now and then a void extent.
+pub fn symbolic_block(r: &mut Random, footprint: usize) -> SymbolicBlock {
+    if r.once_in(16) { void_extent(r) } else { mode_block(r, footprint) }
+}
+
+/// A block with fault 20, and for each texel 1 where its partition's mode is HDR.
+pub fn fault20_block(r: &mut Random, footprint: usize) -> ([u8; 16], Vec<u8>) {
+    let mut s = loop {
+        let s = settings(r, true);
+        if refusal(footprint, &s) == 20 {
+            break s;
+        }
+    };
+    fill_numbers(r, &mut s);
+    let (width, height) = FOOTPRINTS[footprint];
+    let pattern = Pattern::new(s.index, s.partitions as usize, width * height < 31);
+    let hdr = |at: usize| {
+        let partition = if s.partitions == 1 { 0 } else { pattern.partition(at % width, at / width) };
+        is_hdr(s.modes[partition] as u8) as u8
+    };
+    (write_by(&s, smallest_code).to_le_bytes(), (0..width * height).map(hdr).collect())
+}
+
+/// A block that reads as the acceptable symbolic block: any fitting codes, any spare bits.
+pub fn loose_block(r: &mut Random, footprint: usize, s: &SymbolicBlock) -> [u8; 16] {
+    let mut rng = r.clone();
+    let block = write_by(s, |digit, digits| {
+        let (steps, codes): (&[u32], usize) = match digit {
+            Digit::Quint => (&QUINT_STEPS, 128),
+            _ => (&TRIT_STEPS, 256),
+        };
+        let present_bits: u32 = steps[..digits.len()].iter().sum();
+        let fitting: Vec<u8> = (0..codes.min(1 << present_bits))
+            .filter(|&code| match digit {
+                Digit::Quint => QUINTS[code].starts_with(digits),
+                _ => TRITS[code].starts_with(digits),
+            })
+            .map(|code| code as u8)
+            .collect();
+        rng.pick(&fitting)
+    });
+    *r = rng;
+    let mut block = block;
+    if let Ok(Settings::Mode(m)) = parse(footprint, block) {
+        let used = bit_count(ENDPOINT_RANGES[m.endpoint_range], m.endpoint_count as u32);
+        for bit in m.endpoint_start + used..m.spare_end {
+            block |= ((r.word() & 1) as u128) << bit;
+        }
+    }
+    block.to_le_bytes()
+}
+
+/// A random block whose low bits give any block mode, void extents included, equally often.
+pub fn block_of_any_mode(r: &mut Random) -> [u8; 16] {
+    let mut bytes = r.bytes();
+    let mode = r.below(2048) as u16;
+    bytes[0] = mode as u8;
+    bytes[1] = bytes[1] & 0xF8 | (mode >> 8) as u8;
+    bytes
+}
+
+/// A void extent block that may be faulty: extents, reserved bits and HDR flag vary.
+pub fn void_extent_block(r: &mut Random) -> [u8; 16] {
+    let mut block = u128::from_le_bytes(r.bytes());
+    if !r.once_in(3) {
+        block = write_by(&void_extent(r), smallest_code);
+    }
+    if r.once_in(3) {
+        block |= 0xFFF;
+    }
+    block = block & !0x1FF | 0x1FC;
+    if r.once_in(4) {
+        block ^= 1 << (9 + r.below(3));
+    }
+    if r.once_in(4) {
+        block ^= 1 << (12 + r.below(52));
+    }
+    block.to_le_bytes()
+}
+
+/// The block with some bits flipped.
+pub fn flip_bits(r: &mut Random, block: [u8; 16]) -> [u8; 16] {
+    let mut block = u128::from_le_bytes(block);
+    for _ in 0..1 + r.below(4) {
+        let bit = if r.once_in(2) { r.below(32) } else { r.below(128) };
+        block ^= 1 << bit;
+    }
+    block.to_le_bytes()
+}
+
+/// A footprint, all equally often.
+pub fn footprint(r: &mut Random) -> usize {
+    r.below(FOOTPRINTS.len())
+}

@@ -1,0 +1,48 @@
+//! Refusals of the calls, first that holds (01, "Numbers told to the caller").
+
+use crate::FOOTPRINTS;
+
+/// The one-block call: 1, 4, 5.
+pub fn block_refusal(footprint: usize, block_len: usize, out_len: usize) -> u8 {
+    if footprint > 13 {
+        return 1;
+    }
+    let (width, height) = FOOTPRINTS[footprint];
+    if block_len != 16 {
+        4
+    } else if out_len != 4 * width * height {
+        5
+    } else {
+        0
+    }
+}
+
+/// The image call: 1, 3, 4, 5.
+pub fn image_refusal(footprint: usize, width: u32, height: u32, blocks_len: usize, out_len: usize) -> u8 {
+    if footprint > 13 {
+        return 1;
+    }
+    if !(1..=4096).contains(&width) || !(1..=4096).contains(&height) {
+        return 3;
+    }
+    let (w, h) = FOOTPRINTS[footprint];
+    let (width, height) = (width as usize, height as usize);
+    if blocks_len != 16 * width.div_ceil(w) * height.div_ceil(h) {
+        4
+    } else if out_len != 4 * width * height {
+        5
+    } else {
+        0
+    }
+}
+
+/// The reader of symbolic blocks: 1, 4.
+pub fn read_refusal(footprint: usize, block_len: usize) -> u8 {
+    if footprint > 13 {
+        1
+    } else if block_len != 16 {
+        4
+    } else {
+        0
+    }
+}

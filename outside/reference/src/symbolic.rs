@@ -1,0 +1,351 @@
+//! Symbolic blocks (01's sheets): a block's fields as numbers; reading, writing, their picture.
+
+use crate::block::{Settings, bad_extents, endpoint_range, is_hdr, numbers_of_mode, parse};
+use crate::colour::{Pair, Pattern, endpoint_pair, expand, grid_factors, grid_place};
+use crate::sequence::{bit_count, pack_by, smallest_code, unpack};
+use crate::tables::{Digit, ENDPOINT_RANGES, ENDPOINTS, WEIGHT_RANGES, WEIGHTS, mode_number};
+use crate::{FOOTPRINTS, Kind};
+
+/// Numbers of the flat form.
+pub const NUMBERS: usize = 103;
+
+/// Endpoint numbers and weights as stored, in stream order.
+#[derive(Clone, Copy, PartialEq, Eq, Debug)]
+pub struct SymbolicBlock {
+    /// 1 for a void extent.
+    pub mark: u16,
+    pub colours: [u16; 4],
+    pub extents: [u16; 4],
+    pub width: u16,
+    pub height: u16,
+    pub range: u16,
+    pub planes: u16,
+    pub plane_channel: u16,
+    pub partitions: u16,
+    pub index: u16,
+    pub selector: u16,
+    pub modes: [u16; 4],
+    pub endpoints: [u16; 18],
+    pub weights: [u16; 64],
+}
+
+impl SymbolicBlock {
+    pub const ZERO: SymbolicBlock = SymbolicBlock {
+        mark: 0,
+        colours: [0; 4],
+        extents: [0; 4],
+        width: 0,
+        height: 0,
+        range: 0,
+        planes: 0,
+        plane_channel: 0,
+        partitions: 0,
+        index: 0,
+        selector: 0,
+        modes: [0; 4],
+        endpoints: [0; 18],
+        weights: [0; 64],
+    };
+
+    /// All fields in the order of their declaration.
+    pub fn to_numbers(&self) -> [u16; NUMBERS] {
+        let mut numbers = [0; NUMBERS];
+        numbers[0] = self.mark;
+        numbers[1..5].copy_from_slice(&self.colours);
+        numbers[5..9].copy_from_slice(&self.extents);
+        numbers[9..17].copy_from_slice(&[
+            self.width,
+            self.height,
+            self.range,
+            self.planes,
+            self.plane_channel,
+            self.partitions,
+            self.index,
+            self.selector,
+        ]);
+        numbers[17..21].copy_from_slice(&self.modes);
+        numbers[21..39].copy_from_slice(&self.endpoints);
+        numbers[39..103].copy_from_slice(&self.weights);
+        numbers
+    }
+
+    pub fn from_numbers(numbers: &[u16; NUMBERS]) -> SymbolicBlock {
+        let mut s = SymbolicBlock::ZERO;
+        s.mark = numbers[0];
+        s.colours.copy_from_slice(&numbers[1..5]);
+        s.extents.copy_from_slice(&numbers[5..9]);
+        [s.width, s.height, s.range, s.planes, s.plane_channel, s.partitions, s.index, s.selector] =
+            numbers[9..17].try_into().unwrap();
+        s.modes.copy_from_slice(&numbers[17..21]);
+        s.endpoints.copy_from_slice(&numbers[21..39]);
+        s.weights.copy_from_slice(&numbers[39..103]);
+        s
+    }
+
+    /// Weights of both planes.
+    pub(crate) fn weight_count(&self) -> usize {
+        self.width as usize * self.height as usize * self.planes as usize
+    }
+
+    pub(crate) fn weight_bits(&self) -> u32 {
+        bit_count(WEIGHT_RANGES[self.range as usize], self.weight_count() as u32)
+    }
+
+    fn used_modes(&self) -> &[u16] {
+        &self.modes[..self.partitions as usize]
+    }
+
+    pub(crate) fn endpoint_count(&self) -> usize {
+        self.used_modes().iter().map(|&m| numbers_of_mode(m as u8)).sum()
+    }
+
+    pub(crate) fn extra_mode_bits(&self) -> u32 {
+        if self.selector == 0 { 0 } else { 3 * self.partitions as u32 - 4 }
+    }
+
+    /// Bits left for the endpoint numbers, a count.
+    pub(crate) fn endpoint_bits(&self) -> i32 {
+        let room = if self.partitions == 1 { 111 } else { 99 };
+        let channel_bits = if self.planes == 2 { 2 } else { 0 };
+        room - self.weight_bits() as i32 - channel_bits - self.extra_mode_bits() as i32
+    }
+
+    /// Place in `ENDPOINT_RANGES`, for an acceptable symbolic block.
+    pub(crate) fn endpoint_range(&self) -> usize {
+        endpoint_range(self.endpoint_count(), self.endpoint_bits()).unwrap()
+    }
+
+    /// The largest endpoint number, for an acceptable mode block.
+    pub fn endpoint_most(&self) -> u16 {
+        ENDPOINT_RANGES[self.endpoint_range()].most
+    }
+}
+
+/// The symbolic block of a block without fault, else the fault.
+pub fn read(footprint: usize, block: &[u8; 16]) -> Result<SymbolicBlock, u8> {
+    let block = u128::from_le_bytes(*block);
+    let mut s = SymbolicBlock::ZERO;
+    match parse(footprint, block)? {
+        Settings::VoidExtent { colours, extents } => {
+            s.mark = 1;
+            s.colours = colours;
+            s.extents = extents;
+        }
+        Settings::Mode(m) => {
+            s.width = m.grid.width as u16;
+            s.height = m.grid.height as u16;
+            s.range = m.grid.range as u16;
+            s.planes = m.grid.planes as u16;
+            s.plane_channel = m.plane_channel as u16;
+            s.partitions = m.partitions as u16;
+            s.index = m.index;
+            s.selector = m.selector;
+            s.modes = m.modes.map(u16::from);
+            let endpoints = ENDPOINT_RANGES[m.endpoint_range];
+            unpack(endpoints, m.endpoint_count, block >> m.endpoint_start, |i, v| s.endpoints[i] = v);
+            let weights = WEIGHT_RANGES[m.grid.range as usize];
+            unpack(weights, m.weight_count, block.reverse_bits(), |i, v| s.weights[i] = v);
+        }
+    }
+    Ok(s)
+}
+
+/// The first refusal of a symbolic block at a footprint, 0 where it is acceptable.
+pub fn refusal(footprint: usize, s: &SymbolicBlock) -> u8 {
+    if footprint > 13 {
+        return 1;
+    }
+    match s.mark {
+        0 => mode_refusal(footprint, s),
+        1 => void_extent_refusal(s),
+        _ => 31,
+    }
+}
+
+fn void_extent_refusal(s: &SymbolicBlock) -> u8 {
+    let used = SymbolicBlock { mark: 1, colours: s.colours, extents: s.extents, ..SymbolicBlock::ZERO };
+    if *s != used || s.extents.iter().any(|&e| e > 8191) {
+        return 31;
+    }
+    if bad_extents(s.extents) { 12 } else { 0 }
+}
+
+/// Refusal 31 of a mode block: a field outside its limits, or an unused one not 0.
+fn outside_limits(s: &SymbolicBlock) -> bool {
+    if s.colours != [0; 4] || s.extents != [0; 4] {
+        return true;
+    }
+    if !(2..=12).contains(&s.width) || !(2..=12).contains(&s.height) || s.range > 11 {
+        return true;
+    }
+    if !(1..=2).contains(&s.planes) || s.plane_channel > 3 || (s.planes == 1 && s.plane_channel != 0) {
+        return true;
+    }
+    if !(1..=4).contains(&s.partitions) || s.index > 1023 || s.selector > 3 {
+        return true;
+    }
+    if s.partitions == 1 && (s.index != 0 || s.selector != 0) {
+        return true;
+    }
+    s.modes.iter().enumerate().any(|(i, &m)| m > if i < s.partitions as usize { 15 } else { 0 })
+}
+
+fn mode_refusal(footprint: usize, s: &SymbolicBlock) -> u8 {
+    if outside_limits(s) {
+        return 31;
+    }
+    if mode_number(s.width as usize, s.height as usize, s.range as usize, s.planes as usize).is_none() {
+        return 32;
+    }
+    let (width, height) = FOOTPRINTS[footprint];
+    if s.width as usize > width || s.height as usize > height {
+        return 14;
+    }
+    if s.weight_count() > 64 {
+        return 15;
+    }
+    if s.weight_bits() < 24 || s.weight_bits() > 96 {
+        return 16;
+    }
+    if s.planes == 2 && s.partitions == 4 {
+        return 17;
+    }
+    let modes = s.used_modes();
+    if s.partitions > 1 {
+        let unfit = match s.selector {
+            0 => modes.iter().any(|&m| m != modes[0]),
+            k => modes.iter().any(|&m| m / 4 != k - 1 && m / 4 != k),
+        };
+        if unfit {
+            return 33;
+        }
+    }
+    let count = s.endpoint_count();
+    if count > 18 {
+        return 18;
+    }
+    if s.endpoint_bits() < (13 * count as i32 + 4) / 5 {
+        return 19;
+    }
+    if modes.iter().any(|&m| is_hdr(m as u8)) {
+        return 20;
+    }
+    let endpoint_most = ENDPOINT_RANGES[s.endpoint_range()].most;
+    let weight_most = WEIGHT_RANGES[s.range as usize].most;
+    let above = |numbers: &[u16], used: usize, most: u16| {
+        numbers.iter().enumerate().any(|(i, &v)| v > if i < used { most } else { 0 })
+    };
+    if above(&s.endpoints, count, endpoint_most) || above(&s.weights, s.weight_count(), weight_most) {
+        return 34;
+    }
+    0
+}
+
+/// The block of a symbolic block: smallest codes, spare bits 0; else the first refusal.
+pub fn write(footprint: usize, s: &SymbolicBlock) -> Result<[u8; 16], u8> {
+    match refusal(footprint, s) {
+        0 => Ok(write_by(s, smallest_code).to_le_bytes()),
+        number => Err(number),
+    }
+}
+
+/// The block of an acceptable symbolic block; `code` picks the code of a group's present digits.
+pub(crate) fn write_by(s: &SymbolicBlock, mut code: impl FnMut(Digit, &[u8]) -> u8) -> u128 {
+    if s.mark == 1 {
+        let mut block = 0b1101_1111_1100u128;
+        for i in 0..4 {
+            block |= (s.extents[i] as u128) << (12 + 13 * i);
+            block |= (s.colours[i] as u128) << (64 + 16 * i);
+        }
+        return block;
+    }
+    let mode = mode_number(s.width as usize, s.height as usize, s.range as usize, s.planes as usize);
+    let mut block = mode.unwrap() as u128 | ((s.partitions - 1) as u128) << 11;
+
+    let weights = &s.weights[..s.weight_count()];
+    block |= pack_by(WEIGHT_RANGES[s.range as usize], weights, &mut code).reverse_bits();
+    let mut below = 128 - s.weight_bits();
+
+    let endpoint_start;
+    if s.partitions == 1 {
+        block |= (s.modes[0] as u128) << 13;
+        endpoint_start = 17;
+    } else {
+        block |= (s.index as u128) << 13 | (s.selector as u128) << 23;
+        endpoint_start = 29;
+        if s.selector == 0 {
+            block |= (s.modes[0] as u128) << 25;
+        } else {
+            let mut field = 0u128;
+            for (i, &mode) in s.used_modes().iter().enumerate() {
+                field |= (mode / 4 - (s.selector - 1)) as u128 * (1 << i);
+                field |= ((mode % 4) as u128) << (s.partitions as usize + 2 * i);
+            }
+            below -= s.extra_mode_bits();
+            block |= (field & 15) << 25 | (field >> 4) << below;
+        }
+    }
+    if s.planes == 2 {
+        below -= 2;
+        block |= (s.plane_channel as u128) << below;
+    }
+    let endpoints = &s.endpoints[..s.endpoint_count()];
+    block | pack_by(ENDPOINT_RANGES[s.endpoint_range()], endpoints, &mut code) << endpoint_start
+}
+
+/// The texel at x, y of an acceptable symbolic block, from its numbers alone.
+pub fn picture(footprint: usize, kind: Kind, s: &SymbolicBlock, x: usize, y: usize) -> [u16; 4] {
+    if s.mark == 1 {
+        return match kind {
+            Kind::Unorm16 => s.colours,
+            Kind::Srgb8 => s.colours.map(|c| c >> 8),
+        };
+    }
+    let (width, height) = FOOTPRINTS[footprint];
+    let partition = if s.partitions == 1 {
+        0
+    } else {
+        Pattern::new(s.index, s.partitions as usize, width * height < 31).partition(x, y)
+    };
+    let pair = pair_of(s, partition);
+    let planes: Vec<u32> = (0..s.planes as usize).map(|p| weight_at(footprint, s, p, x, y)).collect();
+    let mut texel = [0; 4];
+    for channel in 0..4 {
+        let second = s.planes == 2 && s.plane_channel as usize == channel;
+        let i = planes[second as usize];
+        let [c0, c1] = [0, 1].map(|e| expand(kind, channel, pair[e][channel]));
+        let c = (c0 * (64 - i) + c1 * i + 32) / 64;
+        texel[channel] = match kind {
+            Kind::Unorm16 => c as u16,
+            Kind::Srgb8 => (c / 256) as u16,
+        };
+    }
+    texel
+}
+
+/// Endpoint pair of a partition: its numbers follow those of the partitions before it.
+fn pair_of(s: &SymbolicBlock, partition: usize) -> Pair {
+    let count = |p: usize| numbers_of_mode(s.modes[p] as u8);
+    let first: usize = (0..partition).map(count).sum();
+    let range = s.endpoint_range();
+    let numbers: Vec<u8> =
+        s.endpoints[first..first + count(partition)].iter().map(|&v| ENDPOINTS[range][v as usize]).collect();
+    endpoint_pair(s.modes[partition] as u8, &numbers)
+}
+
+/// Weight of a plane at x, y. A neighbour outside the grid counts 0 and isn't read.
+fn weight_at(footprint: usize, s: &SymbolicBlock, plane: usize, x: usize, y: usize) -> u32 {
+    let (width, height) = FOOTPRINTS[footprint];
+    let (grid_width, grid_height) = (s.width as usize, s.height as usize);
+    let weight = |column: usize, row: usize| {
+        if column >= grid_width || row >= grid_height {
+            return 0;
+        }
+        let place = (row * grid_width + column) * s.planes as usize + plane;
+        WEIGHTS[s.range as usize][s.weights[place] as usize] as u32
+    };
+    let (js, fs) = grid_place(width, grid_width, x);
+    let (jt, ft) = grid_place(height, grid_height, y);
+    let [w00, w01, w10, w11] = grid_factors(fs, ft);
+    (weight(js, jt) * w00 + weight(js + 1, jt) * w01 + weight(js, jt + 1) * w10 + weight(js + 1, jt + 1) * w11 + 8) >> 4
+}

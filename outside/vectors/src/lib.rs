@@ -1,0 +1,222 @@
+//! Blocks and what astcenc shows of them. README.md tells how its output relates to 01's kinds.
+
+/// Width and height of the footprints in 01's order.
+#[rustfmt::skip]
+const FOOTPRINTS: [(usize, usize); 14] = [
+    (4, 4), (5, 4), (5, 5), (6, 5), (6, 6), (8, 5), (8, 6), (8, 8),
+    (10, 5), (10, 6), (10, 8), (10, 10), (12, 10), (12, 12),
+];
+
+/// A one-block call: footprint, block, texels; answers the fault.
+pub type Call<T> = dyn Fn(usize, &[u8; 16], &mut [T]) -> u8;
+
+/// A decoder to check.
+pub struct Decoder<'a> {
+    /// Kind 0.
+    pub unorm16: &'a Call<u16>,
+    /// Kind 1.
+    pub srgb8: &'a Call<u8>,
+    /// False: alpha of kind 1 is the top byte of 257c interpolated (01).
+    /// True: alpha widens like the colours (request d), as in astcenc.
+    pub alpha_like_colours: bool,
+}
+
+/// The stored files.
+pub struct Files<'a> {
+    /// Footprint, block, then for each texel four half floats and four sRGB bytes.
+    pub texels: &'a [u8],
+    /// Footprint, block, CRC-32 of all half floats, CRC-32 of all sRGB bytes.
+    pub digests: &'a [u8],
+    /// Footprint, block: the error colour in all texels, in every decoding.
+    pub illegal: &'a [u8],
+    /// Footprint, block: HDR, so wholly or partly the error colour in LDR decodings only.
+    pub hdr: &'a [u8],
+}
+
+/// The files beside this crate.
+pub const STORED: Files<'static> = Files {
+    texels: include_bytes!("../data/texels.bin"),
+    digests: include_bytes!("../data/digests.bin"),
+    illegal: include_bytes!("../data/illegal.bin"),
+    hdr: include_bytes!("../data/hdr.bin"),
+};
+
+/// What a check found.
+#[derive(Default, Debug)]
+pub struct Outcome {
+    /// Blocks of each file that agree: texels, digests, illegal, hdr.
+    pub passed: [u64; 4],
+    /// Those that don't, described.
+    pub failed: Vec<String>,
+}
+
+/// The half float that astcenc shows for a kind 0 number: 1.0 for 65535, else c / 65536
+/// rounded towards zero (000, "Weight Application").
+pub fn half_float(c: u16) -> u16 {
+    if c == 65535 {
+        return 0x3C00;
+    }
+    if c == 0 {
+        return 0;
+    }
+    let top = 15 - c.leading_zeros();
+    if top < 2 {
+        // Below 2^-14: subnormal, in steps of 2^-24.
+        return c << 8;
+    }
+    // Ten bits below the top one; c / 65536 lies from 2^(top - 16) on.
+    let mantissa = ((c as u32) << 10 >> top) & 0x3FF;
+    ((top + 15 - 16) << 10 | mantissa) as u16
+}
+
+/// astcenc's sRGB alpha of a mode block from the kind 0 number c = floor((257 s + 32) / 64):
+/// the number s = c0 (64 - i) + c1 i is found again and rounded to a byte.
+pub fn srgb_alpha(c: u16) -> u8 {
+    let s = (64 * c as u32).saturating_sub(32).div_ceil(257);
+    ((s + 32) / 64) as u8
+}
+
+/// CRC-32 as zlib computes it.
+pub fn crc32(bytes: &[u8]) -> u32 {
+    const TABLE: [u32; 256] = {
+        let mut table = [0; 256];
+        let mut i = 0;
+        while i < 256 {
+            let (mut c, mut k) = (i as u32, 0);
+            while k < 8 {
+                c = c >> 1 ^ if c & 1 == 1 { 0xEDB88320 } else { 0 };
+                k += 1;
+            }
+            table[i] = c;
+            i += 1;
+        }
+        table
+    };
+    !bytes.iter().fold(!0, |c, &b| c >> 8 ^ TABLE[(c as u8 ^ b) as usize])
+}
+
+/// Fault, half floats (little-endian) and sRGB bytes that astcenc must show if the decoder is right;
+/// 255 where its two kinds contradict each other.
+fn as_astcenc(decoder: &Decoder, footprint: usize, block: &[u8; 16]) -> (u8, Vec<u8>, Vec<u8>) {
+    let (width, height) = FOOTPRINTS[footprint];
+    let mut numbers = vec![0; 4 * width * height];
+    let mut bytes = vec![0; 4 * width * height];
+    let fault = (decoder.unorm16)(footprint, block, &mut numbers);
+    let other = (decoder.srgb8)(footprint, block, &mut bytes);
+    if other != fault {
+        return (255, Vec::new(), Vec::new());
+    }
+    let void_extent = block[0] == 0xFC && block[1] & 1 == 1;
+    if !void_extent && !decoder.alpha_like_colours {
+        for (texel, number) in bytes.chunks_mut(4).zip(numbers.chunks(4)) {
+            if texel[3] != (number[3] >> 8) as u8 {
+                return (255, Vec::new(), Vec::new());
+            }
+            texel[3] = srgb_alpha(number[3]);
+        }
+    }
+    let halves = numbers.iter().flat_map(|&c| half_float(c).to_le_bytes()).collect();
+    (fault, halves, bytes)
+}
+
+/// All texels the error colour, and the fault one of these.
+fn is_error(decoder: &Decoder, footprint: usize, block: &[u8; 16], faults: &[u8]) -> bool {
+    let (width, height) = FOOTPRINTS[footprint];
+    let mut numbers = vec![0; 4 * width * height];
+    let mut bytes = vec![0; 4 * width * height];
+    let fault = (decoder.unorm16)(footprint, block, &mut numbers);
+    fault == (decoder.srgb8)(footprint, block, &mut bytes)
+        && faults.contains(&fault)
+        && numbers.chunks(4).all(|t| t == [65535, 0, 65535, 65535])
+        && bytes.chunks(4).all(|t| t == [255, 0, 255, 255])
+}
+
+fn record<'a>(file: &mut &'a [u8], len: usize) -> &'a [u8] {
+    let (head, rest) = file.split_at(len);
+    *file = rest;
+    head
+}
+
+/// Checks a decoder against the files.
+pub fn check(decoder: &Decoder, files: &Files) -> Outcome {
+    let mut outcome = Outcome::default();
+    let mut note = |file: usize, what: &str, footprint: usize, block: &[u8; 16], agrees: bool| {
+        if agrees {
+            outcome.passed[file] += 1;
+        } else {
+            let (w, h) = FOOTPRINTS[footprint];
+            outcome.failed.push(format!("{what}: footprint {footprint} ({w}x{h}), block {block:02X?}"));
+        }
+    };
+    let head =
+        |file: &mut &[u8]| -> (usize, [u8; 16]) { (record(file, 1)[0] as usize, record(file, 16).try_into().unwrap()) };
+    let mut file = files.texels;
+    while !file.is_empty() {
+        let (footprint, block) = head(&mut file);
+        let (width, height) = FOOTPRINTS[footprint];
+        let (fault, halves, bytes) = as_astcenc(decoder, footprint, &block);
+        let expected_halves = record(&mut file, 8 * width * height);
+        let expected_bytes = record(&mut file, 4 * width * height);
+        note(0, "texels", footprint, &block, fault == 0 && halves == expected_halves && bytes == expected_bytes);
+    }
+    let mut file = files.digests;
+    while !file.is_empty() {
+        let (footprint, block) = head(&mut file);
+        let (fault, halves, bytes) = as_astcenc(decoder, footprint, &block);
+        let mut digest = || u32::from_le_bytes(record(&mut file, 4).try_into().unwrap());
+        let (expected_halves, expected_bytes) = (digest(), digest());
+        let agrees = fault == 0 && crc32(&halves) == expected_halves && crc32(&bytes) == expected_bytes;
+        note(1, "digest", footprint, &block, agrees);
+    }
+    let mut file = files.illegal;
+    while !file.is_empty() {
+        let (footprint, block) = head(&mut file);
+        let agrees = is_error(decoder, footprint, &block, &[11, 12, 14, 15, 16, 17, 18, 19]);
+        note(2, "illegal", footprint, &block, agrees);
+    }
+    let mut file = files.hdr;
+    while !file.is_empty() {
+        let (footprint, block) = head(&mut file);
+        note(3, "HDR", footprint, &block, is_error(decoder, footprint, &block, &[13, 20]));
+    }
+    outcome
+}
+
+#[cfg(test)]
+mod tests {
+    use super::*;
+
+    #[test]
+    fn half_floats() {
+        for c in 0..65535u16 {
+            let half = half_float(c) as u32;
+            let value = |half: u32| {
+                let (exponent, mantissa) = (half >> 10, half & 0x3FF);
+                if exponent == 0 {
+                    mantissa as f64 / 2f64.powi(24)
+                } else {
+                    (1024 + mantissa) as f64 * 2f64.powi(exponent as i32 - 25)
+                }
+            };
+            let exact = c as f64 / 65536.0;
+            assert!(value(half) <= exact && exact < value(half + 1), "{c}");
+        }
+        assert_eq!(half_float(65535), 0x3C00);
+        assert_eq!(half_float(21504), 0x3540);
+    }
+
+    #[test]
+    fn alphas() {
+        for s in 0..=255 * 64 {
+            let c = (257 * s + 32) / 64;
+            assert_eq!(srgb_alpha(c as u16) as u32, (s + 32) / 64);
+            // The rule with 256 c + 128 for alpha: the same.
+            assert_eq!((256 * s + 128 * 64 + 32) / 64 / 256, (s + 32) / 64);
+        }
+    }
+
+    #[test]
+    fn crc() {
+        assert_eq!(crc32(b"123456789"), 0xCBF43926);
+    }
+}
