@@ -1,0 +1,22 @@
+use Rattle.symbolic_block.specs.Refusals.{badColours, badExtentFields}
+use Rattle.symbolic_refusal.specs.Stages.{badShown}
+use borrow.Author.Needs.{needs}
+use Rattle.symbolic_refusal.proofs.bad_shown.Statement.{statement}
+use Rattle.symbolic_refusal.proofs.bad_shown.Tie as tie
+
+four-within-requires : tie.Need-four-within-requires
+four-within-requires c κs = search needs
+
+four-within-requires-2 : tie.Need-four-within-requires-2
+four-within-requires-2 c κs = search needs
+
+either-requires : tie.Need-either-requires
+either-requires c κs = search needs
+
+returns : tie.Need-returns
+unfolding badShown badColours badExtentFields
+returns c = rw (c .either .ensures, c .before .four-within2 .ensures, c .before .before .four-within .ensures)
+
+pub bad-shown-spec : {M : Type 1} → statement M
+bad-shown-spec =
+    tie.close (tie.spec four-within-requires four-within-requires-2 either-requires returns)

@@ -1,0 +1,396 @@
+// The first refusal of a symbolic block (01: sheet). 01, "Refusals of a sheet, in order".
+use block_header::Header;
+use block_mode::ModeBits;
+use block_mode::WeightGrid;
+use encoding::Stored;
+use symbolic_block::SymbolicBlock;
+ghost use mathlib.Core.Path.{_≡_};
+ghost use mathlib.Core.List.{[]};
+ghost use lib.ListN.{getD};
+ghost use Rattle.laws.specs.Choice.{pick, both, either};
+ghost use Rattle.block_header.specs.Reasons.{firstOf, gridReasons};
+ghost use Rattle.block_fault.specs.Faults.{badExtents};
+ghost use Rattle.symbolic_block.specs.Fields.{gridOf, headerOf, numberIn};
+ghost use Rattle.symbolic_block.specs.Refusals.{unknownFootprint, outside, within, noBlockMode, misfit, modesMisfit, badComponent, badIndex, badSelector, badEndpoints, badWeights, modeRefusals, voidRefusals, refusalOf};
+ghost use Rattle.symbolic_refusal.specs.Stages.{orElse, badGrid, badPartitioning, badLists, badFields, badShown, gridInUse, partitioningInUse, numbersInUse, badVoidFields, fieldReasons};
+
+fn both(a: bool, b: bool) -> bool
+    ensures { λ r. ⌜ r ≡ both a b ⌝ }
+{
+    if a { b } else { false }
+}
+
+fn either(a: bool, b: bool) -> bool
+    ensures { λ r. ⌜ r ≡ either a b ⌝ }
+{
+    if a { true } else { b }
+}
+
+// The number of a reason that holds, 0 where it does not.
+fn told(holds: bool, number: u8) -> u8
+    ensures { λ r. ⌜ r ≡ pick holds number 0 ⌝ }
+{
+    if holds { number } else { 0 }
+}
+
+// The first of two told numbers.
+fn first(a: u8, b: u8) -> u8
+    ensures { λ r. ⌜ r ≡ orElse a b ⌝ }
+{
+    if a == 0 { b } else { a }
+}
+
+fn wide(x: u8) -> u16
+    ensures { λ r. ⌜ r ≡ x ⌝ }
+{
+    x as u16
+}
+
+// 1
+fn unknown_footprint(fp: u8) -> bool
+    ensures { λ r. ⌜ r ≡ unknownFootprint fp ⌝ }
+{
+    13 < fp
+}
+
+fn outside(low: u8, high: u8, x: u8) -> bool
+    ensures { λ r. ⌜ r ≡ outside low high x ⌝ }
+{
+    either(x < low, high < x)
+}
+
+// What a field may be at most by a test.
+fn most_by(test: bool, yes: u16, no: u16) -> u16
+    ensures { λ r. ⌜ r ≡ pick test yes no ⌝ }
+{
+    if test { yes } else { no }
+}
+
+// ---- lists: the first n numbers are at most `most`, the others 0
+
+fn four_within(xs: [u16; 4], n: usize, most: u16) -> bool
+    ensures { λ r. ⌜ r ≡ within 4 n most (λ k. getD xs k 0) ⌝ }
+{
+    let mut ok = true;
+    let mut i: usize = 0;
+    while i < 4 {
+        ok = both(xs[i] <= most_by(i < n, most, 0), ok);
+        i += 1;
+    }
+    ok
+}
+
+fn modes_within(modes: [u8; 4], n: usize, most: u16) -> bool
+    ensures { λ r. ⌜ r ≡ within 4 n most (λ k. getD modes k 0) ⌝ }
+{
+    let m0 = wide(modes[0]);
+    let m1 = wide(modes[1]);
+    let m2 = wide(modes[2]);
+    let m3 = wide(modes[3]);
+    four_within([m0, m1, m2, m3], n, most)
+}
+
+fn endpoints_within(xs: [Stored; 18], n: usize, most: u16) -> bool
+    ensures { λ r. ⌜ r ≡ within 18 n most (numberIn xs) ⌝ }
+{
+    let mut ok = true;
+    let mut i: usize = 0;
+    while i < 18 {
+        let x = xs[i];
+        ok = both(wide(x.0) <= most_by(i < n, most, 0), ok);
+        i += 1;
+    }
+    ok
+}
+
+fn weights_within(xs: [Stored; 64], n: usize, most: u16) -> bool
+    ensures { λ r. ⌜ r ≡ within 64 n most (numberIn xs) ⌝ }
+{
+    let mut ok = true;
+    let mut i: usize = 0;
+    while i < 64 {
+        let x = xs[i];
+        ok = both(wide(x.0) <= most_by(i < n, most, 0), ok);
+        i += 1;
+    }
+    ok
+}
+
+// ---- 31 of a mode sheet
+
+fn bad_grid(s: SymbolicBlock) -> bool
+    ensures { λ r. ⌜ r ≡ badGrid s ⌝ }
+{
+    let width = outside(2, 12, s.width);
+    let height = outside(2, 12, s.height);
+    let planes = outside(1, 2, s.planes);
+    either(width, either(height, either(11 < s.range, planes)))
+}
+
+fn bad_component(s: SymbolicBlock) -> bool
+    ensures { λ r. ⌜ r ≡ badComponent s ⌝ }
+{
+    most_by(s.planes == 2, 3, 0) < wide(s.component)
+}
+
+fn bad_index(s: SymbolicBlock) -> bool
+    ensures { λ r. ⌜ r ≡ badIndex s ⌝ }
+{
+    most_by(s.partitions == 1, 0, 1023) < s.index
+}
+
+fn bad_selector(s: SymbolicBlock) -> bool
+    ensures { λ r. ⌜ r ≡ badSelector s ⌝ }
+{
+    most_by(s.partitions == 1, 0, 3) < wide(s.selector)
+}
+
+fn bad_partitioning(s: SymbolicBlock) -> bool
+    ensures { λ r. ⌜ r ≡ badPartitioning s ⌝ }
+{
+    let partitions = outside(1, 4, s.partitions);
+    let index = bad_index(s);
+    let selector = bad_selector(s);
+    either(
+        bad_component(s),
+        either(partitions, either(index, selector)),
+    )
+}
+
+fn bad_lists(s: SymbolicBlock) -> bool
+    ensures { λ r. ⌜ r ≡ badLists s ⌝ }
+{
+    let m = s.modes;
+    let c = s.colours;
+    let e = s.extents;
+    let modes = modes_within(m, s.partitions as usize, 15);
+    let colours = four_within(c, 0, 0);
+    let extents = four_within(e, 0, 0);
+    either(!modes, either(!colours, !extents))
+}
+
+fn bad_fields(s: SymbolicBlock) -> bool
+    ensures { λ r. ⌜ r ≡ badFields s ⌝ }
+{
+    let grid = bad_grid(s);
+    let partitioning = bad_partitioning(s);
+    let lists = bad_lists(s);
+    either(1 < s.mark, either(grid, either(partitioning, lists)))
+}
+
+// ---- the settings
+
+fn grid_of(s: SymbolicBlock) -> WeightGrid
+    ensures { λ r. ⌜ r ≡ gridOf s ⌝ }
+{
+    WeightGrid {
+        width: s.width,
+        height: s.height,
+        range: s.range,
+        planes: s.planes,
+    }
+}
+
+fn header_of(s: SymbolicBlock) -> Header
+    ensures { λ r. ⌜ r ≡ headerOf s ⌝ }
+{
+    let grid = grid_of(s);
+    let modes = s.modes;
+    Header {
+        grid,
+        component: s.component,
+        partitions: s.partitions,
+        index: s.index,
+        selector: s.selector,
+        modes,
+    }
+}
+
+// 32
+fn no_block_mode(g: WeightGrid) -> bool
+    ensures { λ r. ⌜ r ≡ noBlockMode g ⌝ }
+{
+    let bits = block_mode::mode_bits(g);
+    match bits {
+        ModeBits::Mode(_) => false,
+        ModeBits::NoMode => true,
+    }
+}
+
+// 1, 31 and 32
+fn field_refusal(fp: u8, s: SymbolicBlock) -> u8
+    ensures { λ r. ⌜ r ≡ firstOf (fieldReasons fp s) ⌝ }
+{
+    let footprint = told(unknown_footprint(fp), 1);
+    let fields = told(bad_fields(s), 31);
+    let mode = told(no_block_mode(grid_of(s)), 32);
+    first(footprint, first(fields, mode))
+}
+
+// 14 to 17
+fn grid_refusal(fp: u8, h: Header) -> u8
+    ensures { λ r. ⌜ r ≡ firstOf (gridReasons fp h []) ⌝ }
+{
+    let g = h.grid;
+    let grid = block_header::grid_fault(fp, g);
+    let planes = told(both(g.planes == 2, h.partitions == 4), 17);
+    first(grid, planes)
+}
+
+// ---- 33
+
+// The mode of partition p, 0 past the fourth.
+fn mode_at(modes: [u8; 4], p: usize) -> u8
+    ensures { λ r. ⌜ r ≡ getD modes p 0 ⌝ }
+{
+    if p < 4 { modes[p] } else { 0 }
+}
+
+fn misfit(selector: u8, start: u8, mode: u8) -> bool
+    ensures { λ r. ⌜ r ≡ misfit selector start mode ⌝ }
+{
+    if selector == 0 {
+        return mode != start;
+    }
+    let class = mode / 4;
+    !either(class == selector - 1, class == selector)
+}
+
+fn modes_misfit(h: Header) -> bool
+    ensures { λ r. ⌜ r ≡ modesMisfit h ⌝ }
+{
+    let modes = h.modes;
+    let count = h.partitions as usize;
+    let mut bad = false;
+    let mut p: usize = 0;
+    while p < count {
+        bad = either(
+            misfit(h.selector, mode_at(modes, 0), mode_at(modes, p)),
+            bad,
+        );
+        p += 1;
+    }
+    both(1 < h.partitions, bad)
+}
+
+// ---- 34
+
+fn bad_endpoints(s: SymbolicBlock) -> bool
+    ensures { λ r. ⌜ r ≡ badEndpoints s ⌝ }
+{
+    let h = header_of(s);
+    let count = block_header::endpoint_count(h) as usize;
+    let most = wide(quantization::most_at(block_header::endpoint_range_of(h)));
+    let e = s.endpoints;
+    !endpoints_within(e, count, most)
+}
+
+fn bad_weights(s: SymbolicBlock) -> bool
+    ensures { λ r. ⌜ r ≡ badWeights s ⌝ }
+{
+    let count = block_header::weight_count(grid_of(s)) as usize;
+    let most = wide(quantization::most_at(s.range));
+    let w = s.weights;
+    !weights_within(w, count, most)
+}
+
+// "1; 31; 32; 14 to 17; 33; 18; 19; 20; 34"
+fn mode_refusal(fp: u8, s: SymbolicBlock) -> u8
+    ensures { λ r. ⌜ r ≡ firstOf (modeRefusals fp s) ⌝ }
+{
+    let h = header_of(s);
+    let fields = field_refusal(fp, s);
+    let grid = grid_refusal(fp, h);
+    let modes = told(modes_misfit(h), 33);
+    let ends = block_header::endpoint_fault(h);
+    let numbers = told(either(bad_endpoints(s), bad_weights(s)), 34);
+    first(fields, first(grid, first(modes, first(ends, numbers))))
+}
+
+// ---- void extents
+
+fn bad_shown(s: SymbolicBlock) -> bool
+    ensures { λ r. ⌜ r ≡ badShown s ⌝ }
+{
+    let c = s.colours;
+    let e = s.extents;
+    let colours = four_within(c, 4, 65535);
+    let extents = four_within(e, 4, 8191);
+    either(!colours, !extents)
+}
+
+fn grid_in_use(s: SymbolicBlock) -> bool
+    ensures { λ r. ⌜ r ≡ gridInUse s ⌝ }
+{
+    either(
+        0 < s.width,
+        either(0 < s.height, either(0 < s.range, 0 < s.planes)),
+    )
+}
+
+fn partitioning_in_use(s: SymbolicBlock) -> bool
+    ensures { λ r. ⌜ r ≡ partitioningInUse s ⌝ }
+{
+    either(
+        0 < s.component,
+        either(0 < s.partitions, either(0 < s.index, 0 < s.selector)),
+    )
+}
+
+fn numbers_in_use(s: SymbolicBlock) -> bool
+    ensures { λ r. ⌜ r ≡ numbersInUse s ⌝ }
+{
+    let m = s.modes;
+    let e = s.endpoints;
+    let w = s.weights;
+    let modes = modes_within(m, 0, 0);
+    let endpoints = endpoints_within(e, 0, 0);
+    let weights = weights_within(w, 0, 0);
+    either(!modes, either(!endpoints, !weights))
+}
+
+fn bad_void_fields(s: SymbolicBlock) -> bool
+    ensures { λ r. ⌜ r ≡ badVoidFields s ⌝ }
+{
+    let shown = bad_shown(s);
+    let grid = grid_in_use(s);
+    let partitioning = partitioning_in_use(s);
+    let numbers = numbers_in_use(s);
+    either(shown, either(grid, either(partitioning, numbers)))
+}
+
+// 12
+fn bad_extents(e: [u16; 4]) -> bool
+    ensures { λ r. ⌜ r ≡ badExtents (λ k. getD e k 0) ⌝ }
+{
+    let s0 = e[0];
+    let s1 = e[1];
+    let t0 = e[2];
+    let t1 = e[3];
+    let ones = both(
+        t1 == 8191,
+        both(t0 == 8191, both(s1 == 8191, both(s0 == 8191, true))),
+    );
+    !either(ones, both(s0 < s1, t0 < t1))
+}
+
+// "A solid sheet is refused by 1, 31, 12 only, 31 also for any unused number."
+fn void_refusal(fp: u8, s: SymbolicBlock) -> u8
+    ensures { λ r. ⌜ r ≡ firstOf (voidRefusals fp s) ⌝ }
+{
+    let footprint = told(unknown_footprint(fp), 1);
+    let fields = told(bad_void_fields(s), 31);
+    let e = s.extents;
+    let extents = told(bad_extents(e), 12);
+    first(footprint, first(fields, extents))
+}
+
+// The refusal of a symbolic block at a footprint, 0 for none.
+pub fn refusal(fp: u8, s: SymbolicBlock) -> u8
+    ensures { λ r. ⌜ r ≡ refusalOf fp s ⌝ }
+{
+    if s.mark == 1 {
+        return void_refusal(fp, s);
+    }
+    mode_refusal(fp, s)
+}

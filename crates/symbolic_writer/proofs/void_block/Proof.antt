@@ -1,0 +1,33 @@
+use mathlib.Core.Path.{_≡_, refl}
+use Rattle.bits.specs.Block.{blockNumber}
+use mathlib.Core.Path.{refl}
+use Rattle.symbolic_writer.proofs.Piled.{appended}
+use Rattle.symbolic_block.specs.Writing.{voidCells}
+use Rattle.symbolic_writer.specs.Piled.{withValue, piled}
+use borrow.Author.Needs.{needs}
+use Rattle.symbolic_writer.proofs.void_block.Statement.{statement}
+use Rattle.symbolic_writer.proofs.void_block.Tie as tie
+
+no-bits-requires : tie.Need-no-bits-requires
+no-bits-requires c κs = search needs
+
+append-requires : tie.Need-append-requires
+append-requires c κs = search needs
+
+with-extents-requires : tie.Need-with-extents-requires
+with-extents-requires c κs = search needs
+
+with-colours-requires : tie.Need-with-colours-requires
+with-colours-requires c κs = search needs
+
+returns : tie.Need-returns
+unfolding piled voidCells
+returns c =
+    let e : blockNumber (c .before .before .append .result) ≡ withValue 0 0 0b110111111100 =
+    appended {p = 0} {v = 0b110111111100} (c .before .before .append .ensures) refl (c .before .before .before .no-bits .ensures) refl in
+    rw (c .with-colours .ensures, c .before .with-extents .ensures, e)
+
+pub void-block-spec : {M : Type 1} → statement M
+void-block-spec =
+    tie.close
+    (tie.spec no-bits-requires append-requires with-extents-requires with-colours-requires returns)

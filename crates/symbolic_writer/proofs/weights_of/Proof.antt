@@ -1,0 +1,62 @@
+use lib.ListN.{length, length-map}
+use mathlib.Core.Path.{_≡_, ap, _∙_}
+use Rattle.block_header.specs.Counts.{weightCount}
+use Rattle.symbolic_block.specs.Fields.{gridOf}
+use native.Mathlib.Omega.{arith}
+use Rattle.symbolic_writer.proofs.Parts.{weight-steps}
+use borrow.Author.Needs.{needs}
+use Rattle.symbolic_writer.proofs.weights_of.Statement.{statement}
+use Rattle.symbolic_writer.proofs.weights_of.Tie as tie
+
+grid-of-requires : tie.Need-grid-of-requires
+grid-of-requires c κs = search needs
+
+weight-count-requires : tie.Need-weight-count-requires
+weight-count-requires c κs = search needs
+
+long-enough : (c : tie.Start) → length (c .args .s .weights) ≡ 64
+long-enough c = simp length-map at (c .good .0 .1 .1 .1 .1 .1 .1 .1 .1 .1 .1 .1 .1 .1 .1 .1 .0 .1 .0 .1)
+
+cast-n : tie.Need-cast-n
+cast-n c =
+    let s = c .before .before .before .args .s in
+    let e : c .weight-count .result ≡ weightCount (gridOf s) = c .weight-count .ensures .0 ∙ ap weightCount (c .before .before .grid-of .ensures) in
+    omega (arith, c .before .before .before .pre .weights-most)
+
+no-bits-requires : tie.Need-no-bits-requires
+no-bits-requires c κs = search needs
+
+write-sequence-requires : tie.Need-write-sequence-requires
+write-sequence-requires c κs = search needs
+
+reversed-requires : tie.Need-reversed-requires
+reversed-requires c κs = search needs
+
+weights-from-requires : tie.Need-weights-from-requires
+weights-from-requires c κs = search needs
+
+weight-bits-requires : tie.Need-weight-bits-requires
+weight-bits-requires c κs = search needs
+
+part-requires : tie.Need-part-requires
+part-requires c κs = search needs
+
+returns : tie.Need-returns
+returns c =
+    weight-steps (c .before .before .before .before .before .before .before .before .before .args .s) (c .before .before .before .before .before .before .before .before .before .pre) (long-enough (c .before .before .before .before .before .before .before .before .before)) _ (c .before .before .before .before .before .before .before .before .grid-of .ensures) (c .before .before .before .before .before .before .weight-count .ensures .0) (c .before .before .before .before .write-sequence .ensures)
+    (c .before .before .before .reversed .ensures) (c .before .before .weights-from .ensures .0) (c .before .weight-bits .ensures .0) (c .part .ensures)
+
+pub weights-of-spec : {M : Type 1} → statement M
+weights-of-spec =
+    tie.close
+    (tie.spec
+    grid-of-requires
+    weight-count-requires
+    cast-n
+    no-bits-requires
+    write-sequence-requires
+    reversed-requires
+    weights-from-requires
+    weight-bits-requires
+    part-requires
+    returns)

@@ -1,0 +1,281 @@
+// An acceptable symbolic block (01: sheet) packed into the 128 bits of a block, part by part from bit 0 upwards.
+use bits::PhysicalBlock;
+use block_header::Header;
+use block_mode::ModeBits;
+use block_mode::WeightGrid;
+use encoding::Stored;
+use symbolic_block::SymbolicBlock;
+ghost use mathlib.Core.Path.{_≡_};
+ghost use Prim.Native.Nat.{_-_, _^_, _≤_};
+ghost use lib.ListN.{getD, take};
+ghost use Rattle.laws.specs.Table.{tab, padded};
+ghost use Rattle.bits.specs.Field.{reverse};
+ghost use Rattle.bits.specs.Block.{blockNumber};
+ghost use Rattle.integer_sequence.specs.Reading.{stored};
+ghost use Rattle.block_mode.specs.Back2D.{modeBits};
+ghost use Rattle.block_header.specs.Counts.{weightBits, extraBits};
+ghost use Rattle.block_fault.specs.Bits.{endpointsFrom};
+ghost use Rattle.symbolic_block.specs.Fields.{gridOf, headerOf};
+ghost use Rattle.symbolic_block.specs.Refusals.{refusalOf};
+ghost use Rattle.symbolic_block.specs.Writing.{modeNumber, classBit, modesCode, endpointStream, weightStream, endpointsEnd, componentFrom, modeCells, voidCells, blockOf};
+ghost use Rattle.symbolic_writer.specs.Piled.{withValue, piled, Packable};
+
+fn wide(x: u8) -> u64
+    ensures { λ r. ⌜ (r ≡ x) × (r ≤ 255) ⌝ }
+{
+    x as u64
+}
+
+fn wide16(x: u16) -> u64
+    ensures { λ r. ⌜ r ≡ x ⌝ }
+{
+    x as u64
+}
+
+fn no_bits() -> PhysicalBlock
+    ensures { λ r. ⌜ blockNumber r ≡ 0 ⌝ }
+{
+    PhysicalBlock { lo: 0, hi: 0 }
+}
+
+fn grid_of(s: SymbolicBlock) -> WeightGrid
+    ensures { λ r. ⌜ r ≡ gridOf s ⌝ }
+{
+    WeightGrid {
+        width: s.width,
+        height: s.height,
+        range: s.range,
+        planes: s.planes,
+    }
+}
+
+// The settings of a mode sheet.
+fn header_of(s: SymbolicBlock) -> Header
+    ensures { λ r. ⌜ r ≡ headerOf s ⌝ }
+{
+    let grid = grid_of(s);
+    let modes = s.modes;
+    Header {
+        grid,
+        component: s.component,
+        partitions: s.partitions,
+        index: s.index,
+        selector: s.selector,
+        modes,
+    }
+}
+
+// The bits of the block mode; 0 where there is none.
+fn mode_number(g: WeightGrid) -> u64
+    ensures { λ r. ⌜ r ≡ modeNumber (modeBits g) ⌝ }
+{
+    let m = block_mode::mode_bits(g);
+    match m {
+        ModeBits::Mode(bits) => wide16(bits),
+        ModeBits::NoMode => 0,
+    }
+}
+
+fn power(i: u32) -> u64
+    requires { ⌜ i ≤ 8 ⌝ }
+    ensures { λ r. ⌜ (r ≡ 2 ^ i) × (r ≤ 256) ⌝ }
+{
+    1 << i
+}
+
+// Whether a mode's class is the selector's own and not the one before.
+fn class_bit(selector: u8, mode: u64) -> u64
+    requires { ⌜ mode ≤ 255 ⌝ }
+    ensures { λ r. ⌜ (r ≡ classBit selector mode) × (r ≤ 1) ⌝ }
+{
+    let before = quantization::bits_left(selector as u32, 1);
+    (quantization::bits_left((mode / 4) as u32, before) % 2) as u64
+}
+
+// All endpoint modes as one number: first one class bit for each partition, then two mode bits for each.
+fn modes_code(h: Header) -> u64
+    requires { ⌜ h .partitions ≤ 4 ⌝ }
+    ensures { λ r. ⌜ r ≡ modesCode h ⌝ }
+{
+    let modes = h.modes;
+    let selector = h.selector;
+    if selector == 0 {
+        return wide(modes[0]);
+    }
+    let count = h.partitions as u32;
+    let mut classes: u64 = 0;
+    let mut lows: u64 = 0;
+    let mut i: u32 = 0;
+    while i < count {
+        let m = wide(modes[i as usize]);
+        classes = class_bit(selector, m) * power(i) + classes;
+        lows = (m % 4) * power(2 * i) + lows;
+        i += 1;
+    }
+    lows * power(count) + classes
+}
+
+// The bit where the endpoint numbers begin.
+fn endpoints_from(partitions: u8) -> u8
+    ensures { λ r. ⌜ (r ≡ endpointsFrom partitions) × (r ≤ 29) ⌝ }
+{
+    if partitions == 1 { 17 } else { 29 }
+}
+
+// The bit where they end.
+fn endpoints_end(h: Header) -> u32
+    ensures { λ r. ⌜ r ≡ endpointsEnd h ⌝ }
+{
+    let n = block_header::endpoint_count(h);
+    let range = block_header::endpoint_range_of(h);
+    endpoints_from(h.partitions) as u32 + quantization::range_bits(range, n) as u32
+}
+
+// The bit where the weights begin, which run down to it from bit 127.
+fn weights_from(g: WeightGrid) -> u32
+    ensures { λ r. ⌜ (r ≡ 128 - weightBits g) × (r ≤ 128) ⌝ }
+{
+    quantization::bits_left(128, block_header::weight_bits(g))
+}
+
+// The bit where the extra mode bits begin.
+fn extra_from(h: Header) -> u32
+    ensures { λ r. ⌜ r ≡ 128 - weightBits (h .grid) - extraBits (h .partitions) (h .selector) ⌝ }
+{
+    let g = h.grid;
+    quantization::bits_left(
+        weights_from(g),
+        block_header::extra_bits(h.partitions, h.selector),
+    )
+}
+
+// The bit where the component selector (01: plane channel) begins.
+fn component_from(h: Header) -> u32
+    ensures { λ r. ⌜ r ≡ componentFrom h ⌝ }
+{
+    let g = h.grid;
+    quantization::bits_left(extra_from(h), block_header::component_bits(g.planes))
+}
+
+fn no_numbers() -> [Stored; 64]
+    ensures { λ r. ⌜ r ≡ tab (λ k. stored 0) 64 ⌝ }
+{
+    [Stored(0); 64]
+}
+
+// The endpoint numbers in a list of 64.
+fn lengthened(xs: [Stored; 18]) -> [Stored; 64]
+    ensures { λ r. ⌜ r ≡ padded 64 18 (λ i. getD xs i (stored 0)) (stored 0) ⌝ }
+{
+    let mut out = no_numbers();
+    let mut i: usize = 0;
+    while i < 18 {
+        let x = xs[i];
+        out[i] = x;
+        i += 1;
+    }
+    out
+}
+
+// A block's bits below bit p, and from there on those of another block.
+fn with_block(b: PhysicalBlock, p: u32, t: PhysicalBlock) -> PhysicalBlock
+    requires { ⌜ p ≤ 128 ⌝ }
+    ensures { λ r. ⌜ blockNumber r ≡ withValue (blockNumber b) p (blockNumber t) ⌝ }
+{
+    bits::append(bits::append(b, p, t.lo), p + 64, t.hi)
+}
+
+// The block mode, the partitions, their index, the selector and the first four mode bits.
+fn settings(s: SymbolicBlock) -> PhysicalBlock
+    requires { ⌜ Packable s ⌝ }
+    ensures { λ r. ⌜ blockNumber r ≡ piled 0 (take 5 (modeCells s)) ⌝ }
+{
+    let partitions = s.partitions;
+    let index_end = 13 + block_header::index_bits(partitions);
+    let b = bits::append(no_bits(), 0, mode_number(grid_of(s)));
+    let b = bits::append(b, 11, wide(partitions) - 1);
+    let b = bits::append(b, 13, wide16(s.index));
+    let b = bits::append(b, index_end, wide(s.selector));
+    let modes_from = index_end + block_header::selector_bits(partitions);
+    bits::append(b, modes_from, modes_code(header_of(s)) % 16)
+}
+
+fn with_endpoints(b: PhysicalBlock, s: SymbolicBlock) -> PhysicalBlock
+    requires { ⌜ Packable s ⌝ }
+    ensures { λ r. ⌜ blockNumber r ≡ withValue (blockNumber b) (endpointsFrom (s .partitions)) (endpointStream s) ⌝ }
+{
+    let h = header_of(s);
+    let xs = s.endpoints;
+    let n = block_header::endpoint_count(h) as u8;
+    let range = block_header::endpoint_range_of(h);
+    integer_sequence::write_sequence(b, endpoints_from(s.partitions), range, lengthened(xs), n)
+}
+
+// The weights as they stand in a block, from the last bit of their stream to its first.
+fn weights_of(s: SymbolicBlock) -> PhysicalBlock
+    requires { ⌜ Packable s ⌝ }
+    ensures { λ r. ⌜ blockNumber r ≡ reverse (weightBits (gridOf s)) (weightStream s) ⌝ }
+{
+    let g = grid_of(s);
+    let xs = s.weights;
+    let n = block_header::weight_count(g) as u8;
+    let b = integer_sequence::write_sequence(no_bits(), 0, s.range, xs, n);
+    bits::part(
+        bits::reversed(b),
+        weights_from(g),
+        block_header::weight_bits(g),
+    )
+}
+
+fn mode_block(s: SymbolicBlock) -> PhysicalBlock
+    requires { ⌜ Packable s ⌝ }
+    ensures { λ r. ⌜ blockNumber r ≡ piled 0 (modeCells s) ⌝ }
+{
+    let h = header_of(s);
+    let g = h.grid;
+    let b = with_endpoints(settings(s), s);
+    // spare bits
+    let b = bits::append(b, endpoints_end(h), 0);
+    let b = bits::append(b, component_from(h), wide(h.component));
+    let b = bits::append(b, extra_from(h), modes_code(h) / 16);
+    with_block(b, weights_from(g), weights_of(s))
+}
+
+fn with_extents(b: PhysicalBlock, e: [u16; 4]) -> PhysicalBlock
+    ensures { λ r. ⌜ blockNumber r ≡ withValue (withValue (withValue (withValue (blockNumber b) 12 (getD e 0 0)) 25 (getD e 1 0)) 38 (getD e 2 0)) 51 (getD e 3 0) ⌝ }
+{
+    let b = bits::append(b, 12, wide16(e[0]));
+    let b = bits::append(b, 25, wide16(e[1]));
+    let b = bits::append(b, 38, wide16(e[2]));
+    bits::append(b, 51, wide16(e[3]))
+}
+
+fn with_colours(b: PhysicalBlock, c: [u16; 4]) -> PhysicalBlock
+    ensures { λ r. ⌜ blockNumber r ≡ withValue (withValue (withValue (withValue (blockNumber b) 64 (getD c 0 0)) 80 (getD c 1 0)) 96 (getD c 2 0)) 112 (getD c 3 0) ⌝ }
+{
+    let b = bits::append(b, 64, wide16(c[0]));
+    let b = bits::append(b, 80, wide16(c[1]));
+    let b = bits::append(b, 96, wide16(c[2]));
+    bits::append(b, 112, wide16(c[3]))
+}
+
+// A void extent (01: solid sheet): bits 8..0 are 111111100, bit 9 is clear, bits 11..10 are both 1.
+fn void_block(s: SymbolicBlock) -> PhysicalBlock
+    ensures { λ r. ⌜ blockNumber r ≡ piled 0 (voidCells s) ⌝ }
+{
+    let extents = s.extents;
+    let colours = s.colours;
+    let b = bits::append(no_bits(), 0, 0b110111111100);
+    with_colours(with_extents(b, extents), colours)
+}
+
+// The block of a symbolic block that is acceptable at the footprint fp.
+pub fn block_of(fp: u8, s: SymbolicBlock) -> PhysicalBlock
+    requires { ⌜ refusalOf fp s ≡ 0 ⌝ }
+    ensures { λ r. ⌜ blockNumber r ≡ blockOf s ⌝ }
+{
+    if s.mark == 1 {
+        return void_block(s);
+    }
+    mode_block(s)
+}
