@@ -1,0 +1,110 @@
+-- What the stages of the reader come to, and the numbers that it reads.
+-- Assumes nothing.
+use mathlib.Core.Path.{_≡_, refl, sym, ap, _∙_, subst}
+use mathlib.Core.Bool.{Bool, true, false, not}
+use mathlib.Core.List.{List}
+use Prim.Native.Nat.{ℕ, _*_, _≤_, _<_}
+use native.Mathlib.Omega.{arith}
+use lib.Dec.{eqb, ltb}
+use lib.ListN.{length, getD}
+use borrow.Author.Tests.{lt-ltb, le-ltb, eq-eqb, ne-eqb, eqb-true}
+use Rattle.laws.specs.Choice.{pick}
+use Rattle.laws.specs.Table.{tab, padded}
+use Rattle.laws.proofs.Filling.{tab-ext, padded-at}
+use Rattle.encoding.specs.declared.Encoding.{Encoding}
+use Rattle.encoding.specs.declared.Stored.{Stored}
+use Rattle.integer_sequence.specs.Reading.{number, numbers, stored}
+use Rattle.block_fault.specs.declared.Stage.{Stage}
+use Rattle.block_fault.specs.declared.Stage.the-variants.{Passed, Stopped}
+use Rattle.block_fault.specs.Settings.{stageOf}
+use Rattle.bits.specs.Block.{numberOf}
+use Rattle.block_fault.specs.declared.Verdict.{Verdict}
+use Rattle.block_fault.specs.declared.Verdict.the-variants as verdict
+use Rattle.block_fault.specs.Settings.{verdictOf}
+use Rattle.block_fault.specs.Bits.{headerAt, endpointAt, weightAt, colourAt, extentAt}
+use Rattle.block_fault.specs.Faults.{faultOf}
+use Rattle.block_fault.proofs.Stages.{stage-passed, stage-stopped}
+use Rattle.block_fault.proofs.Verdicts.{told-fault, told-void, told-coded}
+use Rattle.one_block.specs.declared.Answer.the-variants.{Refused, Faulty}
+use Rattle.symbolic_block.specs.Reading.{modeBlock, voidBlock}
+use Rattle.symbolic_block.proofs.Opened.{read-void, read-mode}
+use Rattle.symbolic_reader.specs.Answers.{readRefusal, nothing, done, readingIn, readingOf, uncodedOf}
+
+-- ---- refusals one by one
+
+module _ (fp bytes : ℕ) where
+  pub unknown-footprint : 13 < fp → Stopped 1 ≡ stageOf (readRefusal fp bytes)
+  unfolding readRefusal stageOf
+  unknown-footprint h = rw (lt-ltb _ _ h)
+
+  pub not-sixteen : fp ≤ 13 → (bytes ≡ 16 → ⊥) → Stopped 4 ≡ stageOf (readRefusal fp bytes)
+  unfolding readRefusal stageOf
+  not-sixteen k h = rw (le-ltb _ _ k, ne-eqb _ _ h)
+
+  pub accepted : fp ≤ 13 → bytes ≡ 16 → Passed ≡ stageOf (readRefusal fp bytes)
+  unfolding readRefusal stageOf
+  accepted k h = rw (le-ltb _ _ k, eq-eqb _ _ h)
+
+-- ---- the numbers of a sequence, 0 past the last
+
+picked : (t : Bool) (x : ℕ) → pick t (stored x) (stored 0) ≡ stored (pick t x 0)
+picked true x = refl
+picked false x = refl
+
+pub number-at : (e : Encoding) (b v n i : ℕ) → i < 64 → getD (numbers e b v n) i (stored 0) ≡ stored (pick (ltb i n) (number e b v i) 0)
+unfolding numbers
+number-at e b v n i h = padded-at (λ i. stored (number e b v i)) (stored 0) 64 n i (stored 0) h ∙ picked (ltb i n) (number e b v i)
+
+pub all-numbers : (e : Encoding) (b v n : ℕ) → numbers e b v n ≡ tab (λ i. stored (pick (ltb i n) (number e b v i) 0)) 64
+unfolding numbers padded
+all-numbers e b v n = tab-ext _ _ (stored 0) 64 (λ i h. picked (ltb i n) (number e b v i))
+
+pub first-numbers : (e : Encoding) (b v n : ℕ) → tab (λ i. getD (numbers e b v n) i (stored 0)) 18 ≡ tab (λ i. stored (pick (ltb i n) (number e b v i) 0)) 18
+first-numbers e b v n = tab-ext _ _ (stored 0) 18 (λ i h. number-at e b v n i (omega arith))
+
+-- ---- the reading of bytes that are not refused, stage by stage
+
+module _ (fp B : ℕ) where
+  fault-reading : (n : ℕ) → verdictOf fp B ≡ verdict.Fault n → nothing (Faulty n) ≡ readingIn fp B
+  unfolding readingIn
+  fault-reading n e =
+      let k = told-fault fp B n e in
+      rw (ne-eqb (faultOf fp B) 0 (k .1), k .0)
+
+  void-reading : verdictOf fp B ≡ verdict.VoidExtent → done (voidBlock (colourAt B) (extentAt B)) ≡ readingIn fp B
+  unfolding readingIn
+  void-reading e =
+      let k = told-void fp B e in
+      rw (eq-eqb (faultOf fp B) 0 (k .0), read-void B (k .1))
+
+  pub coded-reading : verdictOf fp B ≡ verdict.Coded → done (modeBlock (headerAt B) (endpointAt B (headerAt B)) (weightAt B (headerAt B))) ≡ readingIn fp B
+  unfolding readingIn
+  coded-reading e =
+      let k = told-coded fp B e in
+      rw (eq-eqb (faultOf fp B) 0 (k .0), read-mode B (k .1))
+
+  pub uncoded-reading : (v : Verdict) → verdictOf fp B ≡ v → (v ≡ verdict.Coded → ⊥) → uncodedOf B v ≡ readingIn fp B
+  uncoded-reading verdict.Coded e h = absurd (h refl)
+  uncoded-reading verdict.VoidExtent e h = void-reading e
+  uncoded-reading (verdict.Fault n) e h = fault-reading n e
+
+module _ (fp : ℕ) (s : List ℕ) where
+  -- a refusal at once with its number
+  pub stopped-reading : (n : ℕ) → stageOf (readRefusal fp (length s)) ≡ Stopped n → nothing (Refused n) ≡ readingOf fp s
+  unfolding readingOf
+  stopped-reading n e =
+      let k = stage-stopped (readRefusal fp (length s)) n e in
+      rw (ne-eqb (readRefusal fp (length s)) 0 (k .1), k .0)
+
+  -- otherwise the bytes are sixteen, and their number is read
+  pub passed-reading : stageOf (readRefusal fp (length s)) ≡ Passed → readingIn fp (numberOf s) ≡ readingOf fp s
+  unfolding readingOf
+  passed-reading e = rw (eq-eqb _ 0 (stage-passed _ e))
+
+  pub sixteen : stageOf (readRefusal fp (length s)) ≡ Passed → length s ≡ 16
+  unfolding readRefusal
+  sixteen e = go (ltb 13 fp) (eqb (length s) 16) refl (stage-passed _ e) where
+    go : (a b : Bool) → eqb (length s) 16 ≡ b → _≡_ {A = ℕ} (pick a 1 (pick (not b) 4 0)) 0 → length s ≡ 16
+    go true b q r = absurd (omega arith)
+    go false false q r = absurd (omega arith)
+    go false true q r = eqb-true _ _ q

@@ -1,0 +1,18 @@
+use Rattle.laws.specs.Table.{tab, tabFrom}
+use Rattle.symbolic_block.specs.Reading.{modeBlock}
+use borrow.Author.Needs.{needs}
+use Rattle.symbolic_reader.proofs.mode_block.Statement.{statement}
+use Rattle.symbolic_reader.proofs.mode_block.Tie as tie
+
+endpoints-requires : tie.Need-endpoints-requires
+endpoints-requires c κs = search needs
+
+weights-requires : tie.Need-weights-requires
+weights-requires c κs = search needs
+
+returns : tie.Need-returns
+unfolding modeBlock tab tabFrom
+returns c = rw (c .before .endpoints .ensures, c .weights .ensures)
+
+pub mode-block-spec : {M : Type 1} → statement M
+mode-block-spec = tie.close (tie.spec endpoints-requires weights-requires returns)

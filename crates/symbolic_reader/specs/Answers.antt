@@ -1,0 +1,56 @@
+-- 01, "Numbers told to the caller": what the reader of symbolic blocks (01: sheets) answers.
+-- Assumes nothing.
+use Prim.Native.Nat.{ℕ}
+use mathlib.Core.Bool.{not}
+use mathlib.Core.List.{List, [], _∷_}
+use lib.Dec.{eqb, ltb}
+use lib.ListN.{length}
+use Rattle.laws.specs.Choice.{pick}
+use Rattle.bits.specs.Block.{numberOf}
+use Rattle.block_header.specs.Reasons.{when, firstOf}
+use Rattle.block_fault.specs.declared.Stage.{Stage}
+use Rattle.block_fault.specs.declared.Stage.the-variants.{Passed, Stopped}
+use Rattle.block_fault.specs.declared.Verdict.{Verdict}
+use Rattle.block_fault.specs.declared.Verdict.the-variants.{Coded, VoidExtent, Fault}
+use Rattle.block_fault.specs.Bits.{colourAt, extentAt}
+use Rattle.block_fault.specs.Faults.{faultOf}
+use Rattle.one_block.specs.declared.Answer.{Answer}
+use Rattle.one_block.specs.declared.Answer.the-variants.{Refused, Faulty, Done}
+use Rattle.one_block.specs.Calls.{answerFor}
+use Rattle.symbolic_block.specs.declared.SymbolicBlock.{SymbolicBlock}
+use Rattle.symbolic_block.specs.Reading.{voidBlock, zeroBlock, readBlock}
+use Rattle.symbolic_reader.specs.declared.Reading.{Reading}
+
+-- "The reader of sheets refuses 1, 4", 0 where it does not
+unfoldable pub readRefusal : ℕ → ℕ → ℕ
+readRefusal fp bytes = firstOf (when (ltb 13 fp) 1 ∷ when (not (eqb bytes 16)) 4 ∷ [])
+
+-- an answer with "a sheet of zeros"
+abbrev pub nothing : Answer → Reading
+nothing a = record { answer = a; block = zeroBlock }
+
+abbrev pub done : SymbolicBlock → Reading
+done s = record { answer = Done; block = s }
+
+-- of 128 bits: "tells the block's fault, with a sheet of zeros", else the symbolic block
+unfoldable pub readingIn : ℕ → ℕ → Reading
+unfolding answerFor readBlock zeroBlock
+readingIn fp B = pick (eqb (faultOf fp B) 0) (done (readBlock B)) (nothing (Faulty (faultOf fp B)))
+
+-- what the reader answers for the bytes s
+unfoldable pub readingOf : ℕ → List ℕ → Reading
+unfolding readRefusal readingIn
+readingOf fp s = pick (eqb (readRefusal fp (length s)) 0) (readingIn fp (numberOf s)) (nothing (Refused (readRefusal fp (length s))))
+
+-- ---- the stages of reading
+
+-- the answer of a stage of refusals
+abbrev pub stopped : Stage → Answer
+stopped Passed = Done
+stopped (Stopped n) = Refused n
+
+-- what is read of the block B where it is not coded
+abbrev pub uncodedOf : ℕ → Verdict → Reading
+uncodedOf B Coded = nothing Done
+uncodedOf B VoidExtent = done (voidBlock (colourAt B) (extentAt B))
+uncodedOf B (Fault n) = nothing (Faulty n)

@@ -1,0 +1,212 @@
+// The reader of symbolic blocks (01: sheets): a block's settings and numbers as plain numbers.
+use bits::PhysicalBlock;
+use block_fault::Stage;
+use block_fault::Verdict;
+use block_header::Header;
+use encoding::Stored;
+use one_block::Answer;
+use symbolic_block::SymbolicBlock;
+ghost use mathlib.Core.Path.{_≡_};
+ghost use Prim.Native.Nat.{_+_, _*_, _≤_, _<_};
+ghost use lib.ListN.{length, getD};
+ghost use Rattle.laws.specs.Table.{tab};
+ghost use Rattle.bits.specs.Field.{field};
+ghost use Rattle.bits.specs.Block.{blockNumber};
+ghost use Rattle.integer_sequence.specs.Reading.{stored};
+ghost use Rattle.block_header.specs.Counts.{weightCount, endpointCount};
+ghost use Rattle.block_fault.specs.Settings.{stageOf};
+ghost use Rattle.block_fault.specs.Bits.{endpointAt, weightAt, colourAt, extentAt, endpointsFrom};
+ghost use Rattle.symbolic_block.specs.Reading.{modeBlock, voidBlock, zeroBlock};
+ghost use Rattle.symbolic_reader.specs.Answers.{readRefusal, readingOf, nothing, done, stopped, uncodedOf};
+
+// The answer, and the symbolic block: zeros unless the answer is Done.
+pub struct Reading {
+    pub answer: Answer,
+    pub block: SymbolicBlock,
+}
+
+fn zero_block() -> SymbolicBlock
+    ensures { λ r. ⌜ r ≡ zeroBlock ⌝ }
+{
+    SymbolicBlock {
+        mark: 0,
+        colours: [0u16; 4],
+        extents: [0u16; 4],
+        width: 0,
+        height: 0,
+        range: 0,
+        planes: 0,
+        component: 0,
+        partitions: 0,
+        index: 0,
+        selector: 0,
+        modes: [0u8; 4],
+        endpoints: [Stored(0); 18],
+        weights: [Stored(0); 64],
+    }
+}
+
+fn told(answer: Answer) -> Reading
+    ensures { λ r. ⌜ r ≡ nothing answer ⌝ }
+{
+    Reading {
+        answer,
+        block: zero_block(),
+    }
+}
+
+fn read(block: SymbolicBlock) -> Reading
+    ensures { λ r. ⌜ r ≡ done block ⌝ }
+{
+    Reading {
+        answer: Answer::Done,
+        block,
+    }
+}
+
+// Refusals 1 and 4.
+fn check(fp: u8, bytes: usize) -> Stage
+    ensures { λ r. ⌜ r ≡ stageOf (readRefusal fp bytes) ⌝ }
+{
+    if 13 < fp {
+        return Stage::Stopped(1);
+    }
+    if bytes != 16 {
+        return Stage::Stopped(4);
+    }
+    Stage::Passed
+}
+
+fn refused(s: Stage) -> Answer
+    ensures { λ r. ⌜ r ≡ stopped s ⌝ }
+{
+    match s {
+        Stage::Passed => Answer::Done,
+        Stage::Stopped(n) => Answer::Refused(n),
+    }
+}
+
+fn colour(b: PhysicalBlock, i: u32) -> u16
+    requires { ⌜ i < 4 ⌝ }
+    ensures { λ r. ⌜ r ≡ colourAt (blockNumber b) i ⌝ }
+{
+    bits::field_at(b, 64 + 16 * i, 16) as u16
+}
+
+fn extent(b: PhysicalBlock, i: u32) -> u16
+    requires { ⌜ i < 4 ⌝ }
+    ensures { λ r. ⌜ r ≡ extentAt (blockNumber b) i ⌝ }
+{
+    bits::field_at(b, 12 + 13 * i, 13) as u16
+}
+
+fn void_block(b: PhysicalBlock) -> SymbolicBlock
+    ensures { λ r. ⌜ r ≡ voidBlock (colourAt (blockNumber b)) (extentAt (blockNumber b)) ⌝ }
+{
+    SymbolicBlock {
+        mark: 1,
+        colours: [colour(b, 0), colour(b, 1), colour(b, 2), colour(b, 3)],
+        extents: [extent(b, 0), extent(b, 1), extent(b, 2), extent(b, 3)],
+        width: 0,
+        height: 0,
+        range: 0,
+        planes: 0,
+        component: 0,
+        partitions: 0,
+        index: 0,
+        selector: 0,
+        modes: [0u8; 4],
+        endpoints: [Stored(0); 18],
+        weights: [Stored(0); 64],
+    }
+}
+
+// A fault at once with its number, or a void extent.
+fn uncoded(b: PhysicalBlock, v: Verdict) -> Reading
+    ensures { λ r. ⌜ r ≡ uncodedOf (blockNumber b) v ⌝ }
+{
+    match v {
+        Verdict::Fault(n) => told(Answer::Faulty(n)),
+        Verdict::VoidExtent => read(void_block(b)),
+        Verdict::Coded => told(Answer::Done),
+    }
+}
+
+fn endpoints_from(partitions: u8) -> u8
+    ensures { λ r. ⌜ r ≡ endpointsFrom partitions ⌝ }
+{
+    if partitions == 1 { 17 } else { 29 }
+}
+
+fn first_18(xs: [Stored; 64]) -> [Stored; 18]
+    ensures { λ r. ⌜ r ≡ tab (λ i. getD xs i (stored 0)) 18 ⌝ }
+{
+    let mut out = [Stored(0); 18];
+    let mut i: usize = 0;
+    while i < 18 {
+        out[i] = xs[i];
+        i += 1;
+    }
+    out
+}
+
+fn endpoints(b: PhysicalBlock, h: Header) -> [Stored; 18]
+    requires { ⌜ endpointCount h ≤ 18 ⌝ }
+    ensures { λ r. ⌜ r ≡ tab (λ i. stored (endpointAt (blockNumber b) h i)) 18 ⌝ }
+{
+    let n = block_header::endpoint_count(h) as u8;
+    let range = block_header::endpoint_range_of(h);
+    first_18(integer_sequence::read_sequence(b, endpoints_from(h.partitions), range, n))
+}
+
+fn weights(b: PhysicalBlock, h: Header) -> [Stored; 64]
+    requires { ⌜ weightCount (h .grid) ≤ 64 ⌝ }
+    ensures { λ r. ⌜ r ≡ tab (λ i. stored (weightAt (blockNumber b) h i)) 64 ⌝ }
+{
+    let g = h.grid;
+    let n = block_header::weight_count(g) as u8;
+    integer_sequence::read_sequence(bits::reversed(b), 0, g.range, n)
+}
+
+fn mode_block(b: PhysicalBlock, h: Header) -> SymbolicBlock
+    requires { ⌜ (weightCount (h .grid) ≤ 64) × (endpointCount h ≤ 18) ⌝ }
+    ensures { λ r. ⌜ r ≡ modeBlock h (endpointAt (blockNumber b) h) (weightAt (blockNumber b) h) ⌝ }
+{
+    let g = h.grid;
+    let modes = h.modes;
+    let endpoints = endpoints(b, h);
+    let weights = weights(b, h);
+    SymbolicBlock {
+        mark: 0,
+        colours: [0u16; 4],
+        extents: [0u16; 4],
+        width: g.width,
+        height: g.height,
+        range: g.range,
+        planes: g.planes,
+        component: h.component,
+        partitions: h.partitions,
+        index: h.index,
+        selector: h.selector,
+        modes,
+        endpoints,
+        weights,
+    }
+}
+
+// A block's symbolic block at a footprint.
+pub fn read_symbolic(fp: u8, block: &[u8]) -> Reading
+    ensures { λ r. ⌜ r ≡ readingOf fp (now (block .entry)) ⌝ }
+{
+    let stage = check(fp, block.len());
+    let Stage::Passed = stage else {
+        return told(refused(stage));
+    };
+    let b = bits::load(block);
+    let s = block_fault::read_settings(b, fp);
+    let v = s.verdict;
+    let Verdict::Coded = v else {
+        return uncoded(b, v);
+    };
+    read(mode_block(b, s.header))
+}
