@@ -21,7 +21,7 @@ use Rattle.symbolic_block.specs.declared.SymbolicBlock.{SymbolicBlock}
 use Rattle.symbolic_block.specs.Reading.{voidBlock, zeroBlock, readBlock}
 use Rattle.symbolic_reader.specs.declared.Reading.{Reading}
 
--- "The reader of sheets refuses 1, 4", 0 where it does not
+-- "The reader of sheets refuses 1 and 4"; 0 where it does not
 unfoldable pub readRefusal : ℕ → ℕ → ℕ
 readRefusal fp bytes = firstOf (when (ltb 13 fp) 1 ∷ when (not (eqb bytes 16)) 4 ∷ [])
 
@@ -32,7 +32,7 @@ nothing a = record { answer = a; block = zeroBlock }
 abbrev pub done : SymbolicBlock → Reading
 done s = record { answer = Done; block = s }
 
--- of 128 bits: "tells the block's fault, with a sheet of zeros", else the symbolic block
+-- of 128 bits: "else tells the block's fault, with a sheet of zeros in both events", else the symbolic block
 unfoldable pub readingIn : ℕ → ℕ → Reading
 unfolding answerFor readBlock zeroBlock
 readingIn fp B = pick (eqb (faultOf fp B) 0) (done (readBlock B)) (nothing (Faulty (faultOf fp B)))
