@@ -1,0 +1,281 @@
+// The image calls: blocks in raster order to the texels of a whole image (01: picture), in each kind.
+use bits::PhysicalBlock;
+use image_layout::CheckedImage;
+use image_layout::ImageAnswer;
+use image_layout::ImageGrid;
+use image_layout::Part;
+use image_layout::Run;
+use image_layout::Tally;
+use interpolation::Kind;
+ghost use mathlib.Core.Path.{_≡_};
+ghost use Prim.Native.Nat.{_+_, _*_, _/_, _%_, _^_, _≤_, _<_};
+ghost use lib.ListN.{length};
+ghost use Rattle.bits.specs.Block.{blockNumber};
+ghost use Rattle.interpolation.specs.declared.Kind.the-variants.{Unorm16, Srgb8};
+ghost use Rattle.image_layout.specs.Numbers.{blockAt, faultAt, imageNumberAt, imageNumbers};
+ghost use Rattle.image_layout.specs.Faulty.{tallyOf};
+ghost use Rattle.image_layout.specs.Call.{imageAnswer, imageOut, imageTold, toldOf};
+ghost use Rattle.image_layout.proofs.Regions.{Pasted, Placed, Cropped, Tile};
+ghost use Rattle.image_layout.proofs.Calls.{Sound};
+ghost use Rattle.image_layout.proofs.Tallies.{noted};
+ghost use Rattle.image_layout.proofs.Parts.{Fits, PartOf, RunOf, RunFits};
+
+// How many of n places from `at` on are within a side.
+fn crop(side: usize, at: usize, n: usize) -> usize
+    requires { ⌜ at < side ⌝ }
+    ensures { λ r. ⌜ Cropped side at n r ⌝ }
+{
+    if n <= side - at { n } else { side - at }
+}
+
+// The part of the image that block b covers.
+fn part_of(g: ImageGrid, b: usize) -> Part
+    requires { ⌜ Sound g ⌝ }
+    requires { ⌜ b < g .down * g .across ⌝ }
+    ensures { λ r. ⌜ PartOf g b r ⌝ }
+{
+    let x = b % g.across * g.columns;
+    let y = b / g.across * g.rows;
+    let columns = crop(g.width, x, g.columns);
+    let rows = crop(g.height, y, g.rows);
+    Part {
+        x,
+        y,
+        columns,
+        rows,
+    }
+}
+
+// Row dy of a part.
+fn run_of(g: ImageGrid, p: Part, dy: usize) -> Run
+    requires { ⌜ Sound g ⌝ }
+    requires { ⌜ Fits g p ⌝ }
+    requires { ⌜ dy < p .rows ⌝ }
+    ensures { λ r. ⌜ RunOf g p dy r ⌝ }
+{
+    let x = p.x;
+    let y = p.y;
+    let columns = p.columns;
+    let width = g.width;
+    let step = g.columns;
+    Run {
+        from: 4 * (dy * step),
+        at: 4 * ((y + dy) * width + x),
+        n: 4 * columns,
+    }
+}
+
+// Block b of the bytes.
+fn block_of(s: &[u8], b: usize) -> PhysicalBlock
+    requires { ⌜ 16 * b + 16 ≤ length (now s) ⌝ }
+    ensures { λ r. ⌜ blockNumber r ≡ blockAt (now (s .entry)) b ⌝ }
+{
+    let at = 16 * b;
+    bits::load(&s[at..at + 16])
+}
+
+// One block more in the tally.
+fn note(t: Tally, b: u64, e: u8) -> Tally
+    requires { ⌜ (t .count ≤ b) × (b < 2 ^ 63) ⌝ }
+    ensures { λ r. ⌜ r ≡ noted t b e ⌝ }
+{
+    if e == 0 {
+        return t;
+    }
+    if t.count == 0 {
+        return Tally {
+            count: 1,
+            first: b,
+            fault: e,
+        };
+    }
+    Tally {
+        count: t.count + 1,
+        first: t.first,
+        fault: t.fault,
+    }
+}
+
+// Room for the numbers of the largest block.
+fn blank() -> [u16; 576]
+    ensures { λ r. ⌜ length r ≡ 576 ⌝ }
+{
+    [0u16; 576]
+}
+
+// ---- kind 0: 16-bit numbers
+
+// Copies a run of a block's numbers.
+fn copy_numbers(src: &[u16; 576], r: Run, out: &mut [u16])
+    requires { ⌜ RunFits r 576 (length (now out)) ⌝ }
+    ensures { λ _. ⌜ Pasted Unorm16 (now (src .entry)) (r .from) (r .n) (now (out .entry)) (r .at) (now (out .exit)) ⌝ }
+{
+    let from = r.from;
+    let at = r.at;
+    for i in 0..r.n {
+        out[at + i] = src[from + i];
+    }
+}
+
+// Copies a block's rows to its part of the image.
+fn place_numbers(buf: &[u16; 576], g: ImageGrid, p: Part, out: &mut [u16])
+    requires { ⌜ Sound g ⌝ }
+    requires { ⌜ Fits g p ⌝ }
+    requires { ⌜ length (now out) ≡ 4 * (g .height * g .width) ⌝ }
+    ensures { λ _. ⌜ Placed Unorm16 (g .width) (p .x) (p .y) (p .columns) (p .rows) (g .columns) (now (buf .entry)) (now (out .entry)) (now (out .exit)) ⌝ }
+{
+    for dy in 0..p.rows {
+        copy_numbers(buf, run_of(g, p, dy), out);
+    }
+}
+
+// Shows block b, and answers its fault.
+fn show_numbers(g: ImageGrid, b: usize, s: &[u8], buf: &mut [u16; 576], out: &mut [u16]) -> u8
+    requires { ⌜ Sound g ⌝ }
+    requires { ⌜ b < g .down * g .across ⌝ }
+    requires { ⌜ length (now s) ≡ 16 * (g .down * g .across) ⌝ }
+    requires { ⌜ length (now out) ≡ 4 * (g .height * g .width) ⌝ }
+    requires { ⌜ length (now buf) ≡ 576 ⌝ }
+    ensures { λ r. ⌜ r ≡ faultAt (g .footprint) (now (s .entry)) b ⌝ }
+    ensures { λ _. ⌜ Tile (g .width) (g .height) (g .columns) (g .rows) (b % g .across) (b / g .across) (imageNumberAt (g .footprint) Unorm16 (g .width) (now (s .entry))) (now (out .entry)) (now (out .exit)) ⌝ }
+    ensures { λ _. ⌜ length (now (buf .exit)) ≡ 576 ⌝ }
+{
+    let p = part_of(g, b);
+    let block = block_of(s, b);
+    let e = block_core::decode_into(block, g.footprint, Kind::Unorm16, buf);
+    place_numbers(buf, g, p, out);
+    e
+}
+
+// Shows every block, in raster order, and counts the faults.
+fn decode_numbers(g: ImageGrid, s: &[u8], out: &mut [u16]) -> Tally
+    requires { ⌜ Sound g ⌝ }
+    requires { ⌜ length (now s) ≡ 16 * (g .down * g .across) ⌝ }
+    requires { ⌜ length (now out) ≡ 4 * (g .height * g .width) ⌝ }
+    ensures { λ r. ⌜ r ≡ tallyOf (faultAt (g .footprint) (now (s .entry))) (g .down * g .across) ⌝ }
+    ensures { λ _. ⌜ now (out .exit) ≡ imageNumbers (g .footprint) Unorm16 (g .width) (g .height) (now (s .entry)) ⌝ }
+{
+    let mut buf = blank();
+    let mut t = Tally {
+        count: 0,
+        first: 0,
+        fault: 0,
+    };
+    let n = g.down * g.across;
+    for b in 0..n {
+        let e = show_numbers(g, b, s, &mut buf, out);
+        t = note(t, b as u64, e);
+    }
+    t
+}
+
+// Kind 0: an image to four 16-bit numbers for each texel.
+pub fn decode_image_unorm16(
+    footprint: u8,
+    width: u32,
+    height: u32,
+    blocks: &[u8],
+    out: &mut [u16],
+) -> ImageAnswer
+    ensures answer { λ r. ⌜ r ≡ imageAnswer footprint width height (now (blocks .entry)) (length (now (out .entry))) ⌝ }
+    ensures told { λ r. ⌜ toldOf r ≡ imageTold footprint width height (now (blocks .entry)) (length (now (out .entry))) ⌝ }
+    ensures image { λ _. ⌜ now (out .exit) ≡ imageOut footprint Unorm16 width height (now (blocks .entry)) (now (out .entry)) ⌝ }
+{
+    let checked = image_layout::check_image(footprint, width, height, blocks.len(), out.len());
+    match checked {
+        CheckedImage::Rejected(e) => ImageAnswer::Refused(e),
+        CheckedImage::Accepted(g) => ImageAnswer::Decoded(decode_numbers(g, blocks, out)),
+    }
+}
+
+// ---- kind 1: bytes
+
+// The byte that kind 1 shows of a 16-bit number.
+fn top_byte(n: u16) -> u8
+    ensures { λ r. ⌜ r ≡ n / 256 ⌝ }
+{
+    (n / 256) as u8
+}
+
+// Copies the top bytes of a run of a block's numbers.
+fn copy_bytes(src: &[u16; 576], r: Run, out: &mut [u8])
+    requires { ⌜ RunFits r 576 (length (now out)) ⌝ }
+    ensures { λ _. ⌜ Pasted Srgb8 (now (src .entry)) (r .from) (r .n) (now (out .entry)) (r .at) (now (out .exit)) ⌝ }
+{
+    let from = r.from;
+    let at = r.at;
+    for i in 0..r.n {
+        out[at + i] = top_byte(src[from + i]);
+    }
+}
+
+// Copies a block's rows to its part of the image.
+fn place_bytes(buf: &[u16; 576], g: ImageGrid, p: Part, out: &mut [u8])
+    requires { ⌜ Sound g ⌝ }
+    requires { ⌜ Fits g p ⌝ }
+    requires { ⌜ length (now out) ≡ 4 * (g .height * g .width) ⌝ }
+    ensures { λ _. ⌜ Placed Srgb8 (g .width) (p .x) (p .y) (p .columns) (p .rows) (g .columns) (now (buf .entry)) (now (out .entry)) (now (out .exit)) ⌝ }
+{
+    for dy in 0..p.rows {
+        copy_bytes(buf, run_of(g, p, dy), out);
+    }
+}
+
+// Shows block b, and answers its fault.
+fn show_bytes(g: ImageGrid, b: usize, s: &[u8], buf: &mut [u16; 576], out: &mut [u8]) -> u8
+    requires { ⌜ Sound g ⌝ }
+    requires { ⌜ b < g .down * g .across ⌝ }
+    requires { ⌜ length (now s) ≡ 16 * (g .down * g .across) ⌝ }
+    requires { ⌜ length (now out) ≡ 4 * (g .height * g .width) ⌝ }
+    requires { ⌜ length (now buf) ≡ 576 ⌝ }
+    ensures { λ r. ⌜ r ≡ faultAt (g .footprint) (now (s .entry)) b ⌝ }
+    ensures { λ _. ⌜ Tile (g .width) (g .height) (g .columns) (g .rows) (b % g .across) (b / g .across) (imageNumberAt (g .footprint) Srgb8 (g .width) (now (s .entry))) (now (out .entry)) (now (out .exit)) ⌝ }
+    ensures { λ _. ⌜ length (now (buf .exit)) ≡ 576 ⌝ }
+{
+    let p = part_of(g, b);
+    let block = block_of(s, b);
+    let e = block_core::decode_into(block, g.footprint, Kind::Srgb8, buf);
+    place_bytes(buf, g, p, out);
+    e
+}
+
+// Shows every block, in raster order, and counts the faults.
+fn decode_bytes(g: ImageGrid, s: &[u8], out: &mut [u8]) -> Tally
+    requires { ⌜ Sound g ⌝ }
+    requires { ⌜ length (now s) ≡ 16 * (g .down * g .across) ⌝ }
+    requires { ⌜ length (now out) ≡ 4 * (g .height * g .width) ⌝ }
+    ensures { λ r. ⌜ r ≡ tallyOf (faultAt (g .footprint) (now (s .entry))) (g .down * g .across) ⌝ }
+    ensures { λ _. ⌜ now (out .exit) ≡ imageNumbers (g .footprint) Srgb8 (g .width) (g .height) (now (s .entry)) ⌝ }
+{
+    let mut buf = blank();
+    let mut t = Tally {
+        count: 0,
+        first: 0,
+        fault: 0,
+    };
+    let n = g.down * g.across;
+    for b in 0..n {
+        let e = show_bytes(g, b, s, &mut buf, out);
+        t = note(t, b as u64, e);
+    }
+    t
+}
+
+// Kind 1: an image to four bytes for each texel, before the sRGB curve.
+pub fn decode_image_srgb8(
+    footprint: u8,
+    width: u32,
+    height: u32,
+    blocks: &[u8],
+    out: &mut [u8],
+) -> ImageAnswer
+    ensures answer { λ r. ⌜ r ≡ imageAnswer footprint width height (now (blocks .entry)) (length (now (out .entry))) ⌝ }
+    ensures told { λ r. ⌜ toldOf r ≡ imageTold footprint width height (now (blocks .entry)) (length (now (out .entry))) ⌝ }
+    ensures image { λ _. ⌜ now (out .exit) ≡ imageOut footprint Srgb8 width height (now (blocks .entry)) (now (out .entry)) ⌝ }
+{
+    let checked = image_layout::check_image(footprint, width, height, blocks.len(), out.len());
+    match checked {
+        CheckedImage::Rejected(e) => ImageAnswer::Refused(e),
+        CheckedImage::Accepted(g) => ImageAnswer::Decoded(decode_bytes(g, blocks, out)),
+    }
+}

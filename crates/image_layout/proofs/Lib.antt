@@ -1,0 +1,7 @@
+pub mod Covering
+pub mod Regions
+pub mod Blocks
+pub mod Tallies
+pub mod Calls
+pub mod Parts
+pub mod Independence

@@ -1,0 +1,146 @@
+-- The part of an image that a block covers, and its rows, in terms of an image's layout.
+-- Assumes nothing.
+use mathlib.Core.Path.{_≡_, refl, sym, ap, ap₂, _∙_}
+use mathlib.Core.List.{List}
+use Prim.Native.Nat.{ℕ, _+_, _*_, _/_, _%_, _≤_, _<_}
+use native.Mathlib.Nat.{div-add-mod'}
+use native.Mathlib.Omega.{arith}
+use lib.ListN.{length, getD}
+use Rattle.footprint.specs.Footprint.{texelsOf}
+use Rattle.interpolation.specs.declared.Kind.{Kind}
+use Rattle.texel.specs.BlockTexel.{blockChannel}
+use Rattle.image_layout.specs.declared.ImageGrid.{ImageGrid}
+use Rattle.image_layout.specs.declared.Part.{Part}
+use Rattle.image_layout.specs.declared.Run.{Run}
+use Rattle.image_layout.specs.declared.Tally.{Tally}
+use Rattle.image_layout.specs.Numbers.{blockAt, faultAt, imageNumberAt, imageNumbers}
+use Rattle.image_layout.specs.Faulty.{tallyOf}
+use Rattle.image_layout.proofs.Covering.{mul-bound, below-row, across-inside, block-place}
+use Rattle.image_layout.proofs.Regions.{Pasted, Cropped, Placed, placed-more, Tile, ShownTo, shown-none, shown-more, shown-all}
+use Rattle.image_layout.proofs.Blocks.{tile-shown}
+use Rattle.image_layout.proofs.Calls.{Sound}
+use Rattle.image_layout.proofs.Tallies.{noted, tally-start, tally-more}
+
+-- the part is as much of a block as is within the image
+pub record Fits (g : ImageGrid) (p : Part) : Type 0 where
+  pub columns : Cropped (g .width) (p .x) (g .columns) (p .columns)
+  pub rows : Cropped (g .height) (p .y) (g .rows) (p .rows)
+
+-- the part of block b
+pub record PartOf (g : ImageGrid) (b : ℕ) (p : Part) : Type 0 where
+  pub x : p .x ≡ b % g .across * g .columns
+  pub y : p .y ≡ b / g .across * g .rows
+  pub fits : Fits g p
+
+-- the run of row dy
+pub record RunOf (g : ImageGrid) (p : Part) (dy : ℕ) (r : Run) : Type 0 where
+  pub from : r .from ≡ 4 * (dy * g .columns)
+  pub at : r .at ≡ 4 * ((p .y + dy) * g .width + p .x)
+  pub n : r .n ≡ 4 * p .columns
+
+-- the run lies within a source and a result of so many numbers
+pub record RunFits (r : Run) (source result : ℕ) : Type 0 where
+  pub in-source : r .from + r .n ≤ source
+  pub in-result : r .at + r .n ≤ result
+
+-- the products of a row, none of which wraps
+pub record Products (g : ImageGrid) (p : Part) (dy : ℕ) : Type 0 where
+  pub in-block : 4 * (dy * g .columns) + 4 * p .columns ≤ 576
+  pub in-image : 4 * ((p .y + dy) * g .width + p .x) + 4 * p .columns ≤ 4 * (g .height * g .width)
+  pub small : g .height * g .width ≤ 16384 * 16384
+
+pub products : (g : ImageGrid) (p : Part) (dy : ℕ) → Sound g → Fits g p → dy < p .rows → Products g p dy
+products g p dy s f h =
+    let a = f .columns .in-block in
+    let b = f .columns .in-side in
+    let c = f .rows .in-block in
+    let d = f .rows .in-side in
+    let e = below-row (g .columns) dy 12 (let z = s .rows-most in omega arith) in
+    let i = below-row (g .width) (p .y + dy) (g .height) (omega arith) in
+    let m = mul-bound (g .height) (g .width) 16384 16384 (s .height-most) (s .width-most) in
+    record { in-block = let z = s .columns-most in omega arith; in-image = omega arith; small = m }
+
+pub run-fits : (g : ImageGrid) (p : Part) (dy : ℕ) (r : Run) (m : ℕ) → Sound g → Fits g p → dy < p .rows → RunOf g p dy r → m ≡ 4 * (g .height * g .width) → RunFits r 576 m
+run-fits g p dy r m s f h o e =
+    let q = products g p dy s f h in
+    record { in-source = omega (arith, o, q); in-result = omega (arith, o, q) }
+
+-- where block b begins: within the image
+pub record Begins (g : ImageGrid) (b : ℕ) : Type 0 where
+  pub x : b % g .across * g .columns < g .width
+  pub y : b / g .across * g .rows < g .height
+
+pub begins : (g : ImageGrid) (b : ℕ) → Sound g → b < g .down * g .across → Begins g b
+begins g b s h =
+    let f = block-place (g .across) (g .down) b (s .across-least) h in
+    record {
+      x = across-inside (g .width) (g .columns) (b % g .across) (s .columns-least) (omega (arith, s .across, f .0));
+      y = across-inside (g .height) (g .rows) (b / g .across) (s .rows-least) (omega (arith, s .down, f .1));
+    }
+
+-- ---- what a turn of each loop does
+
+-- the first b blocks are decoded: they show the image, their faults are counted, and there is room for a block
+pub record Decoding (kind : Kind) (g : ImageGrid) (s old new buf : List ℕ) (t : Tally) (b : ℕ) : Type 0 where
+  pub within : b ≤ g .down * g .across
+  pub same : length new ≡ length old
+  pub shown : ShownTo (g .width) (g .height) (g .columns) (g .rows) (g .across) b (imageNumberAt (g .footprint) kind (g .width) s) new
+  pub tallied : t ≡ tallyOf (faultAt (g .footprint) s) b
+  pub room : length buf ≡ 576
+
+module _ (kind : Kind) (g : ImageGrid) where
+  -- a row of a part
+  pub placed-row : (p : Part) (dy : ℕ) (r : Run) (buf old l new : List ℕ) → Fits g p → RunOf g p dy r
+      → Placed kind (g .width) (p .x) (p .y) (p .columns) dy (g .columns) buf old l → Pasted kind buf (r .from) (r .n) l (r .at) new
+      → Placed kind (g .width) (p .x) (p .y) (p .columns) (dy + 1) (g .columns) buf old new
+  placed-row p dy r buf old l new f o pl q =
+      placed-more kind (g .width) (p .x) (p .y) (p .columns) (g .columns) buf old dy l new (f .columns .in-side) pl (rw (o .from, o .n, o .at) at q)
+
+  module _ (sound : Sound g) (s : List ℕ) where
+    -- a block
+    pub block-shown : (b : ℕ) (p : Part) (B : ℕ) (buf old new : List ℕ) → PartOf g b p → B ≡ blockAt s b
+        → ((k : ℕ) → k < 4 * texelsOf (g .footprint) → getD buf k 0 ≡ blockChannel (g .footprint) kind B k)
+        → Placed kind (g .width) (p .x) (p .y) (p .columns) (p .rows) (g .columns) buf old new
+        → Tile (g .width) (g .height) (g .columns) (g .rows) (b % g .across) (b / g .across) (imageNumberAt (g .footprint) kind (g .width) s) old new
+    block-shown b p B buf old new o e held pl =
+        let i : b / g .across * g .across + b % g .across ≡ b = div-add-mod' b (g .across) in
+        let j : B ≡ blockAt s (b / g .across * g .across + b % g .across) = e ∙ ap (blockAt s) (sym i) in
+        tile-shown kind (g .footprint) (g .width) (g .height) (g .columns) (g .rows) (g .across) (b % g .across) (b / g .across) (p .columns) (p .rows) s buf old new
+        (sound .columns) (sound .rows) (sound .across) (rw (sound .columns) at (sound .columns-least)) (rw (sound .rows) at (sound .rows-least))
+        (rw (o .x) at (o .fits .columns)) (rw (o .y) at (o .fits .rows)) (rw (o .x, o .y) at pl)
+        (λ k h. held k h ∙ ap (λ (n : ℕ). blockChannel (g .footprint) kind n k) j)
+
+    -- before the first block
+    pub decoding-start : (old buf : List ℕ) → length buf ≡ 576 → Decoding kind g s old old buf (record { count = 0; first = 0; fault = 0 }) 0
+    decoding-start old buf e = record {
+      within = omega arith;
+      same = refl;
+      shown = shown-none (g .width) (g .height) (g .columns) (g .rows) (g .across) (imageNumberAt (g .footprint) kind (g .width) s) old;
+      tallied = sym (tally-start (faultAt (g .footprint) s));
+      room = e;
+    }
+
+    -- one block more
+    pub decoding-more : (old l buf : List ℕ) (t : Tally) (b : ℕ) (new buf′ : List ℕ) (t′ : Tally) (e : ℕ) → Decoding kind g s old l buf t b
+        → b < g .down * g .across → length new ≡ length l → length buf′ ≡ 576
+        → Tile (g .width) (g .height) (g .columns) (g .rows) (b % g .across) (b / g .across) (imageNumberAt (g .footprint) kind (g .width) s) l new
+        → e ≡ faultAt (g .footprint) s b → t′ ≡ noted t b e → Decoding kind g s old new buf′ t′ (b + 1)
+    decoding-more old l buf t b new buf′ t′ e d h n r tile fault note = record {
+      within = omega arith;
+      same = n ∙ d .same;
+      shown = shown-more (g .width) (g .height) (g .columns) (g .rows) (g .across) (imageNumberAt (g .footprint) kind (g .width) s) b l new (sound .columns-least) (sound .across) (d .shown) tile;
+      tallied = note ∙ ap₂ (λ (t : Tally) (e : ℕ). noted t b e) (d .tallied) fault ∙ tally-more (faultAt (g .footprint) s) b;
+      room = r;
+    }
+
+    -- after the last
+    pub decoding-done : (old l buf : List ℕ) (t : Tally) (b : ℕ) → length old ≡ 4 * (g .height * g .width) → g .down * g .across ≤ b → Decoding kind g s old l buf t b
+        → (t ≡ tallyOf (faultAt (g .footprint) s) (g .down * g .across)) × (l ≡ imageNumbers (g .footprint) kind (g .width) (g .height) s)
+    unfolding imageNumbers
+    decoding-done old l buf t b size h d =
+        let q : b ≡ g .down * g .across = let z = d .within in omega arith in
+        let p : ShownTo (g .width) (g .height) (g .columns) (g .rows) (g .across) (g .down * g .across) (imageNumberAt (g .footprint) kind (g .width) s) l = rw q at (d .shown) in (
+          rw q at (d .tallied),
+          shown-all (g .width) (g .height) (g .columns) (g .rows) (g .across) (imageNumberAt (g .footprint) kind (g .width) s) l
+              (sound .width-least) (sound .columns-least) (sound .rows-least) (sound .across) (d .same ∙ size) (rw (sound .down) at p),
+        )

@@ -1,0 +1,78 @@
+-- 01, "Numbers told to the caller": what an image call refuses, answers and leaves in the result buffer.
+-- Assumes nothing.
+use Prim.Native.Nat.{ℕ, _*_}
+use mathlib.Core.Bool.{Bool, not}
+use mathlib.Core.List.{List, [], _∷_}
+use lib.Dec.{eqb, ltb}
+use lib.ListN.{length}
+use Rattle.laws.specs.Choice.{pick, either}
+use Rattle.interpolation.specs.declared.Kind.{Kind}
+use Rattle.block_header.specs.Reasons.{when, firstOf}
+use Rattle.image_layout.specs.declared.Tally.{Tally}
+use Rattle.image_layout.specs.declared.ImageAnswer.{ImageAnswer}
+use Rattle.image_layout.specs.declared.ImageAnswer.the-variants.{Refused, Decoded}
+use Rattle.image_layout.specs.declared.CheckedImage.{CheckedImage}
+use Rattle.image_layout.specs.declared.CheckedImage.the-variants.{Rejected, Accepted}
+use Rattle.image_layout.specs.Geometry.{sideLimit, gridOf, blocksOf}
+use Rattle.image_layout.specs.Numbers.{faultAt, imageNumbers}
+use Rattle.image_layout.specs.Faulty.{tallyOf}
+
+-- 3: "a picture side is 0 or above 4,096"
+unfoldable pub badSide : ℕ → Bool
+badSide n = either (eqb n 0) (ltb sideLimit n)
+
+-- "Refusals, tested in this order", of an image call with so many block bytes and places for numbers; 0 for none
+unfoldable pub imageRefusal : ℕ → ℕ → ℕ → ℕ → ℕ → ℕ
+imageRefusal fp w h bytes places =
+    firstOf
+    (when (ltb 13 fp) 1
+    ∷ when (either (badSide w) (badSide h)) 3
+    ∷ when (not (eqb bytes (16 * blocksOf fp w h))) 4
+    ∷ when (not (eqb places (4 * (h * w)))) 5
+    ∷ [])
+
+-- the first stage of the call: the refusal, or the image's layout
+unfoldable pub checkedOf : ℕ → ℕ → ℕ → ℕ → ℕ → CheckedImage
+checkedOf fp w h bytes places =
+    let e = imageRefusal fp w h bytes places in
+    pick (eqb e 0) (Accepted (gridOf fp w h)) (Rejected e)
+
+-- the faults of an image's blocks
+unfoldable pub imageTally : ℕ → ℕ → ℕ → List ℕ → Tally
+imageTally fp w h s = tallyOf (faultAt fp s) (blocksOf fp w h)
+
+-- the answer, for every input
+unfoldable pub imageAnswer : ℕ → ℕ → ℕ → List ℕ → ℕ → ImageAnswer
+imageAnswer fp w h s places =
+    let e = imageRefusal fp w h (length s) places in
+    pick (eqb e 0) (Decoded (imageTally fp w h s)) (Refused e)
+
+-- the result buffer after the call: "nothing is written" on a refusal
+unfoldable pub imageOut : ℕ → Kind → ℕ → ℕ → List ℕ → List ℕ → List ℕ
+imageOut fp kind w h s old = pick (eqb (imageRefusal fp w h (length s) (length old)) 0) (imageNumbers fp kind w h s) old
+
+-- ---- 01's numbers
+
+-- the numbers told: the refusal (0 for none), the count of blocks with a fault, the first one's raster index and fault
+pub record Told : Type 0 where
+  pub refusal : ℕ
+  pub count : ℕ
+  pub first : ℕ
+  pub fault : ℕ
+
+abbrev pub toldWith : ℕ → Tally → Told
+toldWith e t = record { refusal = e; count = t .count; first = t .first; fault = t .fault }
+
+abbrev pub noTally : Tally
+noTally = record { count = 0; first = 0; fault = 0 }
+
+-- 01's numbers for each case of the answer
+abbrev pub toldOf : ImageAnswer → Told
+toldOf (Refused e) = toldWith e noTally
+toldOf (Decoded t) = toldWith 0 t
+
+-- what a call tells: on a refusal "all other numbers told are 0"
+unfoldable pub imageTold : ℕ → ℕ → ℕ → List ℕ → ℕ → Told
+imageTold fp w h s places =
+    let e = imageRefusal fp w h (length s) places in
+    toldWith e (pick (eqb e 0) (imageTally fp w h s) noTally)

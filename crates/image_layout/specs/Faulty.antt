@@ -1,0 +1,29 @@
+-- 01: "A picture call answers the count of blocks with a fault, and the raster index and fault of the first one (both 0 where there is none)".
+-- The faults are given as a function of the block's index, 0 for none.
+-- Assumes nothing.
+use Prim.Native.Nat.{ℕ, zero, suc, _+_}
+use lib.Dec.{eqb, ltb}
+use Rattle.laws.specs.Choice.{pick}
+use Rattle.image_layout.specs.declared.Tally.{Tally}
+
+module _ (fault : ℕ → ℕ) where
+  -- how many of the blocks below n have a fault
+  unfoldable pub faultCount : ℕ → ℕ
+  faultCount zero = 0
+  faultCount (suc n) = faultCount n + pick (eqb (fault n) 0) 0 1
+
+  -- the least of the n blocks from i on that has a fault, i + n where none has
+  unfoldable pub firstFrom : ℕ → ℕ → ℕ
+  firstFrom i zero = i
+  firstFrom i (suc n) = pick (eqb (fault i) 0) (firstFrom (suc i) n) i
+
+  -- the least block below n that has a fault, n where none has
+  unfoldable pub firstFaulty : ℕ → ℕ
+  firstFaulty n = firstFrom 0 n
+
+  -- a number told of the first block with a fault, 0 where there is none
+  unfoldable pub ofFirst : (ℕ → ℕ) → ℕ → ℕ
+  ofFirst told n = pick (ltb (firstFaulty n) n) (told (firstFaulty n)) 0
+
+  unfoldable pub tallyOf : ℕ → Tally
+  tallyOf n = record { count = faultCount n; first = ofFirst (λ b. b) n; fault = ofFirst fault n }

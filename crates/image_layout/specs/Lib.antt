@@ -1,0 +1,4 @@
+pub mod Geometry
+pub mod Numbers
+pub mod Faulty
+pub mod Call

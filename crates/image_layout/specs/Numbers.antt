@@ -1,0 +1,33 @@
+-- 01, "What is covered": the numbers of an image, "Channels are R, G, B, A, rows first", and the faults of its blocks.
+-- Assumes nothing.
+use Prim.Native.Nat.{ℕ, _*_, _/_, _%_}
+use mathlib.Core.List.{List}
+use lib.ListN.{take, drop}
+use Rattle.laws.specs.Table.{tab}
+use Rattle.bits.specs.Block.{numberOf}
+use Rattle.footprint.specs.Footprint.{widthOf, heightOf}
+use Rattle.interpolation.specs.declared.Kind.{Kind}
+use Rattle.block_fault.specs.Faults.{faultOf}
+use Rattle.texel.specs.BlockTexel.{blockNumberAt}
+use Rattle.image_layout.specs.Geometry.{blockIndex}
+
+-- the sixteen bytes of block b
+unfoldable pub blockBytes : List ℕ → ℕ → List ℕ
+blockBytes s b = take 16 (drop (16 * b) s)
+
+-- the same as one number
+unfoldable pub blockAt : List ℕ → ℕ → ℕ
+blockAt s b = numberOf (blockBytes s b)
+
+-- its fault, 0 for none
+unfoldable pub faultAt : ℕ → List ℕ → ℕ → ℕ
+faultAt fp s b = faultOf fp (blockAt s b)
+
+-- channel c of the texel in column x of row y of an image w texels wide: what that texel's block shows at its place in the block
+unfoldable pub imageNumberAt : ℕ → Kind → ℕ → List ℕ → ℕ → ℕ → ℕ → ℕ
+imageNumberAt fp kind w s x y c = blockNumberAt fp kind (blockAt s (blockIndex fp w x y)) (x % widthOf fp) (y % heightOf fp) c
+
+-- all numbers of an image, rows first: number n is channel n % 4 of texel n / 4, which stands in column n / 4 % w of row n / 4 / w;
+-- "Texels of an edge block beyond the picture are dropped"
+unfoldable pub imageNumbers : ℕ → Kind → ℕ → ℕ → List ℕ → List ℕ
+imageNumbers fp kind w h s = tab (λ n. imageNumberAt fp kind w s (n / 4 % w) (n / 4 / w) (n % 4)) (4 * (h * w))
