@@ -1,0 +1,143 @@
+-- Demand 3 of the definitions, carried to the answers of the calls.
+-- Assumes nothing.
+use mathlib.Core.Path.{_≡_, refl, sym, ap, _∙_, subst}
+use mathlib.Core.Bool.{Bool, true, false}
+use mathlib.Core.List.{List}
+use Prim.Native.Nat.{ℕ, _*_, _/_, _%_, _^_, _≤_, _<_}
+use native.Mathlib.Nat.{mod-eq-of-lt}
+use lib.Dec.{T, eqb, ltb}
+use lib.ListN.{length}
+use borrow.Author.Tests.{eq-eqb, ltb-false}
+use Rattle.laws.specs.Choice.{pick}
+use Rattle.laws.specs.Table.{tab}
+use Rattle.laws.proofs.Filling.{tab-ext}
+use Rattle.bits.specs.Block.{numberOf, bytesOf}
+use Rattle.bits.proofs.Blocks.{number-bytes, bytes-length}
+use Rattle.footprint.specs.Footprint.{widthOf, texelsOf}
+use Rattle.interpolation.specs.declared.Kind.{Kind}
+use Rattle.block_fault.specs.Faults.{faultOf}
+use Rattle.texel.specs.Meaning.{shownChannel}
+use Rattle.texel.specs.BlockTexel.{blockNumberAt, blockChannel, blockNumbers}
+use Rattle.one_block.specs.declared.Answer.{Answer}
+use Rattle.one_block.specs.declared.Answer.the-variants.{Refused, Done}
+use Rattle.one_block.specs.Calls.{numberTold, answerFor, blockRefusal, blockAnswer, blockOut}
+use Rattle.one_block.proofs.Laws as one
+use Rattle.symbolic_block.specs.declared.SymbolicBlock.{SymbolicBlock}
+use Rattle.symbolic_block.specs.Fields.{Sized}
+use Rattle.symbolic_block.specs.Refusals.{unknownFootprint, modeRefusals, voidRefusals, refusals, refusalOf, Acceptable}
+use Rattle.symbolic_block.specs.Picture.{pictureNumber}
+use Rattle.symbolic_block.specs.Writing.{blockOf}
+use Rattle.symbolic_block.specs.Reading.{readBlock}
+use Rattle.symbolic_block.proofs.Reasons.{reasonAt}
+use Rattle.symbolic_block.proofs.Demand.{demand-3}
+use Rattle.symbolic_reader.specs.declared.Reading.{Reading}
+use Rattle.symbolic_reader.specs.Answers.{readingIn, readingOf, done}
+use Rattle.symbolic_reader.proofs.Laws as reader
+use Rattle.symbolic_calls.specs.declared.Writing.{Writing}
+use Rattle.symbolic_calls.specs.Writing.{writingOf}
+use Rattle.symbolic_calls.proofs.Laws as writer
+use Rattle.round_trip.specs.declared.RoundTrip.{RoundTrip}
+use Rattle.round_trip.specs.Demand.{roundTripOf, pictureNumbers, Kept, Demanded}
+
+-- ---- refusals
+
+module _ (fp : ℕ) (s : SymbolicBlock) where
+  footprint-first : (void : Bool) → reasonAt (pick void (voidRefusals fp s) (modeRefusals fp s)) 0 .holds ≡ false → ltb 13 fp ≡ false
+  unfolding voidRefusals modeRefusals unknownFootprint
+  footprint-first true e = e
+  footprint-first false e = e
+
+  known : Acceptable fp s → fp ≤ 13
+  unfolding refusals
+  known a = ltb-false 13 fp (footprint-first (eqb (s .mark) 1) (demand-3 .refused-exactly fp s .0 a 0))
+
+  -- a reason that holds
+  not-acceptable : (i : ℕ) → reasonAt (refusals fp s) i .holds ≡ true → Acceptable fp s → ⊥
+  not-acceptable i e a = subst T (sym e ∙ demand-3 .refused-exactly fp s .0 a i) tt
+
+  accepted-answer : Acceptable fp s → writingOf fp s .answer ≡ Done
+  accepted-answer a = ap (λ (w : Writing). w .answer) (sym (writer.written fp s a))
+
+  answer-accepted : writingOf fp s .answer ≡ Done → Acceptable fp s
+  answer-accepted e = sym (writer.told-number fp s) ∙ ap numberTold e
+
+  refused-answer : (n : ℕ) → (Acceptable fp s → ⊥) → refusalOf fp s ≡ n → writingOf fp s .answer ≡ Refused n
+  refused-answer n h e = ap (λ (w : Writing). w .answer) (sym (writer.refused fp s h)) ∙ ap Refused e
+
+  refused-bytes : (Acceptable fp s → ⊥) → writingOf fp s .bytes ≡ tab (λ k. 0) 16
+  refused-bytes h = ap (λ (w : Writing). w .bytes) (sym (writer.refused fp s h))
+
+-- ---- an acceptable one
+
+module _ (fp : ℕ) (s : SymbolicBlock) (z : Sized s) (a : Acceptable fp s) where
+  bytes-are : writingOf fp s .bytes ≡ bytesOf 16 (blockOf s)
+  bytes-are = ap (λ (w : Writing). w .bytes) (sym (writer.written fp s a))
+
+  sixteen : length (writingOf fp s .bytes) ≡ 16
+  sixteen = ap (λ (l : List ℕ). length l) bytes-are ∙ bytes-length 16 (blockOf s)
+
+  number : numberOf (writingOf fp s .bytes) ≡ blockOf s
+  number = ap numberOf bytes-are ∙ number-bytes 16 (blockOf s) ∙ mod-eq-of-lt (demand-3 .written-fits fp s z a)
+
+  no-fault : faultOf fp (numberOf (writingOf fp s .bytes)) ≡ 0
+  no-fault = ap (faultOf fp) number ∙ demand-3 .written-no-fault fp s z a
+
+  sound : readingIn fp (blockOf s) ≡ done (readBlock (blockOf s))
+  unfolding readingIn
+  sound = rw (eq-eqb _ _ (demand-3 .written-no-fault fp s z a))
+
+  back : readingOf fp (writingOf fp s .bytes) ≡ done s
+  back =
+      sym (reader.passed-reading fp _ (sym (reader.accepted fp _ (known fp s a) sixteen)))
+      ∙ ap (readingIn fp) number ∙ sound ∙ ap done (demand-3 .written-reads-back fp s z a)
+
+  module _ (old : List ℕ) (size : length old ≡ 4 * texelsOf fp) where
+    taken : blockRefusal fp (length (writingOf fp s .bytes)) (length old) ≡ 0
+    taken = sym (one.accepted fp _ _ (known fp s a) sixteen size)
+
+    answered : blockAnswer fp (writingOf fp s .bytes) (length old) ≡ Done
+    unfolding answerFor
+    answered = sym (one.answered fp (writingOf fp s .bytes) old taken) ∙ ap answerFor no-fault
+
+    numbers : (kind : Kind) → blockNumbers fp kind (blockOf s) ≡ pictureNumbers fp kind s
+    unfolding blockNumbers blockChannel blockNumberAt shownChannel pictureNumbers
+    numbers kind = tab-ext _ _ 0 (4 * texelsOf fp) (λ k p. demand-3 .written-shows-numbers fp s z a kind (k / 4 % widthOf fp) (k / 4 / widthOf fp) (k % 4))
+
+    picture : (kind : Kind) → blockOut kind fp (writingOf fp s .bytes) old ≡ pictureNumbers fp kind s
+    picture kind = sym (one.written fp (writingOf fp s .bytes) old taken kind) ∙ ap (blockNumbers fp kind) number ∙ numbers kind
+
+-- ---- the whole
+
+module _ (kind : Kind) (fp : ℕ) (s : SymbolicBlock) (z : Sized s) (old out : List ℕ) where
+  definitions-kept : out ≡ blockOut kind fp (writingOf fp s .bytes) old → Demanded kind fp s old (roundTripOf fp s (length old)) out
+  unfolding roundTripOf
+  definitions-kept e = record {
+    refused-exactly = (λ d. demand-3 .refused-exactly fp s .0 (answer-accepted fp s d), λ h. accepted-answer fp s (demand-3 .refused-exactly fp s .1 h));
+    first-is-told = λ i h f. refused-answer fp s _ (not-acceptable fp s i h) (demand-3 .first-is-told fp s i h f);
+    nothing-written = λ i h. refused-bytes fp s (not-acceptable fp s i h);
+    kept = λ a. record {
+      written = accepted-answer fp s a;
+      sixteen = sixteen fp s z a;
+      no-fault = no-fault fp s z a;
+      read = ap (λ (r : Reading). r .answer) (back fp s z a);
+      same = ap (λ (r : Reading). r .block) (back fp s z a);
+      shown = λ size. answered fp s z a old size;
+      picture = λ size. e ∙ picture fp s z a old size kind;
+    };
+  }
+
+  pub demanded : (r : RoundTrip) → r ≡ roundTripOf fp s (length old) → out ≡ blockOut kind fp (r .writing .bytes) old → Demanded kind fp s old r out
+  unfolding roundTripOf
+  demanded r e =
+      subst (λ (q : RoundTrip). out ≡ blockOut kind fp (q .writing .bytes) old → Demanded kind fp s old q out) (sym e) definitions-kept
+
+-- the answers one by one are those of the definition
+abbrev answers : Writing → Reading → Answer → RoundTrip
+answers w r a = record { writing = w; reading = r; shown = a }
+
+pub together : (fp : ℕ) (s : SymbolicBlock) (numbers : ℕ) (w : Writing) (r : Reading) (a : Answer) → w ≡ writingOf fp s
+    → r ≡ readingOf fp (w .bytes) → a ≡ blockAnswer fp (w .bytes) numbers → answers w r a ≡ roundTripOf fp s numbers
+unfolding roundTripOf
+together fp s numbers w r a e f g =
+    ap (λ (x : Reading). answers w x a) f ∙ ap (answers w (readingOf fp (w .bytes))) g
+    ∙ ap (λ (x : Writing). answers x (readingOf fp (x .bytes)) (blockAnswer fp (x .bytes) numbers)) e

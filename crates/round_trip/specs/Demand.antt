@@ -1,0 +1,58 @@
+-- 01, "Words of demand 3", of what the calls return: the writer, the reader of symbolic blocks (01: sheets) and the one-block call.
+-- Assumes nothing.
+use mathlib.Core.Path.{_≡_}
+use mathlib.Core.Logic.{_↔_}
+use mathlib.Core.Bool.{true, false}
+use mathlib.Core.List.{List}
+use Prim.Native.Nat.{ℕ, _*_, _/_, _%_, _<_}
+use lib.ListN.{length}
+use Rattle.laws.specs.Table.{tab}
+use Rattle.bits.specs.Block.{numberOf}
+use Rattle.footprint.specs.Footprint.{widthOf, texelsOf}
+use Rattle.interpolation.specs.declared.Kind.{Kind}
+use Rattle.block_fault.specs.Faults.{faultOf}
+use Rattle.one_block.specs.declared.Answer.the-variants.{Refused, Done}
+use Rattle.one_block.specs.Calls.{numberTold, blockAnswer}
+use Rattle.symbolic_block.specs.declared.SymbolicBlock.{SymbolicBlock}
+use Rattle.symbolic_block.specs.Refusals.{refusals, Acceptable}
+use Rattle.symbolic_block.specs.Picture.{pictureNumber}
+use Rattle.symbolic_block.proofs.Reasons.{reasonAt}
+use Rattle.symbolic_reader.specs.Answers.{readingOf}
+use Rattle.symbolic_calls.specs.Writing.{writingOf}
+use Rattle.round_trip.specs.declared.RoundTrip.{RoundTrip}
+
+-- the three answers
+unfoldable pub roundTripOf : ℕ → SymbolicBlock → ℕ → RoundTrip
+roundTripOf fp s numbers = record {
+  writing = writingOf fp s;
+  reading = readingOf fp (writingOf fp s .bytes);
+  shown = blockAnswer fp (writingOf fp s .bytes) numbers;
+}
+
+-- the picture's numbers in the order of a result buffer: "Channels are R, G, B, A, rows first"
+unfoldable pub pictureNumbers : ℕ → Kind → SymbolicBlock → List ℕ
+unfolding tab pictureNumber
+pictureNumbers fp kind s = tab (λ k. pictureNumber fp kind s (k / 4 % widthOf fp) (k / 4 / widthOf fp) (k % 4)) (4 * texelsOf fp)
+
+-- of an acceptable symbolic block
+pub record Kept (kind : Kind) (fp : ℕ) (s : SymbolicBlock) (old : List ℕ) (r : RoundTrip) (out : List ℕ) : Type 0 where
+  pub written : r .writing .answer ≡ Done
+  -- a block without fault
+  pub sixteen : length (r .writing .bytes) ≡ 16
+  pub no-fault : faultOf fp (numberOf (r .writing .bytes)) ≡ 0
+  -- that reads back as the same
+  pub read : r .reading .answer ≡ Done
+  pub same : r .reading .block ≡ s
+  -- and shows its picture, at every texel
+  pub shown : length old ≡ 4 * texelsOf fp → r .shown ≡ Done
+  pub picture : length old ≡ 4 * texelsOf fp → out ≡ pictureNumbers fp kind s
+
+-- of any
+pub record Demanded (kind : Kind) (fp : ℕ) (s : SymbolicBlock) (old : List ℕ) (r : RoundTrip) (out : List ℕ) : Type 0 where
+  -- it is refused exactly when a listed reason holds, and the first is told
+  pub refused-exactly : (r .writing .answer ≡ Done) ↔ ((i : ℕ) → reasonAt (refusals fp s) i .holds ≡ false)
+  pub first-is-told : (i : ℕ) → reasonAt (refusals fp s) i .holds ≡ true → ((j : ℕ) → j < i → reasonAt (refusals fp s) j .holds ≡ false)
+      → r .writing .answer ≡ Refused (reasonAt (refusals fp s) i .told)
+  -- "all 0 on a refusal"
+  pub nothing-written : (i : ℕ) → reasonAt (refusals fp s) i .holds ≡ true → r .writing .bytes ≡ tab (λ k. 0) 16
+  pub kept : Acceptable fp s → Kept kind fp s old r out
