@@ -3,7 +3,7 @@
 use mathlib.Core.Path.{_≡_, refl, sym, ap, _∙_, subst}
 use mathlib.Core.Bool.{Bool, true, false}
 use mathlib.Core.List.{List}
-use Prim.Native.Nat.{ℕ, _*_, _/_, _%_, _^_, _≤_, _<_}
+use Prim.Native.Nat.{ℕ, _*_, _/_, _%_, _≤_}
 use native.Mathlib.Nat.{mod-eq-of-lt}
 use lib.Dec.{T, eqb, ltb}
 use lib.ListN.{length}
@@ -25,7 +25,6 @@ use Rattle.one_block.proofs.Laws as one
 use Rattle.symbolic_block.specs.declared.SymbolicBlock.{SymbolicBlock}
 use Rattle.symbolic_block.specs.Fields.{Sized}
 use Rattle.symbolic_block.specs.Refusals.{unknownFootprint, modeRefusals, voidRefusals, refusals, refusalOf, Acceptable}
-use Rattle.symbolic_block.specs.Picture.{pictureNumber}
 use Rattle.symbolic_block.specs.Writing.{blockOf}
 use Rattle.symbolic_block.specs.Reading.{readBlock}
 use Rattle.symbolic_block.proofs.Reasons.{reasonAt}
@@ -37,7 +36,8 @@ use Rattle.symbolic_calls.specs.declared.Writing.{Writing}
 use Rattle.symbolic_calls.specs.Writing.{writingOf}
 use Rattle.symbolic_calls.proofs.Laws as writer
 use Rattle.round_trip.specs.declared.RoundTrip.{RoundTrip}
-use Rattle.round_trip.specs.Demand.{roundTripOf, pictureNumbers, Kept, Demanded}
+use Rattle.round_trip.specs.declared.Rewriting.{Rewriting}
+use Rattle.round_trip.specs.Demand.{roundTripOf, pictureNumbers, Demanded, rewriting, rewritingOf, Sound, Rewritten}
 
 -- ---- refusals
 
@@ -67,44 +67,52 @@ module _ (fp : ℕ) (s : SymbolicBlock) where
   refused-bytes : (Acceptable fp s → ⊥) → writingOf fp s .bytes ≡ tab (λ k. 0) 16
   refused-bytes h = ap (λ (w : Writing). w .bytes) (sym (writer.refused fp s h))
 
--- ---- an acceptable one
+-- ---- a block without fault
+
+module _ (fp : ℕ) (block : List ℕ) (h : Sound fp block) where
+  sound-in : readingIn fp (numberOf block) ≡ done (readBlock (numberOf block))
+  unfolding readingIn
+  sound-in = rw (eq-eqb _ _ (h .no-fault))
+
+  sound-read : readingOf fp block ≡ done (readBlock (numberOf block))
+  sound-read = sym (reader.passed-reading fp block (sym (reader.accepted fp _ (h .known) (h .sixteen)))) ∙ sound-in
+
+  module _ (old : List ℕ) (size : length old ≡ 4 * texelsOf fp) where
+    taken : blockRefusal fp (length block) (length old) ≡ 0
+    taken = sym (one.accepted fp _ _ (h .known) (h .sixteen) size)
+
+    sound-answer : blockAnswer fp block (length old) ≡ Done
+    unfolding answerFor
+    sound-answer = sym (one.answered fp block old taken) ∙ ap answerFor (h .no-fault)
+
+    sound-out : (kind : Kind) → blockOut kind fp block old ≡ blockNumbers fp kind (numberOf block)
+    sound-out kind = sym (one.written fp block old taken kind)
+
+-- ---- an acceptable symbolic block
 
 module _ (fp : ℕ) (s : SymbolicBlock) (z : Sized s) (a : Acceptable fp s) where
   bytes-are : writingOf fp s .bytes ≡ bytesOf 16 (blockOf s)
   bytes-are = ap (λ (w : Writing). w .bytes) (sym (writer.written fp s a))
 
-  sixteen : length (writingOf fp s .bytes) ≡ 16
-  sixteen = ap (λ (l : List ℕ). length l) bytes-are ∙ bytes-length 16 (blockOf s)
-
   number : numberOf (writingOf fp s .bytes) ≡ blockOf s
   number = ap numberOf bytes-are ∙ number-bytes 16 (blockOf s) ∙ mod-eq-of-lt (demand-3 .written-fits fp s z a)
 
-  no-fault : faultOf fp (numberOf (writingOf fp s .bytes)) ≡ 0
-  no-fault = ap (faultOf fp) number ∙ demand-3 .written-no-fault fp s z a
-
-  sound : readingIn fp (blockOf s) ≡ done (readBlock (blockOf s))
-  unfolding readingIn
-  sound = rw (eq-eqb _ _ (demand-3 .written-no-fault fp s z a))
+  sound : Sound fp (writingOf fp s .bytes)
+  sound = record {
+    known = known fp s a;
+    sixteen = ap (λ (l : List ℕ). length l) bytes-are ∙ bytes-length 16 (blockOf s);
+    no-fault = ap (faultOf fp) number ∙ demand-3 .written-no-fault fp s z a;
+  }
 
   back : readingOf fp (writingOf fp s .bytes) ≡ done s
-  back =
-      sym (reader.passed-reading fp _ (sym (reader.accepted fp _ (known fp s a) sixteen)))
-      ∙ ap (readingIn fp) number ∙ sound ∙ ap done (demand-3 .written-reads-back fp s z a)
+  back = sound-read fp _ sound ∙ ap (λ (B : ℕ). done (readBlock B)) number ∙ ap done (demand-3 .written-reads-back fp s z a)
 
-  module _ (old : List ℕ) (size : length old ≡ 4 * texelsOf fp) where
-    taken : blockRefusal fp (length (writingOf fp s .bytes)) (length old) ≡ 0
-    taken = sym (one.accepted fp _ _ (known fp s a) sixteen size)
+  numbers : (kind : Kind) → blockNumbers fp kind (blockOf s) ≡ pictureNumbers fp kind s
+  unfolding blockNumbers blockChannel blockNumberAt shownChannel pictureNumbers
+  numbers kind = tab-ext _ _ 0 (4 * texelsOf fp) (λ k p. demand-3 .written-shows-numbers fp s z a kind (k / 4 % widthOf fp) (k / 4 / widthOf fp) (k % 4))
 
-    answered : blockAnswer fp (writingOf fp s .bytes) (length old) ≡ Done
-    unfolding answerFor
-    answered = sym (one.answered fp (writingOf fp s .bytes) old taken) ∙ ap answerFor no-fault
-
-    numbers : (kind : Kind) → blockNumbers fp kind (blockOf s) ≡ pictureNumbers fp kind s
-    unfolding blockNumbers blockChannel blockNumberAt shownChannel pictureNumbers
-    numbers kind = tab-ext _ _ 0 (4 * texelsOf fp) (λ k p. demand-3 .written-shows-numbers fp s z a kind (k / 4 % widthOf fp) (k / 4 / widthOf fp) (k % 4))
-
-    picture : (kind : Kind) → blockOut kind fp (writingOf fp s .bytes) old ≡ pictureNumbers fp kind s
-    picture kind = sym (one.written fp (writingOf fp s .bytes) old taken kind) ∙ ap (blockNumbers fp kind) number ∙ numbers kind
+  picture : (old : List ℕ) → length old ≡ 4 * texelsOf fp → (kind : Kind) → blockOut kind fp (writingOf fp s .bytes) old ≡ pictureNumbers fp kind s
+  picture old size kind = sound-out fp _ sound old size kind ∙ ap (blockNumbers fp kind) number ∙ numbers kind
 
 -- ---- the whole
 
@@ -117,11 +125,11 @@ module _ (kind : Kind) (fp : ℕ) (s : SymbolicBlock) (z : Sized s) (old out : L
     nothing-written = λ i h. refused-bytes fp s (not-acceptable fp s i h);
     kept = λ a. record {
       written = accepted-answer fp s a;
-      sixteen = sixteen fp s z a;
-      no-fault = no-fault fp s z a;
+      sixteen = sound fp s z a .sixteen;
+      no-fault = sound fp s z a .no-fault;
       read = ap (λ (r : Reading). r .answer) (back fp s z a);
       same = ap (λ (r : Reading). r .block) (back fp s z a);
-      shown = λ size. answered fp s z a old size;
+      shown = λ size. sound-answer fp _ (sound fp s z a) old size;
       picture = λ size. e ∙ picture fp s z a old size kind;
     };
   }
@@ -141,3 +149,50 @@ unfolding roundTripOf
 together fp s numbers w r a e f g =
     ap (λ (x : Reading). answers w x a) f ∙ ap (answers w (readingOf fp (w .bytes))) g
     ∙ ap (λ (x : Writing). answers x (readingOf fp (x .bytes)) (blockAnswer fp (x .bytes) numbers)) e
+
+-- ---- a block read and written anew
+
+module _ (kind : Kind) (fp : ℕ) (block old old2 out again : List ℕ) (h : Sound fp block) where
+  same-numbers : blockNumbers fp kind (blockOf (readBlock (numberOf block))) ≡ blockNumbers fp kind (numberOf block)
+  unfolding blockNumbers blockChannel blockNumberAt shownChannel
+  same-numbers =
+      tab-ext _ _ 0 (4 * texelsOf fp)
+      (λ k p. demand-3 .rewritten-shows-numbers fp (numberOf block) (h .known) (h .no-fault) kind (k / 4 % widthOf fp) (k / 4 / widthOf fp) (k % 4))
+
+  rewritten-done : out ≡ blockOut kind fp block old → again ≡ blockOut kind fp (writingOf fp (readBlock (numberOf block)) .bytes) old2
+      → Rewritten fp block old old2 (rewriting fp block (length old) (length old2) (done (readBlock (numberOf block)))) out again
+  rewritten-done e f =
+      let B = numberOf block in
+      let z = demand-3 .read-sized fp B (h .no-fault) in
+      let a = demand-3 .read-acceptable fp B (h .known) (h .no-fault) in record {
+        read = refl;
+        reads-as = demand-3 .reads-as fp B (h .no-fault);
+        reads-as-one = λ s y r. demand-3 .reads-as-one fp B s (h .no-fault) y r;
+        acceptable = a;
+        written = accepted-answer fp (readBlock B) a;
+        shown = λ size. sound-answer fp block h old size;
+        shown-again = λ size. sound-answer fp _ (sound fp (readBlock B) z a) old2 size;
+        same-shown = λ size size2. f ∙ sound-out fp _ (sound fp (readBlock B) z a) old2 size2 kind ∙ ap (blockNumbers fp kind) (number fp (readBlock B) z a)
+            ∙ same-numbers ∙ sym (e ∙ sound-out fp block h old size kind);
+      }
+
+  pub rewritten : (r : Rewriting) → r ≡ rewritingOf fp block (length old) (length old2) → out ≡ blockOut kind fp block old
+      → again ≡ blockOut kind fp (r .writing .bytes) old2 → Rewritten fp block old old2 r out again
+  unfolding rewritingOf
+  rewritten r e g =
+      subst (λ (q : Rewriting). again ≡ blockOut kind fp (q .writing .bytes) old2 → Rewritten fp block old old2 q out again)
+      (sym (e ∙ ap (rewriting fp block (length old) (length old2)) (sound-read fp block h))) (rewritten-done g)
+
+-- the answers one by one
+abbrev four-answers : Reading → Writing → Answer → Answer → Rewriting
+four-answers r w a b = record { reading = r; writing = w; shown = a; again = b }
+
+pub four-together : (fp : ℕ) (block : List ℕ) (numbers numbers2 : ℕ) (r : Reading) (w : Writing) (a b : Answer) → r ≡ readingOf fp block
+    → w ≡ writingOf fp (r .block) → a ≡ blockAnswer fp block numbers → b ≡ blockAnswer fp (w .bytes) numbers2
+    → four-answers r w a b ≡ rewritingOf fp block numbers numbers2
+unfolding rewritingOf
+four-together fp block numbers numbers2 r w a b e f g k =
+    ap (four-answers r w a) k
+    ∙ ap (λ (x : Answer). four-answers r w x (blockAnswer fp (w .bytes) numbers2)) g
+    ∙ ap (λ (x : Writing). four-answers r x (blockAnswer fp block numbers) (blockAnswer fp (x .bytes) numbers2)) f
+    ∙ ap (rewriting fp block numbers numbers2) e

@@ -4,7 +4,7 @@ use mathlib.Core.Path.{_≡_}
 use mathlib.Core.Logic.{_↔_}
 use mathlib.Core.Bool.{true, false}
 use mathlib.Core.List.{List}
-use Prim.Native.Nat.{ℕ, _*_, _/_, _%_, _<_}
+use Prim.Native.Nat.{ℕ, _*_, _/_, _%_, _≤_, _<_}
 use lib.ListN.{length}
 use Rattle.laws.specs.Table.{tab}
 use Rattle.bits.specs.Block.{numberOf}
@@ -12,14 +12,18 @@ use Rattle.footprint.specs.Footprint.{widthOf, texelsOf}
 use Rattle.interpolation.specs.declared.Kind.{Kind}
 use Rattle.block_fault.specs.Faults.{faultOf}
 use Rattle.one_block.specs.declared.Answer.the-variants.{Refused, Done}
-use Rattle.one_block.specs.Calls.{numberTold, blockAnswer}
+use Rattle.one_block.specs.Calls.{blockAnswer}
 use Rattle.symbolic_block.specs.declared.SymbolicBlock.{SymbolicBlock}
+use Rattle.symbolic_block.specs.Fields.{Sized}
 use Rattle.symbolic_block.specs.Refusals.{refusals, Acceptable}
 use Rattle.symbolic_block.specs.Picture.{pictureNumber}
+use Rattle.symbolic_block.specs.Reading.{ReadsAs}
 use Rattle.symbolic_block.proofs.Reasons.{reasonAt}
+use Rattle.symbolic_reader.specs.declared.Reading.{Reading}
 use Rattle.symbolic_reader.specs.Answers.{readingOf}
 use Rattle.symbolic_calls.specs.Writing.{writingOf}
 use Rattle.round_trip.specs.declared.RoundTrip.{RoundTrip}
+use Rattle.round_trip.specs.declared.Rewriting.{Rewriting}
 
 -- the three answers
 unfoldable pub roundTripOf : ℕ → SymbolicBlock → ℕ → RoundTrip
@@ -56,3 +60,37 @@ pub record Demanded (kind : Kind) (fp : ℕ) (s : SymbolicBlock) (old : List ℕ
   -- "all 0 on a refusal"
   pub nothing-written : (i : ℕ) → reasonAt (refusals fp s) i .holds ≡ true → r .writing .bytes ≡ tab (λ k. 0) 16
   pub kept : Acceptable fp s → Kept kind fp s old r out
+
+-- ---- a block read and written anew
+
+-- with what was read of it
+abbrev pub rewriting : ℕ → List ℕ → ℕ → ℕ → Reading → Rewriting
+rewriting fp block numbers numbers2 r = record {
+  reading = r;
+  writing = writingOf fp (r .block);
+  shown = blockAnswer fp block numbers;
+  again = blockAnswer fp (writingOf fp (r .block) .bytes) numbers2;
+}
+
+unfoldable pub rewritingOf : ℕ → List ℕ → ℕ → ℕ → Rewriting
+rewritingOf fp block numbers numbers2 = rewriting fp block numbers numbers2 (readingOf fp block)
+
+-- sixteen bytes that are a block without fault
+pub record Sound (fp : ℕ) (block : List ℕ) : Type 0 where
+  pub known : fp ≤ 13
+  pub sixteen : length block ≡ 16
+  pub no-fault : faultOf fp (numberOf block) ≡ 0
+
+-- of a block without fault
+pub record Rewritten (fp : ℕ) (block old old2 : List ℕ) (r : Rewriting) (out again : List ℕ) : Type 0 where
+  -- it reads as the symbolic block that the reader tells, and as no other
+  pub read : r .reading .answer ≡ Done
+  pub reads-as : ReadsAs (numberOf block) (r .reading .block)
+  pub reads-as-one : (s : SymbolicBlock) → Sized s → ReadsAs (numberOf block) s → s ≡ r .reading .block
+  -- this is acceptable, and written
+  pub acceptable : Acceptable fp (r .reading .block)
+  pub written : r .writing .answer ≡ Done
+  -- and what is written shows the same
+  pub shown : length old ≡ 4 * texelsOf fp → r .shown ≡ Done
+  pub shown-again : length old2 ≡ 4 * texelsOf fp → r .again ≡ Done
+  pub same-shown : length old ≡ 4 * texelsOf fp → length old2 ≡ 4 * texelsOf fp → again ≡ out

@@ -7,7 +7,7 @@ ghost use mathlib.Core.Path.{_≡_};
 ghost use lib.ListN.{length};
 ghost use Rattle.interpolation.specs.declared.Kind.the-variants.{Unorm16, Srgb8};
 ghost use Rattle.one_block.specs.Calls.{blockOut};
-ghost use Rattle.round_trip.specs.Demand.{roundTripOf, Demanded};
+ghost use Rattle.round_trip.specs.Demand.{roundTripOf, Demanded, rewritingOf, Sound, Rewritten};
 
 // What the writer, the reader and the one-block call answered.
 pub struct RoundTrip {
@@ -30,5 +30,70 @@ pub fn round_trip_unorm16(fp: u8, s: SymbolicBlock, out: &mut [u16]) -> RoundTri
         writing,
         reading,
         shown,
+    }
+}
+
+// In kind 1: four bytes for each texel.
+pub fn round_trip_srgb8(fp: u8, s: SymbolicBlock, out: &mut [u8]) -> RoundTrip
+    ensures { λ r. ⌜ r ≡ roundTripOf fp s (length (now (out .entry))) ⌝ }
+    ensures { λ r. ⌜ now (out .exit) ≡ blockOut Srgb8 fp (r .writing .bytes) (now (out .entry)) ⌝ }
+    ensures { λ r. ⌜ Demanded Srgb8 fp s (now (out .entry)) r (now (out .exit)) ⌝ }
+{
+    let writing = symbolic_calls::write_symbolic(fp, s);
+    let bytes = writing.bytes;
+    let reading = symbolic_reader::read_symbolic(fp, &bytes);
+    let shown = one_block::decode_srgb8(fp, &bytes, out);
+    RoundTrip {
+        writing,
+        reading,
+        shown,
+    }
+}
+
+// What the reader, the writer and the one-block calls of both blocks answered.
+pub struct Rewriting {
+    pub reading: Reading,
+    pub writing: Writing,
+    pub shown: Answer,
+    pub again: Answer,
+}
+
+// A block read, written anew and both shown, in kind 0.
+pub fn rewrite_unorm16(fp: u8, block: &[u8], out: &mut [u16], again: &mut [u16]) -> Rewriting
+    ensures { λ r. ⌜ r ≡ rewritingOf fp (now (block .entry)) (length (now (out .entry))) (length (now (again .entry))) ⌝ }
+    ensures { λ r. ⌜ now (out .exit) ≡ blockOut Unorm16 fp (now (block .entry)) (now (out .entry)) ⌝ }
+    ensures { λ r. ⌜ now (again .exit) ≡ blockOut Unorm16 fp (r .writing .bytes) (now (again .entry)) ⌝ }
+    ensures { λ r. ⌜ (Sound fp (now (block .entry)) → Rewritten fp (now (block .entry)) (now (out .entry)) (now (again .entry)) r (now (out .exit)) (now (again .exit))) ⌝ }
+{
+    let reading = symbolic_reader::read_symbolic(fp, block);
+    let writing = symbolic_calls::write_symbolic(fp, reading.block);
+    let bytes = writing.bytes;
+    let shown = one_block::decode_unorm16(fp, block, out);
+    let shown_again = one_block::decode_unorm16(fp, &bytes, again);
+    Rewriting {
+        reading,
+        writing,
+        shown,
+        again: shown_again,
+    }
+}
+
+// A block read, written anew and both shown, in kind 1.
+pub fn rewrite_srgb8(fp: u8, block: &[u8], out: &mut [u8], again: &mut [u8]) -> Rewriting
+    ensures { λ r. ⌜ r ≡ rewritingOf fp (now (block .entry)) (length (now (out .entry))) (length (now (again .entry))) ⌝ }
+    ensures { λ r. ⌜ now (out .exit) ≡ blockOut Srgb8 fp (now (block .entry)) (now (out .entry)) ⌝ }
+    ensures { λ r. ⌜ now (again .exit) ≡ blockOut Srgb8 fp (r .writing .bytes) (now (again .entry)) ⌝ }
+    ensures { λ r. ⌜ (Sound fp (now (block .entry)) → Rewritten fp (now (block .entry)) (now (out .entry)) (now (again .entry)) r (now (out .exit)) (now (again .exit))) ⌝ }
+{
+    let reading = symbolic_reader::read_symbolic(fp, block);
+    let writing = symbolic_calls::write_symbolic(fp, reading.block);
+    let bytes = writing.bytes;
+    let shown = one_block::decode_srgb8(fp, block, out);
+    let shown_again = one_block::decode_srgb8(fp, &bytes, again);
+    Rewriting {
+        reading,
+        writing,
+        shown,
+        again: shown_again,
     }
 }

@@ -6,9 +6,8 @@ use mathlib.Core.List.{List}
 use Prim.Native.Nat.{ℕ}
 use lib.Dec.{eqb}
 use borrow.Author.Tests.{eq-eqb, ne-eqb, eqb-true, eqb-false}
-use Rattle.laws.specs.Table.{tab}
 use Rattle.bits.specs.Block.{bytesOf}
-use Rattle.one_block.specs.declared.Answer.the-variants.{Refused, Done}
+use Rattle.one_block.specs.declared.Answer.the-variants.{Done}
 use Rattle.one_block.specs.Calls.{numberTold}
 use Rattle.symbolic_block.specs.declared.SymbolicBlock.{SymbolicBlock}
 use Rattle.symbolic_block.specs.Refusals.{refusalOf, Acceptable}

@@ -1,7 +1,6 @@
 -- 01, "Numbers told to the caller": what the writer of symbolic blocks (01: sheets) answers.
 -- Assumes nothing.
 use Prim.Native.Nat.{ℕ}
-use mathlib.Core.List.{List}
 use lib.Dec.{eqb}
 use Rattle.laws.specs.Choice.{pick}
 use Rattle.laws.specs.Table.{tab}

@@ -1,0 +1,59 @@
+use denote.Ref.{now}
+use lib.ListN.{length, length-map}
+use borrow.Author.Needs.{needs}
+use Rattle.interpolation.specs.declared.Kind.the-variants.{Srgb8}
+use Rattle.symbolic_block.specs.Fields.{Sized}
+use Rattle.round_trip.proofs.Laws.{together, demanded}
+use Rattle.round_trip.proofs.round_trip_srgb8.Statement.{statement}
+use Rattle.round_trip.proofs.round_trip_srgb8.Tie as tie
+
+write-symbolic-requires : tie.Need-write-symbolic-requires
+write-symbolic-requires c κs = search needs
+
+slice-aggregate-read-symbolic : tie.Need-slice-aggregate-read-symbolic
+slice-aggregate-read-symbolic c = search needs
+
+read-symbolic-requires : tie.Need-read-symbolic-requires
+read-symbolic-requires c κs = search needs
+
+slice-aggregate-decode-srgb8 : tie.Need-slice-aggregate-decode-srgb8
+slice-aggregate-decode-srgb8 c = search needs
+
+decode-srgb8-requires : tie.Need-decode-srgb8-requires
+decode-srgb8-requires c κs = search needs
+
+same-length : tie.Need-same-length
+same-length c = search needs
+
+sized : (c : tie.Start) → Sized (c .args .s)
+sized c = record {
+  colours-4 = search needs;
+  extents-4 = search needs;
+  modes-4 = search needs;
+  endpoints-18 = simp length-map at (c .good .1 .0 .1 .1 .1 .1 .1 .1 .1 .1 .1 .1 .1 .1 .1 .1 .0 .1 .0 .1);
+  weights-64 = simp length-map at (c .good .1 .0 .1 .1 .1 .1 .1 .1 .1 .1 .1 .1 .1 .1 .1 .1 .1 .0 .1 .0 .1);
+}
+
+returns : tie.Need-returns
+returns c =
+    let d = c .before .before in
+    let r = d .before .before .before in
+    let w = r .before .before .before in
+    let z = w .before .before in
+    let fp = z .args .fp in
+    let s = z .args .s in
+    let old = now (z .args .out) in
+    let e = together fp s (length old) _ _ _ (w .write-symbolic .ensures) (r .read-symbolic .ensures) (d .decode-srgb8 .ensures .0) in
+    (e, (d .decode-srgb8 .ensures .1, demanded Srgb8 fp s (sized z) old _ _ e (d .decode-srgb8 .ensures .1)))
+
+pub round-trip-srgb8-spec : {M : Type 1} → statement M
+round-trip-srgb8-spec =
+    tie.close
+    (tie.spec
+    write-symbolic-requires
+    slice-aggregate-read-symbolic
+    read-symbolic-requires
+    slice-aggregate-decode-srgb8
+    decode-srgb8-requires
+    same-length
+    returns)
