@@ -1,0 +1,127 @@
+// Runs of the reader. Each record of standard input is a footprint and a block. For each a line "refused N" or "fault N", or the
+// symbolic block's fields in 01's order and then "block" and the sixteen bytes that are written for it.
+use encoding::Stored;
+use libc::STDIN_FILENO;
+use libc::STDOUT_FILENO;
+use one_block::Answer;
+use symbolic_block::SymbolicBlock;
+
+fn next(n: u16) {
+    io::write_all(STDOUT_FILENO, b" ");
+    io::print_decimal(STDOUT_FILENO, n as u64);
+}
+
+fn byte(n: u8) {
+    next(n as u16);
+}
+
+fn end_line() {
+    io::write_all(STDOUT_FILENO, b"\n");
+}
+
+fn told(name: &[u8], n: u8) {
+    io::write_all(STDOUT_FILENO, name);
+    byte(n);
+    end_line();
+}
+
+fn words(xs: [u16; 4]) {
+    next(xs[0]);
+    next(xs[1]);
+    next(xs[2]);
+    next(xs[3]);
+}
+
+fn modes(xs: [u8; 4]) {
+    byte(xs[0]);
+    byte(xs[1]);
+    byte(xs[2]);
+    byte(xs[3]);
+}
+
+fn endpoints(xs: [Stored; 18]) {
+    let mut i: usize = 0;
+    while i < 18 {
+        let x = xs[i];
+        byte(x.0);
+        i += 1;
+    }
+}
+
+fn weights(xs: [Stored; 64]) {
+    let mut i: usize = 0;
+    while i < 64 {
+        let x = xs[i];
+        byte(x.0);
+        i += 1;
+    }
+}
+
+fn fields(s: SymbolicBlock) {
+    io::write_all(STDOUT_FILENO, b"fields");
+    byte(s.mark);
+    let colours = s.colours;
+    words(colours);
+    let extents = s.extents;
+    words(extents);
+    byte(s.width);
+    byte(s.height);
+    byte(s.range);
+    byte(s.planes);
+    byte(s.component);
+    byte(s.partitions);
+    next(s.index);
+    byte(s.selector);
+    let m = s.modes;
+    modes(m);
+    let e = s.endpoints;
+    endpoints(e);
+    let w = s.weights;
+    weights(w);
+}
+
+fn all(bytes: [u8; 16]) {
+    io::write_all(STDOUT_FILENO, b" block");
+    let mut i: usize = 0;
+    while i < 16 {
+        byte(bytes[i]);
+        i += 1;
+    }
+    end_line();
+}
+
+fn rewritten(fp: u8, s: SymbolicBlock) {
+    fields(s);
+    let w = symbolic_calls::write_symbolic(fp, s);
+    let bytes = w.bytes;
+    all(bytes);
+}
+
+fn read(fp: u8, block: &[u8]) {
+    let r = symbolic_reader::read_symbolic(fp, block);
+    let a = r.answer;
+    let s = r.block;
+    match a {
+        Answer::Refused(n) => told(b"refused", n),
+        Answer::Faulty(n) => told(b"fault", n),
+        Answer::Done => rewritten(fp, s),
+    }
+}
+
+// One record, and whether there was one.
+fn record() -> bool {
+    let mut r = [0u8; 17];
+    let n = io::read_full(STDIN_FILENO, &mut r);
+    if n != 17 {
+        return false;
+    }
+    read(r[0], &r[1..17]);
+    true
+}
+
+fn main() {
+    let mut turns = u64::MAX;
+    while turns > 0 && record() {
+        turns -= 1;
+    }
+}

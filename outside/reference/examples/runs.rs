@@ -1,0 +1,136 @@
+//! Makes the inputs of the programs writer_runs and reader_runs and the outputs they must have: runs DIR
+use std::fmt::Write;
+use std::fs::write as store;
+use std::path::Path;
+
+use reference::random::*;
+use reference::{FOOTPRINTS, NUMBERS, SymbolicBlock, fault, read, refusal, write};
+
+/// 01's numbers of a writer's refusals.
+const REFUSALS: [u8; 14] = [0, 1, 12, 14, 15, 16, 17, 18, 19, 20, 31, 32, 33, 34];
+/// Cases of each sort.
+const EACH: usize = 6;
+
+fn main() {
+    let dir = std::env::args().nth(1).expect("a directory");
+    let mut r = Random(2026);
+    writer_runs(&mut r, Path::new(&dir));
+    reader_runs(&mut r, Path::new(&dir));
+}
+
+fn writer_runs(r: &mut Random, dir: &Path) {
+    let (mut input, mut output) = (Vec::new(), String::new());
+    let mut put = |footprint: usize, s: &SymbolicBlock| {
+        input.extend(record(footprint, s));
+        output += &match write(footprint, s) {
+            Ok(bytes) => format!("block{}\n", spaced(&bytes)),
+            Err(number) => format!("refused {number}\n"),
+        };
+    };
+    for footprint in 0..FOOTPRINTS.len() {
+        for _ in 0..EACH {
+            put(footprint, &mode_block(r, footprint));
+        }
+        put(footprint, &void_extent(r));
+    }
+    for wanted in REFUSALS {
+        let mut found = 0;
+        while found < EACH {
+            let footprint = if wanted == 1 { 14 + r.below(242) } else { reference::random::footprint(r) };
+            let s = candidate(r, footprint.min(13));
+            if in_bytes(&s) && refusal(footprint, &s) == wanted {
+                put(footprint, &s);
+                found += 1;
+            }
+        }
+    }
+    store(dir.join("writer.in"), input).expect("writer.in");
+    store(dir.join("writer.out"), output).expect("writer.out");
+}
+
+/// Acceptable, with a number changed, or with any settings.
+fn candidate(r: &mut Random, footprint: usize) -> SymbolicBlock {
+    let mut s = match r.below(4) {
+        0 => settings(r, true),
+        1 => void_extent(r),
+        _ => mode_block(r, footprint),
+    };
+    for _ in 0..r.below(3) {
+        let mut numbers = s.to_numbers();
+        numbers[r.below(NUMBERS)] = r.pick(&[0, 1, 2, 3, 4, 5, 6, 12, 13, 255]);
+        s = SymbolicBlock::from_numbers(&numbers);
+    }
+    s
+}
+
+/// Only colours, extents and the partition index are more than a byte.
+fn in_bytes(s: &SymbolicBlock) -> bool {
+    let numbers = s.to_numbers();
+    (0..NUMBERS).all(|i| (1..9).contains(&i) || i == 15 || numbers[i] < 256)
+}
+
+fn record(footprint: usize, s: &SymbolicBlock) -> Vec<u8> {
+    let mut bytes = vec![footprint as u8];
+    for (i, n) in s.to_numbers().into_iter().enumerate() {
+        bytes.push(n as u8);
+        if (1..9).contains(&i) || i == 15 {
+            bytes.push((n >> 8) as u8);
+        }
+    }
+    bytes
+}
+
+/// Blocks with any fitting codes and any spare bits, blocks of any mode, void extents, and a footprint that is refused.
+fn reader_runs(r: &mut Random, dir: &Path) {
+    let (mut input, mut output) = (Vec::new(), String::new());
+    let mut put = |footprint: usize, block: [u8; 16]| {
+        input.push(footprint as u8);
+        input.extend(block);
+        output += &told(footprint, &block);
+    };
+    for footprint in 0..FOOTPRINTS.len() {
+        for _ in 0..EACH {
+            let s = mode_block(r, footprint);
+            put(footprint, loose_block(r, footprint, &s));
+            put(footprint, block_of_any_mode(r));
+            put(footprint, void_extent_block(r));
+        }
+        put(footprint, fault20_block(r, footprint).0);
+    }
+    for wanted in 11..=20 {
+        let mut found = 0;
+        while found < EACH {
+            let footprint = reference::random::footprint(r);
+            let block = block_of_any_mode(r);
+            let block = if r.once_in(2) { void_extent_block(r) } else { block };
+            if fault(footprint, &block) == wanted {
+                put(footprint, block);
+                found += 1;
+            }
+        }
+    }
+    put(14, r.bytes());
+    put(255, r.bytes());
+    store(dir.join("reader.in"), input).expect("reader.in");
+    store(dir.join("reader.out"), output).expect("reader.out");
+}
+
+fn told(footprint: usize, block: &[u8; 16]) -> String {
+    if footprint > 13 {
+        return "refused 1\n".into();
+    }
+    match read(footprint, block) {
+        Err(number) => format!("fault {number}\n"),
+        Ok(s) => {
+            let bytes = write(footprint, &s).expect("what was read is acceptable");
+            format!("fields{} block{}\n", spaced(&s.to_numbers()), spaced(&bytes))
+        }
+    }
+}
+
+fn spaced<T: std::fmt::Display>(numbers: &[T]) -> String {
+    numbers.iter().fold(String::new(), |mut text, n| {
+        write!(text, " {n}").expect("text");
+        text
+    })
+}
