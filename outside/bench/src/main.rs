@@ -79,14 +79,14 @@ fn main() {
         let mut tally = [0; 3];
 
         let (mut ours, mut theirs) = (vec![1u16; 4 * SIDE * SIDE], vec![2u16; 4 * SIDE * SIDE]);
-        let answer = library::decode_image_unorm16(footprint as u8, side, side, &blocks, &mut ours, &mut tally);
+        let answer = library::raw::decode_image_unorm16(footprint as u8, side, side, &blocks, &mut ours, &mut tally);
         decode_image_u16(footprint, SIDE, SIDE, &blocks, &mut theirs);
         assert!(answer == 0 && tally == [0; 3] && ours == theirs, "{w}x{h} kind 0: not the same texels");
         worst = worst.max(measure(
             &format!("{w}x{h} kind 0"),
             rounds,
             || {
-                library::decode_image_unorm16(footprint as u8, side, side, &blocks, &mut ours, &mut tally);
+                library::raw::decode_image_unorm16(footprint as u8, side, side, &blocks, &mut ours, &mut tally);
             },
             || {
                 decode_image_u16(footprint, SIDE, SIDE, &blocks, &mut theirs);
@@ -94,14 +94,14 @@ fn main() {
         ));
 
         let (mut ours, mut theirs) = (vec![1u8; 4 * SIDE * SIDE], vec![2u8; 4 * SIDE * SIDE]);
-        let answer = library::decode_image_srgb8(footprint as u8, side, side, &blocks, &mut ours, &mut tally);
+        let answer = library::raw::decode_image_srgb8(footprint as u8, side, side, &blocks, &mut ours, &mut tally);
         decode_image_u8(footprint, SIDE, SIDE, &blocks, &mut theirs);
         assert!(answer == 0 && tally == [0; 3] && ours == theirs, "{w}x{h} kind 1: not the same texels");
         worst = worst.max(measure(
             &format!("{w}x{h} kind 1"),
             rounds,
             || {
-                library::decode_image_srgb8(footprint as u8, side, side, &blocks, &mut ours, &mut tally);
+                library::raw::decode_image_srgb8(footprint as u8, side, side, &blocks, &mut ours, &mut tally);
             },
             || {
                 decode_image_u8(footprint, SIDE, SIDE, &blocks, &mut theirs);

@@ -128,11 +128,11 @@ impl BlockCase {
         let Some(block) = self.whole() else {
             let refusal = block_refusal(f, self.block.len(), self.out_len);
             return lend(self.out_len, None, 1, "decode_block_unorm16", refusal, |out| {
-                library::decode_block_unorm16(self.footprint, &self.block, out)
+                library::raw::decode_block_unorm16(self.footprint, &self.block, out)
             })
             .or_else(|| {
                 lend(self.out_len, None, 1, "decode_block_srgb8", refusal, |out| {
-                    library::decode_block_srgb8(self.footprint, &self.block, out)
+                    library::raw::decode_block_srgb8(self.footprint, &self.block, out)
                 })
             });
         };
@@ -142,11 +142,11 @@ impl BlockCase {
         let mut bytes = vec![0; self.out_len];
         decode_u8(f, block, &mut bytes);
         lend(self.out_len, Some(&numbers), row, "decode_block_unorm16", fault, |out| {
-            library::decode_block_unorm16(self.footprint, &self.block, out)
+            library::raw::decode_block_unorm16(self.footprint, &self.block, out)
         })
         .or_else(|| {
             lend(self.out_len, Some(&bytes), row, "decode_block_srgb8", fault, |out| {
-                library::decode_block_srgb8(self.footprint, &self.block, out)
+                library::raw::decode_block_srgb8(self.footprint, &self.block, out)
             })
         })
     }
@@ -163,7 +163,7 @@ impl BlockCase {
             Err(number) => (number, [0; NUMBERS]),
         };
         let mut given = numbers.map(|n| !n);
-        let given_answer = library::read_symbolic(self.footprint, &self.block, &mut given);
+        let given_answer = library::raw::read_symbolic(self.footprint, &self.block, &mut given);
         if given_answer != answer {
             return Some(format!("read_symbolic answers {given_answer}, expected {answer}"));
         }
@@ -185,7 +185,7 @@ fn write_difference(footprint: u8, numbers: &[u16; NUMBERS]) -> Option<String> {
         Err(number) => (number, [0; 16]),
     };
     let mut given = block.map(|b| !b);
-    let given_answer = library::write_symbolic(footprint, numbers, &mut given);
+    let given_answer = library::raw::write_symbolic(footprint, numbers, &mut given);
     if given_answer != answer {
         return Some(format!("write_symbolic answers {given_answer}, expected {answer}"));
     }
@@ -341,14 +341,14 @@ impl Case for ImageCase {
         let mut tally = expected.map(|n| !n);
         let wanted = (refusal == 0).then_some(numbers.as_slice());
         lend(self.out_len, wanted, row, "decode_image_unorm16", refusal, |out| {
-            library::decode_image_unorm16(self.footprint, self.width, self.height, &self.blocks, out, &mut tally)
+            library::raw::decode_image_unorm16(self.footprint, self.width, self.height, &self.blocks, out, &mut tally)
         })
         .or_else(|| tally_difference("decode_image_unorm16", tally))
         .or_else(|| {
             let mut tally = expected.map(|n| !n);
             let wanted = (refusal == 0).then_some(bytes.as_slice());
             lend(self.out_len, wanted, row, "decode_image_srgb8", refusal, |out| {
-                library::decode_image_srgb8(self.footprint, self.width, self.height, &self.blocks, out, &mut tally)
+                library::raw::decode_image_srgb8(self.footprint, self.width, self.height, &self.blocks, out, &mut tally)
             })
             .or_else(|| tally_difference("decode_image_srgb8", tally))
         })

@@ -75,8 +75,8 @@ impl Run {
 fn vectors(run: &mut Run) {
     let outcome = vectors::check(
         &vectors::Decoder {
-            unorm16: &|footprint, block, out| library::decode_block_unorm16(footprint as u8, block, out),
-            srgb8: &|footprint, block, out| library::decode_block_srgb8(footprint as u8, block, out),
+            unorm16: &|footprint, block, out| library::raw::decode_block_unorm16(footprint as u8, block, out),
+            srgb8: &|footprint, block, out| library::raw::decode_block_srgb8(footprint as u8, block, out),
             alpha_like_colours: false,
         },
         &vectors::STORED,

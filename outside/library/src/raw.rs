@@ -1,0 +1,55 @@
+//! The calls over slices, with 01's number as the answer.
+
+use crate::ffi;
+
+pub fn decode_block_unorm16(footprint: u8, block: &[u8], out: &mut [u16]) -> u8 {
+    unsafe { ffi::astc_decode_block_unorm16(footprint, block.as_ptr(), block.len(), out.as_mut_ptr(), out.len()) }
+}
+
+pub fn decode_block_srgb8(footprint: u8, block: &[u8], out: &mut [u8]) -> u8 {
+    unsafe { ffi::astc_decode_block_srgb8(footprint, block.as_ptr(), block.len(), out.as_mut_ptr(), out.len()) }
+}
+
+pub fn decode_image_unorm16(
+    footprint: u8, width: u32, height: u32, blocks: &[u8], out: &mut [u16], tally: &mut [u64; 3],
+) -> u8 {
+    unsafe {
+        ffi::astc_decode_image_unorm16(
+            footprint,
+            width,
+            height,
+            blocks.as_ptr(),
+            blocks.len(),
+            out.as_mut_ptr(),
+            out.len(),
+            tally.as_mut_ptr(),
+            tally.len(),
+        )
+    }
+}
+
+pub fn decode_image_srgb8(
+    footprint: u8, width: u32, height: u32, blocks: &[u8], out: &mut [u8], tally: &mut [u64; 3],
+) -> u8 {
+    unsafe {
+        ffi::astc_decode_image_srgb8(
+            footprint,
+            width,
+            height,
+            blocks.as_ptr(),
+            blocks.len(),
+            out.as_mut_ptr(),
+            out.len(),
+            tally.as_mut_ptr(),
+            tally.len(),
+        )
+    }
+}
+
+pub fn read_symbolic(footprint: u8, block: &[u8], numbers: &mut [u16; 103]) -> u8 {
+    unsafe { ffi::astc_read_symbolic(footprint, block.as_ptr(), block.len(), numbers.as_mut_ptr(), numbers.len()) }
+}
+
+pub fn write_symbolic(footprint: u8, numbers: &[u16; 103], block: &mut [u8; 16]) -> u8 {
+    unsafe { ffi::astc_write_symbolic(footprint, numbers, block) }
+}
