@@ -23,6 +23,11 @@
  *   18 more than 18 endpoint numbers
  *   19 too few endpoint bits
  *   20 a partition with an HDR endpoint mode
+ * Refusals of a symbolic block: 12 and 14 to 20 as above, and
+ *   31 a field outside its limits, or an unused field not 0
+ *   32 no block mode has this grid, range and planes
+ *   33 endpoint modes that do not fit the selector
+ *   34 an endpoint number or weight above its range, or an unused one not 0
  */
 #ifndef STALLBROOK_H
 #define STALLBROOK_H
@@ -55,6 +60,14 @@ uint8_t astc_decode_image_srgb8(uint8_t footprint, uint32_t width, uint32_t heig
  * Answers 0, or the block's fault or the refusal 1 or 4, all 103 numbers being 0 then; or 5, after 1 and 4, where numbers is not of
  * 103 numbers, which leaves it as it was. */
 uint8_t astc_read_symbolic(uint8_t footprint, const uint8_t *block, size_t block_len, uint16_t *numbers, size_t numbers_len);
+
+/* The block of a symbolic block, with the smallest codes and spare bits 0. words are 9: the 4 colours, the 4 extents and the partition
+ * index; bytes are the 94 others in the order above: mark, grid width, grid height, weight range, planes, plane channel, partitions,
+ * selector, 4 endpoint modes, 18 endpoint numbers, 64 weights; block is of 16 bytes.
+ * Answers 0, or the refusal of the symbolic block (1, 12, 14 to 20, 31 to 34), the 16 bytes being 0 then; or, before these, 4 (block not
+ * of 16 bytes) or 5 (words not 9 or bytes not 94), which leaves block as it was. */
+uint8_t astc_write_symbolic(uint8_t footprint, const uint16_t *words, size_t words_len, const uint8_t *bytes, size_t bytes_len,
+    uint8_t *block, size_t block_len);
 
 #ifdef __cplusplus
 }

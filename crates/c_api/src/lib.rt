@@ -6,11 +6,14 @@ use image_layout::Tally;
 use one_block::Answer;
 use symbolic_block::SymbolicBlock;
 ghost use mathlib.Core.Path.{_≡_};
-ghost use Prim.Native.Nat.{_<_};
-ghost use lib.ListN.{length};
+ghost use Prim.Native.Nat.{_+_, _<_};
+ghost use lib.ListN.{length, getD};
+ghost use Rattle.laws.specs.Table.{tab};
+ghost use Rattle.integer_sequence.specs.Reading.{stored};
 ghost use Rattle.interpolation.specs.declared.Kind.the-variants.{Unorm16, Srgb8};
 ghost use Rattle.one_block.specs.Calls.{numberTold, blockAnswer, blockOut};
 ghost use Rattle.image_layout.specs.Call.{imageRefusal, toldOf};
+ghost use Rattle.c_api.specs.Lists.{blockFrom, listsRefusal, writeNumber, writeBlock};
 ghost use Rattle.c_api.specs.Images.{tallyTold, tallyNumbers, refusalOr5, imageNumber, imageShown, tallyShown};
 ghost use Rattle.c_api.specs.Numbers.{settingsOf, flatAt, flatOf, refusedOr5, readNumber, readNumbers};
 
@@ -214,5 +217,107 @@ pub extern "C" fn astc_read_symbolic(footprint: u8, block: &[u8], numbers: &mut 
         return refused_or_5(answer);
     }
     put(reading.block, numbers);
+    one_block::number_told(answer)
+}
+
+// ---- and from two lists, of 9 words and 94 bytes
+
+fn endpoints_from(bytes: &[u8]) -> [Stored; 18]
+    requires { ⌜ length (now bytes) ≡ 94 ⌝ }
+    ensures { λ r. ⌜ r ≡ tab (λ i. stored (getD (now (bytes .entry)) (12 + i) 0)) 18 ⌝ }
+{
+    let mut out = [Stored(0); 18];
+    let mut i: usize = 0;
+    while i < 18 {
+        out[i] = Stored(bytes[12 + i]);
+        i += 1;
+    }
+    out
+}
+
+fn weights_from(bytes: &[u8]) -> [Stored; 64]
+    requires { ⌜ length (now bytes) ≡ 94 ⌝ }
+    ensures { λ r. ⌜ r ≡ tab (λ i. stored (getD (now (bytes .entry)) (30 + i) 0)) 64 ⌝ }
+{
+    let mut out = [Stored(0); 64];
+    let mut i: usize = 0;
+    while i < 64 {
+        out[i] = Stored(bytes[30 + i]);
+        i += 1;
+    }
+    out
+}
+
+fn block_from(words: &[u16], bytes: &[u8]) -> SymbolicBlock
+    requires { ⌜ length (now words) ≡ 9 ⌝ }
+    requires { ⌜ length (now bytes) ≡ 94 ⌝ }
+    ensures { λ r. ⌜ r ≡ blockFrom (now (words .entry)) (now (bytes .entry)) ⌝ }
+{
+    let endpoints = endpoints_from(bytes);
+    let weights = weights_from(bytes);
+    SymbolicBlock {
+        mark: bytes[0],
+        colours: [words[0], words[1], words[2], words[3]],
+        extents: [words[4], words[5], words[6], words[7]],
+        width: bytes[1],
+        height: bytes[2],
+        range: bytes[3],
+        planes: bytes[4],
+        component: bytes[5],
+        partitions: bytes[6],
+        index: words[8],
+        selector: bytes[7],
+        modes: [bytes[8], bytes[9], bytes[10], bytes[11]],
+        endpoints,
+        weights,
+    }
+}
+
+// The first refusal of the lists, 0 for none.
+fn lists_refusal(words: usize, bytes: usize, block: usize) -> u8
+    ensures { λ r. ⌜ r ≡ listsRefusal words bytes block ⌝ }
+{
+    if block != 16 {
+        return 4;
+    }
+    if words != 9 {
+        return 5;
+    }
+    if bytes != 94 {
+        return 5;
+    }
+    0
+}
+
+fn put_block(from: [u8; 16], block: &mut [u8])
+    requires { ⌜ length (now block) ≡ 16 ⌝ }
+    ensures { λ r. ⌜ now (block .exit) ≡ tab (λ k. getD from k 0) 16 ⌝ }
+{
+    let mut i: usize = 0;
+    while i < 16 {
+        block[i] = from[i];
+        i += 1;
+    }
+}
+
+// The block of a symbolic block: 0, the refusal of the symbolic block with zeros in `block`, or 4 or 5 with `block` as it was.
+#[no_mangle]
+pub extern "C" fn astc_write_symbolic(
+    footprint: u8,
+    words: &[u16],
+    bytes: &[u8],
+    block: &mut [u8],
+) -> u8
+    ensures { λ r. ⌜ r ≡ writeNumber footprint (now (words .entry)) (now (bytes .entry)) (length (now (block .entry))) ⌝ }
+    ensures { λ r. ⌜ now (block .exit) ≡ writeBlock footprint (now (words .entry)) (now (bytes .entry)) (now (block .entry)) ⌝ }
+{
+    let n = lists_refusal(words.len(), bytes.len(), block.len());
+    if n != 0 {
+        return n;
+    }
+    let writing = symbolic_calls::write_symbolic(footprint, block_from(words, bytes));
+    let answer = writing.answer;
+    let from = writing.bytes;
+    put_block(from, block);
     one_block::number_told(answer)
 }
