@@ -27,6 +27,7 @@ unsafe extern "C" {
     /// 0 or the first refusal; the block is all 0 on a refusal of the symbolic block. Words: colours, extents, partition index (9); bytes:
     /// all other fields in order (94).
     pub fn astc_write_symbolic(
-        footprint: u8, words: *const u16, words_len: usize, bytes: *const u8, bytes_len: usize, block: *mut u8, block_len: usize,
+        footprint: u8, words: *const u16, words_len: usize, bytes: *const u8, bytes_len: usize, block: *mut u8,
+        block_len: usize,
     ) -> u8;
 }

@@ -175,14 +175,18 @@ fn tally_of(number: u8, tally: [u64; 3]) -> Result<Tally, Error> {
 /// assert_eq!((tally.faulty, tally.first, tally.fault), (1, 0, 11));
 /// # Ok::<(), stallbrook::Error>(())
 /// ```
-pub fn decode_image_unorm16(footprint: u8, width: u32, height: u32, blocks: &[u8], out: &mut [u16]) -> Result<Tally, Error> {
+pub fn decode_image_unorm16(
+    footprint: u8, width: u32, height: u32, blocks: &[u8], out: &mut [u16],
+) -> Result<Tally, Error> {
     let mut tally = [0; 3];
     let number = raw::decode_image_unorm16(footprint, width, height, blocks, out, &mut tally);
     tally_of(number, tally)
 }
 
 /// An image's texels as four bytes each, before the sRGB curve.
-pub fn decode_image_srgb8(footprint: u8, width: u32, height: u32, blocks: &[u8], out: &mut [u8]) -> Result<Tally, Error> {
+pub fn decode_image_srgb8(
+    footprint: u8, width: u32, height: u32, blocks: &[u8], out: &mut [u8],
+) -> Result<Tally, Error> {
     let mut tally = [0; 3];
     let number = raw::decode_image_srgb8(footprint, width, height, blocks, out, &mut tally);
     tally_of(number, tally)
