@@ -1,5 +1,6 @@
 // Runs of the reader. Each record of standard input is a footprint and a block. For each a line "refused N" or "fault N", or the
-// symbolic block's fields in 01's order and then "block" and the sixteen bytes that are written for it.
+// symbolic block's fields in 01's order, then "block" and the sixteen bytes that are written for it, and whether they show the same
+// texels in kind 0.
 use encoding::Stored;
 use libc::STDIN_FILENO;
 use libc::STDOUT_FILENO;
@@ -87,14 +88,43 @@ fn all(bytes: [u8; 16]) {
         byte(bytes[i]);
         i += 1;
     }
+}
+
+fn shown(fp: u8, block: &[u8]) -> [u16; 576] {
+    let mut numbers = [0u16; 576];
+    let n = 4 * (footprint::texels(fp) as usize);
+    one_block::decode_unorm16(fp, block, &mut numbers[..n]);
+    numbers
+}
+
+fn equal(a: [u16; 576], b: [u16; 576]) -> bool {
+    let mut i: usize = 0;
+    while i < 576 {
+        if a[i] != b[i] {
+            return false;
+        }
+        i += 1;
+    }
+    true
+}
+
+fn compared(fp: u8, block: &[u8], bytes: [u8; 16]) {
+    let before = shown(fp, block);
+    let after = shown(fp, &bytes);
+    if equal(before, after) {
+        io::write_all(STDOUT_FILENO, b" same texels");
+    } else {
+        io::write_all(STDOUT_FILENO, b" other texels");
+    }
     end_line();
 }
 
-fn rewritten(fp: u8, s: SymbolicBlock) {
+fn rewritten(fp: u8, block: &[u8], s: SymbolicBlock) {
     fields(s);
     let w = symbolic_calls::write_symbolic(fp, s);
     let bytes = w.bytes;
     all(bytes);
+    compared(fp, block, bytes);
 }
 
 fn read(fp: u8, block: &[u8]) {
@@ -104,7 +134,7 @@ fn read(fp: u8, block: &[u8]) {
     match a {
         Answer::Refused(n) => told(b"refused", n),
         Answer::Faulty(n) => told(b"fault", n),
-        Answer::Done => rewritten(fp, s),
+        Answer::Done => rewritten(fp, block, s),
     }
 }
 

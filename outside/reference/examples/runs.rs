@@ -123,7 +123,7 @@ fn told(footprint: usize, block: &[u8; 16]) -> String {
         Err(number) => format!("fault {number}\n"),
         Ok(s) => {
             let bytes = write(footprint, &s).expect("what was read is acceptable");
-            format!("fields{} block{}\n", spaced(&s.to_numbers()), spaced(&bytes))
+            format!("fields{} block{} same texels\n", spaced(&s.to_numbers()), spaced(&bytes))
         }
     }
 }
