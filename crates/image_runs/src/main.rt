@@ -34,7 +34,7 @@ fn told(a: ImageAnswer) {
     }
 }
 
-// Kind 1 with the first blocks of `blocks` and the first bytes of a buffer of twos.
+// Kind 1: what the call tells, and the first texel of the buffer after it.
 fn srgb8(footprint: u8, width: u32, height: u32, blocks: &[u8], out: &mut [u8]) {
     let a = image::decode_image_srgb8(footprint, width, height, blocks, out);
     told(a);
@@ -48,6 +48,7 @@ fn srgb8(footprint: u8, width: u32, height: u32, blocks: &[u8], out: &mut [u8]) 
     end_line();
 }
 
+// Kind 0, the same.
 fn unorm16(footprint: u8, width: u32, height: u32, blocks: &[u8], out: &mut [u16]) {
     let a = image::decode_image_unorm16(footprint, width, height, blocks, out);
     told(a);
