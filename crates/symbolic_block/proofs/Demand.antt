@@ -133,7 +133,7 @@ module _ (fp : ℕ) (s : SymbolicBlock) (z : Sized s) (a : Acceptable fp s) wher
   shows kind x y = block-shows fp kind (blockOf s) x y no-fault ∙ ap (λ (t : SymbolicBlock). pictureOf fp kind t x y) back
 
   shows-numbers : (kind : Kind) (x y c : ℕ) → blockNumberAt fp kind (blockOf s) x y c ≡ pictureNumber fp kind s x y c
-  unfolding blockNumberAt pictureNumber
+  unfolding blockNumberAt pictureNumber shownChannel
   shows-numbers kind x y c = ap (λ (t : Texel). shownChannel kind t c) (shows kind x y)
 
   pub typed : Typed s

@@ -9,6 +9,8 @@ pub mod Fine
 pub mod Written
 pub mod Void
 pub mod Read
+pub mod Pairs
+pub mod Agrees
 pub mod Shown
 pub mod ReadsAs
 pub mod Smallest

@@ -22,9 +22,8 @@ use Rattle.interpolation.specs.declared.Kind.{Kind}
 use Rattle.texel.specs.Meaning.{texelFrom, solidTexel}
 use Rattle.texel.specs.BlockTexel.{blockTexel}
 use Rattle.symbolic_block.specs.declared.SymbolicBlock.{SymbolicBlock}
-use Rattle.symbolic_block.specs.Fields.{headerOf, colourIn, endpointIn, weightIn}
 use Rattle.symbolic_block.specs.Refusals.{modeRefusals, voidRefusals, refusals, refusalOf}
-use Rattle.symbolic_block.specs.Picture.{pictureOf}
+use Rattle.symbolic_block.specs.Picture.{solidPicture, mixedPicture, pictureOf}
 use Rattle.symbolic_block.specs.Cells.{laid}
 use Rattle.symbolic_block.specs.Writing.{modeCells, voidCells, blockOf}
 use Rattle.symbolic_block.specs.Reading.{modeBlock, voidBlock, readBlock}
@@ -41,7 +40,7 @@ module _ (s : SymbolicBlock) (m : s .mark ≡ 1) where
   unfolding blockOf
   block-void = rw (eq-eqb (s .mark) 1 m)
 
-  pub picture-void : (fp : ℕ) (kind : Kind) (x y : ℕ) → pictureOf fp kind s x y ≡ solidTexel (colourIn s)
+  pub picture-void : (fp : ℕ) (kind : Kind) (x y : ℕ) → pictureOf fp kind s x y ≡ solidPicture s
   unfolding pictureOf
   picture-void fp kind x y = rw (eq-eqb (s .mark) 1 m)
 
@@ -54,7 +53,7 @@ module _ (s : SymbolicBlock) (m : s .mark ≡ 1 → ⊥) where
   unfolding blockOf
   block-mode = rw (ne-eqb (s .mark) 1 m)
 
-  pub picture-mode : (fp : ℕ) (kind : Kind) (x y : ℕ) → pictureOf fp kind s x y ≡ texelFrom fp kind (headerOf s) (endpointIn s) (weightIn s) x y
+  pub picture-mode : (fp : ℕ) (kind : Kind) (x y : ℕ) → pictureOf fp kind s x y ≡ mixedPicture s fp kind x y
   unfolding pictureOf
   picture-mode fp kind x y = rw (ne-eqb (s .mark) 1 m)
 

@@ -5,6 +5,7 @@ use mathlib.Core.Bool.{Bool, true, false}
 use Prim.Native.Nat.{ℕ, _<_}
 use native.Mathlib.Omega.{arith}
 use lib.ListN.{getD}
+use borrow.Author.Tests.{ltb-false}
 use Rattle.laws.specs.Table.{tab}
 use Rattle.laws.proofs.Filling.{getD-tab, tab-ext}
 use Rattle.quantization.specs.Unquantise.{unquantEndpoint, unquantWeight}
@@ -12,16 +13,20 @@ use Rattle.integer_sequence.specs.Reading.{stored}
 use Rattle.weight_grid.specs.Cell.{level}
 use Rattle.interpolation.specs.declared.Kind.{Kind}
 use Rattle.block_header.specs.declared.Header.{Header}
-use Rattle.block_header.specs.Counts.{endpointRangeOf}
+use Rattle.block_header.specs.Counts.{weightCount, endpointCount, endpointRangeOf}
+use Rattle.block_header.specs.Reasons.{tooManyWeights, tooManyEndpoints}
 use Rattle.block_fault.specs.Bits.{modeAt, isVoid, headerAt, endpointAt, weightAt, colourAt, extentAt}
 use Rattle.block_fault.specs.Faults.{faultOf}
 use Rattle.texel.specs.Meaning.{endpointLevels, weightLevels, mixedTexel, texelFrom, solidTexel}
 use Rattle.texel.specs.BlockTexel.{blockTexel}
 use Rattle.symbolic_block.specs.Fields.{numberIn}
-use Rattle.symbolic_block.specs.Picture.{pictureOf}
+use Rattle.symbolic_block.specs.Picture.{solidPicture, pictureOf}
 use Rattle.symbolic_block.specs.Reading.{modeBlock, voidBlock, readBlock}
-use Rattle.symbolic_block.proofs.Lists.{stored-at}
-use Rattle.symbolic_block.proofs.Opened.{picture-void, picture-mode, read-void, read-mode, texel-void, texel-mode}
+use Rattle.symbolic_block.proofs.Reasons.{None, none-at}
+use Rattle.symbolic_block.proofs.Lists.{stored-at, within-used}
+use Rattle.symbolic_block.proofs.Opened.{picture-void, picture-mode, read-void, read-mode, texel-void, texel-mode, modeFaults, no-mode-fault}
+use Rattle.symbolic_block.proofs.Read.{Settled, settled}
+use Rattle.symbolic_block.proofs.Agrees.{Counted, agrees}
 
 -- ---- a texel follows from the numbers
 
@@ -56,20 +61,36 @@ solid-same f g h =
 
 module _ (fp : ℕ) (kind : Kind) (B x y : ℕ) where
   void-picture : pictureOf fp kind (voidBlock (colourAt B) (extentAt B)) x y ≡ solidTexel (colourAt B)
-  unfolding voidBlock
+  unfolding voidBlock solidPicture solidTexel
   void-picture =
       picture-void (voidBlock (colourAt B) (extentAt B)) refl fp kind x y
       ∙ solid-same (λ i. getD (tab (colourAt B) 4) i 0) (colourAt B) (λ i h. getD-tab (colourAt B) 4 i 0 h)
 
-  mode-picture : (h : Header) → pictureOf fp kind (modeBlock h (endpointAt B h) (weightAt B h)) x y ≡ texelFrom fp kind h (endpointAt B h) (weightAt B h) x y
+  mode-picture : (h : Header) → Counted (modeBlock h (endpointAt B h) (weightAt B h))
+      → pictureOf fp kind (modeBlock h (endpointAt B h) (weightAt B h)) x y ≡ texelFrom fp kind h (endpointAt B h) (weightAt B h) x y
   unfolding modeBlock
-  mode-picture h =
+  mode-picture h c =
       picture-mode (modeBlock h (endpointAt B h) (weightAt B h)) (λ e. omega (arith, e)) fp kind x y
+      ∙ agrees (modeBlock h (endpointAt B h) (weightAt B h)) c fp kind x y
       ∙ texel-same fp kind h (numberIn (tab (λ i. stored (endpointAt B h i)) 18)) (endpointAt B h)
       (numberIn (tab (λ i. stored (weightAt B h i)) 64)) (weightAt B h) x y (stored-at (endpointAt B h) 18) (stored-at (weightAt B h) 64)
+
+  -- the settings of a block without fault
+  counted : (h : Header) → Settled h → None (modeFaults fp h) → Counted (modeBlock h (endpointAt B h) (weightAt B h))
+  unfolding modeBlock tooManyWeights tooManyEndpoints
+  counted h i n = record {
+    planes-low = i .limits .planes-low;
+    planes-most = i .limits .planes-most;
+    partitions-low = i .partitions-low;
+    modes-most = λ p l u. within-used 4 (h .partitions) 15 (λ k. getD (h .modes) k 0) (i .modes-in) p l u;
+    weights-most = ltb-false 64 (weightCount (h .grid)) (none-at (modeFaults fp h) n 1);
+    numbers-most = ltb-false 18 (endpointCount h) (none-at (modeFaults fp h) n 4);
+  }
 
   pub block-shows : faultOf fp B ≡ 0 → blockTexel fp kind B x y ≡ pictureOf fp kind (readBlock B) x y
   block-shows e = go (isVoid (modeAt B)) refl where
     go : (v : Bool) → isVoid (modeAt B) ≡ v → blockTexel fp kind B x y ≡ pictureOf fp kind (readBlock B) x y
     go true v = texel-void B v fp kind x y e ∙ sym (rw (read-void B v) void-picture)
-    go false v = texel-mode B v fp kind x y e ∙ sym (rw (read-mode B v) (mode-picture (headerAt B)))
+    go false v =
+        let n = no-mode-fault fp B v e in
+        texel-mode B v fp kind x y e ∙ sym (rw (read-mode B v) (mode-picture (headerAt B) (counted (headerAt B) (settled B v (n .0)) (n .1))))

@@ -1,21 +1,123 @@
--- 01, "The picture of a sheet": the texel at a place from the numbers of a symbolic block, by counts, and never from a block.
+-- 01, "The picture of a sheet": "reckoned from an acceptable sheet's fields, a footprint, a kind and a place in the block, by the rules of the
+-- section above and the counts, ranges and tables under "Packed numbers", and never from a block". A sheet is a symbolic block.
 -- Assumes nothing.
-use Prim.Native.Nat.{ℕ}
-use lib.Dec.{eqb}
-use Rattle.laws.specs.Choice.{pick}
+use Prim.Native.Nat.{ℕ, zero, suc, _+_, _-_, _*_, _/_, _%_}
+use mathlib.Core.List.{List, [], _∷_}
+use lib.Dec.{eqb, ltb}
+use lib.ListN.{getD}
+use Rattle.laws.specs.Choice.{pick, both}
+use Rattle.laws.specs.Table.{tab}
+use Rattle.encoding.specs.declared.Level.{Level}
+use Rattle.quantization.specs.Ranges.{rangeBits, endpointRange}
+use Rattle.quantization.specs.Unquantise.{unquantEndpoint, unquantWeight}
+use Rattle.footprint.specs.Footprint.{widthOf, heightOf, isSmall}
+use Rattle.partition.specs.Select.{partitionOf}
+use Rattle.weight_grid.specs.Place.{scaleOf, gridPlace}
+use Rattle.weight_grid.specs.Bilinear.{blendOf}
+use Rattle.endpoint_arithmetic.specs.declared.EndpointPair.{EndpointPair}
+use Rattle.color_endpoint.specs.Modes.{pairOf}
 use Rattle.interpolation.specs.declared.Kind.{Kind}
 use Rattle.interpolation.specs.declared.Texel.{Texel}
-use Rattle.texel.specs.Meaning.{texelFrom, solidTexel, shownChannel}
+use Rattle.interpolation.specs.Expansion.{expandOf, shownOf}
+use Rattle.interpolation.specs.Texel.{mixOf}
 use Rattle.symbolic_block.specs.declared.SymbolicBlock.{SymbolicBlock}
-use Rattle.symbolic_block.specs.Fields.{headerOf, colourIn, endpointIn, weightIn}
+use Rattle.symbolic_block.specs.Fields.{colourIn, modeIn, endpointIn, weightIn}
 
--- in 16 bits. "Solid: each texel is the four colours"
+-- "Solid: each texel is the four colours"
+unfoldable pub solidPicture : SymbolicBlock → Texel
+solidPicture s = record { r = colourIn s 0; g = colourIn s 1; b = colourIn s 2; a = colourIn s 3 }
+
+module _ (s : SymbolicBlock) where
+  -- ---- "Weights"
+
+  -- "each widens by its range": weight number i
+  unfoldable pub widenedWeight : ℕ → ℕ
+  widenedWeight i = unquantWeight (s .range) (weightIn s i)
+
+  -- A grid is its weights in raster order. "One plane: they fill the grid in raster order. Two: numbers 0, 2, 4 and so on fill the first grid"
+  unfoldable pub firstGrid : ℕ → ℕ
+  firstGrid i = widenedWeight (pick (eqb (s .planes) 2) (2 * i) i)
+
+  -- "the others the second"
+  unfoldable pub secondGrid : ℕ → ℕ
+  secondGrid i = widenedWeight (2 * i + 1)
+
+  -- the weight in a column and a row: "the neighbour right of the last column or below the last row counts 0"
+  unfoldable pub pointWeight : (ℕ → ℕ) → ℕ → ℕ → ℕ
+  pointWeight grid column row = pick (both (ltb column (s .width)) (ltb row (s .height))) (grid (row * s .width + column)) 0
+
+  -- 000, "Weight Infill": at gs, gt, in sixteenths of a step, the four neighbours by the two fractions
+  unfoldable pub infillWeight : (ℕ → ℕ) → ℕ → ℕ → ℕ
+  infillWeight grid gs gt =
+      let column = gs / 16 in
+      let row = gt / 16 in
+      blendOf (gs % 16) (gt % 16)
+      (pointWeight grid column row) (pointWeight grid (column + 1) row) (pointWeight grid column (row + 1)) (pointWeight grid (column + 1) (row + 1))
+
+  -- "Infill gives one weight at the place for each grid."
+  unfoldable pub placeWeight : ℕ → (ℕ → ℕ) → ℕ → ℕ → ℕ
+  placeWeight fp grid x y = infillWeight grid (gridPlace (scaleOf (widthOf fp)) x (s .width)) (gridPlace (scaleOf (heightOf fp)) y (s .height))
+
+  -- ---- "Endpoints"
+
+  -- "2(class+1) numbers", the class being "mode/4, rounded down": as many as partition p takes
+  unfoldable pub numbersOf : ℕ → ℕ
+  numbersOf p = 2 * (modeIn s p / 4 + 1)
+
+  -- "partition 0 takes the first .., each next partition those that follow": as many as the first p partitions take
+  unfoldable pub numbersOfFirst : ℕ → ℕ
+  numbersOfFirst zero = 0
+  numbersOfFirst (suc p) = numbersOfFirst p + numbersOf p
+
+  -- "The bits left for them are 111, or 99 with several partitions, less the weight bits, less 2 with two planes, less 3P-4 with selector
+  -- 1 to 3." "Bits left may come out negative; then they count as 0": the difference of ℕ does so.
+  unfoldable pub bitsLeftOver : ℕ
+  bitsLeftOver =
+      pick (eqb (s .partitions) 1) 111 99
+      - rangeBits (s .range) (s .width * s .height * s .planes)
+      - pick (eqb (s .planes) 2) 2 0
+      - pick (eqb (s .selector) 0) 0 (3 * s .partitions - 4)
+
+  -- "They give the range"
+  unfoldable pub rangeOfEndpoints : ℕ
+  rangeOfEndpoints = endpointRange (numbersOfFirst (s .partitions)) bitsLeftOver
+
+  -- "it widens each number": those of partition p
+  unfoldable pub widenedNumbers : ℕ → List Level
+  widenedNumbers p = tab (λ k. record { 0 = unquantEndpoint rangeOfEndpoints (endpointIn s (numbersOfFirst p + k)) }) (numbersOf p)
+
+  -- "the partition's mode makes its numbers a pair of colours"
+  unfoldable pub pairOfColours : ℕ → EndpointPair
+  pairOfColours p = pairOf (modeIn s p) (widenedNumbers p)
+
+  -- ---- "Partition"
+
+  -- "the hash of index, count, place and footprint; with one partition it is 0"
+  unfoldable pub partitionAt : ℕ → ℕ → ℕ → ℕ
+  partitionAt fp x y = partitionOf (s .index) (s .partitions) (isSmall fp) x y 0
+
+  -- ---- "Texel"
+
+  -- "mixed by the first grid's weight. With two planes the named channel takes the second grid's": the grid that channel c takes
+  unfoldable pub channelGrid : ℕ → ℕ → ℕ
+  channelGrid c = pick (both (eqb (s .planes) 2) (eqb c (s .component))) secondGrid firstGrid
+
+  -- "that partition's pair, widened for the kind and mixed": channel c, in 16 bits
+  unfoldable pub channelAt : ℕ → Kind → ℕ → ℕ → ℕ → ℕ
+  channelAt fp kind x y c =
+      let pair = pairOfColours (partitionAt fp x y) in
+      mixOf (expandOf kind c (getD (pair .e0) c 0)) (expandOf kind c (getD (pair .e1) c 0)) (placeWeight fp (channelGrid c) x y)
+
+  unfoldable pub mixedPicture : ℕ → Kind → ℕ → ℕ → Texel
+  mixedPicture fp kind x y =
+      record { r = channelAt fp kind x y 0; g = channelAt fp kind x y 1; b = channelAt fp kind x y 2; a = channelAt fp kind x y 3 }
+
+-- the texel at x, y, in 16 bits
 unfoldable pub pictureOf : ℕ → Kind → SymbolicBlock → ℕ → ℕ → Texel
-unfolding texelFrom solidTexel
-pictureOf fp kind s x y =
-    pick (eqb (s .mark) 1) (solidTexel (colourIn s)) (texelFrom fp kind (headerOf s) (endpointIn s) (weightIn s) x y)
+pictureOf fp kind s x y = pick (eqb (s .mark) 1) (solidPicture s) (mixedPicture s fp kind x y)
 
--- the number shown of channel c: "in kind 1 their top bytes"
+-- the number shown of its channel c, of R, G, B, A: "in kind 1 their top bytes", "kind 1 keeps the top byte"
 unfoldable pub pictureNumber : ℕ → Kind → SymbolicBlock → ℕ → ℕ → ℕ → ℕ
-unfolding pictureOf shownChannel
-pictureNumber fp kind s x y c = shownChannel kind (pictureOf fp kind s x y) c
+pictureNumber fp kind s x y c =
+    let t = pictureOf fp kind s x y in
+    shownOf kind (getD (t .r ∷ t .g ∷ t .b ∷ t .a ∷ []) c 0)

@@ -1,0 +1,307 @@
+-- The picture of a symbolic block, which goes by counts, is the texel that the stages of a block give for its settings and numbers.
+-- Assumes nothing.
+use mathlib.Core.Path.{_≡_, refl, sym, ap, ap₂, _∙_}
+use mathlib.Core.Bool.{Bool, true, false}
+use mathlib.Core.List.{List}
+use Prim.Native.Nat.{ℕ, zero, suc, _+_, _-_, _*_, _/_, _%_, _≤_, _<_}
+use native.Mathlib.Decide.{decLt}
+use native.Mathlib.Omega.{arith}
+use lib.Dec.{eqb, ltb}
+use lib.ListN.{length, getD, List·getD-eq-default}
+use borrow.Author.Tests.{eqb-true, eqb-false, eq-eqb, ne-eqb, ltb-true}
+use Rattle.laws.specs.Choice.{pick, both}
+use Rattle.laws.specs.Table.{tab}
+use Rattle.laws.proofs.Filling.{getD-tab, length-tab}
+use Rattle.encoding.specs.declared.Level.{Level}
+use Rattle.quantization.specs.Ranges.{endpointRange}
+use Rattle.quantization.specs.Unquantise.{unquantEndpoint, unquantWeight}
+use Rattle.quantization.proofs.Levels.{endpoint-le, weight-le}
+use Rattle.partition.proofs.Bounds.{partition-lt, partition-lt-4}
+use Rattle.weight_grid.specs.Cell.{level, weightAt, cellOf}
+use Rattle.weight_grid.specs.Bilinear.{blendOf, infillOf}
+use Rattle.weight_grid.proofs.Factors.{blend-le}
+use Rattle.weight_grid.proofs.Points.{number-lt}
+use Rattle.endpoint_arithmetic.specs.declared.EndpointPair.{EndpointPair}
+use Rattle.color_endpoint.specs.Modes as modes
+use Rattle.color_endpoint.specs.Table.{numberCount, startOf, numbersFrom, tableOf}
+use Rattle.color_endpoint.proofs.Laws.{table-at, entry-used}
+use Rattle.interpolation.specs.declared.Kind.{Kind}
+use Rattle.interpolation.specs.Expansion.{expandOf, alphaOf, colourOf, expandedEnd, expandedPair, noPair}
+use Rattle.interpolation.specs.Texel.{mixOf, weightOf, channelOf, texelOf}
+use Rattle.interpolation.proofs.Laws.{colour-le, alpha-le, channel-whole, weight-none}
+use Rattle.block_header.specs.Counts.{weightCount, endpointCount, bitsLeft, endpointRangeOf}
+use Rattle.texel.specs.Meaning.{endpointLevels, weightLevels, planeWeight, secondWeight, secondComponent, texelFrom}
+use Rattle.symbolic_block.specs.declared.SymbolicBlock.{SymbolicBlock}
+use Rattle.symbolic_block.specs.Fields.{gridOf, headerOf, modeIn, endpointIn, weightIn}
+use Rattle.symbolic_block.specs.Picture.{widenedWeight, firstGrid, secondGrid, pointWeight, infillWeight, placeWeight, numbersOf, numbersOfFirst, bitsLeftOver, rangeOfEndpoints, widenedNumbers, pairOfColours, partitionAt, channelGrid, channelAt, mixedPicture}
+use Rattle.symbolic_block.proofs.Pairs.{Bytes, pair-same, pair-bytes}
+
+-- what is needed of a mode sheet
+pub record Counted (s : SymbolicBlock) : Type 0 where
+  pub planes-low : 1 ≤ s .planes
+  pub planes-most : s .planes ≤ 2
+  pub partitions-low : 1 ≤ s .partitions
+  pub modes-most : (p : ℕ) → p < 4 → p < s .partitions → modeIn s p ≤ 15
+  pub weights-most : weightCount (gridOf s) ≤ 64
+  pub numbers-most : endpointCount (headerOf s) ≤ 18
+
+-- numbers in a list of levels up to 255
+levels-le : (g : ℕ → ℕ) → ((i : ℕ) → g i ≤ 255) → (n k : ℕ) → modes.level (tab (λ i. level (g i)) n) k ≤ 255
+levels-le g h n k =
+    elim (decLt k n) [
+      | yes l ↦
+          let e : modes.level (tab (λ i. level (g i)) n) k ≡ g k = ap (λ (x : Level). x .0) (getD-tab (λ i. level (g i)) n k modes.noLevel l) in
+          omega (arith, e, h k)
+      | no l ↦
+          let m : length (tab (λ i. level (g i)) n) ≡ n = length-tab (λ i. level (g i)) n in
+          let past = List·getD-eq-default (tab (λ i. level (g i)) n) modes.noLevel {n = k} (omega (arith, m)) in
+          let e : modes.level (tab (λ i. level (g i)) n) k ≡ 0 = ap (λ (x : Level). x .0) past in
+          omega (arith, e)
+    ]
+
+-- ---- mixing
+
+-- a channel of an expanded end
+end-at : (kind : Kind) (e : List ℕ) (c : ℕ) → c < 4 → getD (expandedEnd kind e) c 0 ≡ expandOf kind c (getD e c 0)
+unfolding expandedEnd
+end-at kind e zero h = refl
+end-at kind e (suc zero) h = refl
+end-at kind e (suc (suc zero)) h = refl
+end-at kind e (suc (suc (suc zero))) h = refl
+end-at kind e (suc (suc (suc (suc c)))) h = absurd (omega arith)
+
+expand-le : (kind : Kind) (c n : ℕ) → n ≤ 255 → expandOf kind c n ≤ 65535
+unfolding expandOf
+expand-le kind c n h = go (eqb c 3) where
+  go : (b : Bool) → pick b (alphaOf kind n) (colourOf kind n) ≤ 65535
+  go true = alpha-le kind n h
+  go false = colour-le kind n h
+
+-- of bytes and a weight of 0..64, the mix needs no cut to 16 bits
+mix-whole : (kind : Kind) (p : EndpointPair) → Bytes p → (first second component c : ℕ) → c < 4 → first ≤ 64 → second ≤ 64
+    → channelOf (expandedPair kind p) (level first) (level second) component c
+    ≡ mixOf (expandOf kind c (getD (p .e0) c 0)) (expandOf kind c (getD (p .e1) c 0)) (weightOf component (level first) (level second) c .0)
+unfolding expandedPair
+mix-whole kind p b first second component c h hf hs =
+    let e0 = end-at kind (p .e0) c h in
+    let e1 = end-at kind (p .e1) c h in
+    channel-whole (expandedPair kind p) (level first) (level second) component c
+    (rw e0 (expand-le kind c (getD (p .e0) c 0) (b .first c))) (rw e1 (expand-le kind c (getD (p .e1) c 0) (b .second c))) hf hs
+    ∙ λ j. mixOf (e0 j) (e1 j) (weightOf component (level first) (level second) c .0)
+
+module _ (s : SymbolicBlock) (f : Counted s) where
+  by-planes : {A : Type 0} → (s .planes ≡ 2 → A) → (s .planes ≡ 1 → A) → A
+  by-planes {A} two one = go (eqb (s .planes) 2) refl where
+    go : (b : Bool) → eqb (s .planes) 2 ≡ b → A
+    go true e = two (eqb-true (s .planes) 2 e)
+    go false e = one (omega (arith, eqb-false (s .planes) 2 e, f .planes-low, f .planes-most))
+
+  -- ---- weights
+
+  abbrev weights : List Level
+  weights = weightLevels (s .range) (weightIn s)
+
+  widened-at : (n : ℕ) → n < 64 → weightAt weights n ≡ widenedWeight s n
+  unfolding weightAt weightLevels widenedWeight
+  widened-at n h = ap (λ (l : Level). l .0) (getD-tab (λ i. level (unquantWeight (s .range) (weightIn s i))) 64 n (level 0) h)
+
+  count-is : weightCount (gridOf s) ≡ s .width * s .height * s .planes
+  unfolding weightCount
+  count-is = refl
+
+  -- a plane whose weights fill a grid
+  module _ (plane : ℕ) (in-planes : plane < s .planes) (grid : ℕ → ℕ) (fills : (i : ℕ) → widenedWeight s (i * s .planes + plane) ≡ grid i) where
+    point-is : (x y : ℕ) → cellOf weights (s .width) (s .height) (s .planes) plane x y ≡ pointWeight s grid x y
+    unfolding cellOf pointWeight
+    point-is x y = go (ltb x (s .width)) (ltb y (s .height)) refl refl where
+      go : (a b : Bool) → ltb x (s .width) ≡ a → ltb y (s .height) ≡ b
+          → pick a (pick b (weightAt weights ((y * s .width + x) * s .planes + plane)) 0) 0 ≡ pick (both a b) (grid (y * s .width + x)) 0
+      go true true p q =
+          let l = number-lt (s .width) (s .height) (s .planes) plane x y (ltb-true x (s .width) p) (ltb-true y (s .height) q) in-planes in
+          widened-at ((y * s .width + x) * s .planes + plane) (omega (arith, l, count-is, f .weights-most)) ∙ fills (y * s .width + x)
+      go true false p q = refl
+      go false b p q = refl
+
+    infill-is : (gs gt : ℕ) → infillOf weights (s .width) (s .height) (s .planes) plane gs gt ≡ infillWeight s grid gs gt
+    unfolding infillOf infillWeight
+    infill-is gs gt j =
+        blendOf (gs % 16) (gt % 16) (point-is (gs / 16) (gt / 16) j) (point-is (gs / 16 + 1) (gt / 16) j)
+        (point-is (gs / 16) (gt / 16 + 1) j) (point-is (gs / 16 + 1) (gt / 16 + 1) j)
+
+    plane-is : (fp : ℕ) (kind : Kind) (ends : List Level) (x y : ℕ) → planeWeight fp kind (headerOf s) ends weights x y plane ≡ placeWeight s fp grid x y
+    unfolding planeWeight placeWeight
+    plane-is fp kind ends x y = infill-is _ _
+
+  first-fills : (i : ℕ) → widenedWeight s (i * s .planes + 0) ≡ firstGrid s i
+  unfolding firstGrid
+  first-fills i = ap (widenedWeight s) (by-planes (λ e. rw e (omega arith)) (λ e. rw e (omega arith)))
+
+  second-fills : s .planes ≡ 2 → (i : ℕ) → widenedWeight s (i * s .planes + 1) ≡ secondGrid s i
+  unfolding secondGrid
+  second-fills e i = ap (widenedWeight s) (rw e (omega arith))
+
+  -- weights are at most 64
+  module _ (grid : ℕ → ℕ) (most : (i : ℕ) → grid i ≤ 64) where
+    point-le : (column row : ℕ) → pointWeight s grid column row ≤ 64
+    unfolding pointWeight
+    point-le column row = go (both (ltb column (s .width)) (ltb row (s .height))) where
+      go : (b : Bool) → pick b (grid (row * s .width + column)) 0 ≤ 64
+      go true = most _
+      go false = omega arith
+
+    place-le : (fp x y : ℕ) → placeWeight s fp grid x y ≤ 64
+    unfolding placeWeight infillWeight
+    place-le fp x y = blend-le 64 _ _ _ _ _ _ (omega arith) (omega arith) (point-le _ _) (point-le _ _) (point-le _ _) (point-le _ _)
+
+  first-le : (i : ℕ) → firstGrid s i ≤ 64
+  unfolding firstGrid widenedWeight
+  first-le i = weight-le (s .range) _
+
+  second-le : (i : ℕ) → secondGrid s i ≤ 64
+  unfolding secondGrid widenedWeight
+  second-le i = weight-le (s .range) _
+
+  -- ---- endpoints
+
+  first-numbers : (p : ℕ) → startOf (s .modes) p ≡ numbersOfFirst s p
+  unfolding startOf numberCount numbersOfFirst numbersOf
+  first-numbers zero = refl
+  first-numbers (suc p) = ap (λ (n : ℕ). n + 2 * (modeIn s p / 4 + 1)) (first-numbers p)
+
+  plane-bits : 2 * (s .planes - 1) ≡ pick (eqb (s .planes) 2) 2 0
+  plane-bits = by-planes (λ e. rw e) (λ e. rw e)
+
+  left-is : bitsLeft (headerOf s) ≡ bitsLeftOver s
+  unfolding bitsLeft bitsLeftOver
+  left-is = omega (arith, plane-bits)
+
+  range-is : endpointRangeOf (headerOf s) ≡ rangeOfEndpoints s
+  unfolding endpointRangeOf rangeOfEndpoints
+  range-is = ap₂ endpointRange (first-numbers (s .partitions)) left-is
+
+  more-numbers : (p q : ℕ) → p ≤ q → numbersOfFirst s p ≤ numbersOfFirst s q
+  unfolding numbersOfFirst
+  more-numbers p zero h = let e : p ≡ 0 = omega arith in rw e (omega arith)
+  more-numbers p (suc q) h =
+      elim (decLt q p) [
+        | yes l ↦ let e : p ≡ suc q = omega arith in rw e (omega arith)
+        | no l ↦ omega (arith, more-numbers p q (omega arith))
+      ]
+
+  abbrev ends : List Level
+  ends = endpointLevels (endpointRangeOf (headerOf s)) (endpointIn s)
+
+  module _ (p : ℕ) (four : p < 4) (used : p < s .partitions) where
+    few : numbersOf s p ≤ 8
+    unfolding numbersOf
+    few = omega (arith, f .modes-most p four used)
+
+    all-numbers : numbersOfFirst s p + numbersOf s p ≤ 18
+    unfolding numbersOfFirst endpointCount
+    all-numbers = omega (arith, more-numbers (suc p) (s .partitions) used, first-numbers (s .partitions), f .numbers-most)
+
+    number-is : (k : ℕ) → k < numbersOf s p → modes.level (numbersFrom ends (startOf (s .modes) p)) k ≡ modes.level (widenedNumbers s p) k
+    unfolding numbersFrom endpointLevels widenedNumbers
+    number-is k h =
+        ap (λ (l : Level). l .0)
+        (getD-tab (λ k. getD ends (startOf (s .modes) p + k) modes.noLevel) 8 k modes.noLevel (omega (arith, few))
+        ∙ getD-tab (λ i. level (unquantEndpoint (endpointRangeOf (headerOf s)) (endpointIn s i))) 18 (startOf (s .modes) p + k) modes.noLevel
+        (omega (arith, all-numbers, first-numbers p))
+        ∙ (λ j. level (unquantEndpoint (range-is j) (endpointIn s (first-numbers p j + k))))
+        ∙ sym (getD-tab (λ k. level (unquantEndpoint (rangeOfEndpoints s) (endpointIn s (numbersOfFirst s p + k)))) (numbersOf s p) k modes.noLevel h))
+
+    pair-is : getD (tableOf (s .modes) (s .partitions) ends) p noPair ≡ pairOfColours s p
+    unfolding pairOfColours numbersOf
+    pair-is =
+        table-at (s .modes) ends (s .partitions) p noPair four ∙ entry-used (s .modes) ends (s .partitions) p used
+        ∙ pair-same (modeIn s p) (numbersFrom ends (startOf (s .modes) p)) (widenedNumbers s p) number-is
+
+  level-le : (p k : ℕ) → modes.level (widenedNumbers s p) k ≤ 255
+  unfolding widenedNumbers
+  level-le p k =
+      levels-le (λ i. unquantEndpoint (rangeOfEndpoints s) (endpointIn s (numbersOfFirst s p + i))) (λ i. endpoint-le (rangeOfEndpoints s) _) (numbersOf s p) k
+
+  colour-bytes : (p : ℕ) → Bytes (pairOfColours s p)
+  unfolding pairOfColours
+  colour-bytes p = pair-bytes (widenedNumbers s p) (level-le p) (modeIn s p)
+
+  -- ---- the texel
+
+  module _ (fp : ℕ) (kind : Kind) (x y : ℕ) where
+    abbrev partition : ℕ
+    partition = partitionAt s fp x y
+
+    table-is : getD (tableOf (s .modes) (s .partitions) ends) partition noPair ≡ pairOfColours s partition
+    unfolding partitionAt
+    table-is = pair-is partition (partition-lt-4 _ _ _ x y 0) (partition-lt _ _ _ x y 0 (f .partitions-low))
+
+    abbrev first : ℕ
+    first = placeWeight s fp (firstGrid s) x y
+
+    first-is : planeWeight fp kind (headerOf s) ends weights x y 0 ≡ first
+    first-is = plane-is 0 (f .planes-low) (firstGrid s) first-fills fp kind ends x y
+
+    abbrev second : ℕ
+    second = secondWeight fp kind (headerOf s) ends weights x y
+
+    abbrev named : ℕ
+    named = secondComponent fp kind (headerOf s) ends weights x y
+
+    second-two : s .planes ≡ 2 → second ≡ placeWeight s fp (secondGrid s) x y
+    unfolding secondWeight
+    second-two e = rw (eq-eqb (s .planes) 2 e) (plane-is 1 (omega arith) (secondGrid s) (second-fills e) fp kind ends x y)
+
+    second-one : s .planes ≡ 1 → second ≡ first
+    unfolding secondWeight
+    second-one e = rw (ne-eqb (s .planes) 2 (λ q. omega (arith, q))) first-is
+
+    second-most : second ≤ 64
+    second-most =
+        by-planes (λ e. rw (second-two e) (place-le (secondGrid s) second-le fp x y)) (λ e. rw (second-one e) (place-le (firstGrid s) first-le fp x y))
+
+    weight-two : s .planes ≡ 2 → (c : ℕ) → weightOf named (level first) (level second) c .0 ≡ placeWeight s fp (channelGrid s c) x y
+    unfolding weightOf secondComponent channelGrid
+    weight-two e c = rw (eq-eqb (s .planes) 2 e) (go (eqb c (s .component))) where
+      go : (b : Bool) → pick b (level second) (level first) .0 ≡ placeWeight s fp (pick b (secondGrid s) (firstGrid s)) x y
+      go true = second-two e
+      go false = refl
+
+    named-none : s .planes ≡ 1 → named ≡ 4
+    unfolding secondComponent
+    named-none e = rw (ne-eqb (s .planes) 2 (λ q. omega (arith, q)))
+
+    grid-one : s .planes ≡ 1 → (c : ℕ) → channelGrid s c ≡ firstGrid s
+    unfolding channelGrid
+    grid-one e c = rw (ne-eqb (s .planes) 2 (λ q. omega (arith, q)))
+
+    weight-one : s .planes ≡ 1 → (c : ℕ) → c < 4 → weightOf named (level first) (level second) c .0 ≡ placeWeight s fp (channelGrid s c) x y
+    weight-one e c h =
+        ap (λ (l : Level). l .0) (weight-none named (level first) (level second) c (omega (arith, named-none e)) h)
+        ∙ sym (ap (λ (g : ℕ → ℕ). placeWeight s fp g x y) (grid-one e c))
+
+    weight-is : (c : ℕ) → c < 4 → weightOf named (level first) (level second) c .0 ≡ placeWeight s fp (channelGrid s c) x y
+    weight-is c h = by-planes (λ e. weight-two e c) (λ e. weight-one e c h)
+
+    channel-is : (c : ℕ) → c < 4 → channelOf (expandedPair kind (pairOfColours s partition)) (level first) (level second) named c ≡ channelAt s fp kind x y c
+    unfolding channelAt
+    channel-is c h =
+        mix-whole kind (pairOfColours s partition) (colour-bytes partition) first second named c h (place-le (firstGrid s) first-le fp x y) second-most
+        ∙ ap (mixOf (expandOf kind c (getD (pairOfColours s partition .e0) c 0)) (expandOf kind c (getD (pairOfColours s partition .e1) c 0))) (weight-is c h)
+
+    mixed-is : texelFrom fp kind (headerOf s) (endpointIn s) (weightIn s) x y
+        ≡ texelOf (expandedPair kind (pairOfColours s partition)) (level first) (level second) named
+    unfolding texelFrom partitionAt
+    mixed-is j = texelOf (expandedPair kind (table-is j)) (level (first-is j)) (level second) named
+
+    channels-are : texelOf (expandedPair kind (pairOfColours s partition)) (level first) (level second) named ≡ mixedPicture s fp kind x y
+    unfolding texelOf mixedPicture
+    channels-are =
+        let r = channel-is 0 (omega arith) in
+        let g = channel-is 1 (omega arith) in
+        let b = channel-is 2 (omega arith) in
+        let a = channel-is 3 (omega arith) in
+        λ j. record { r = r j; g = g j; b = b j; a = a j }
+
+    -- both definitions give the same texel
+    pub agrees : mixedPicture s fp kind x y ≡ texelFrom fp kind (headerOf s) (endpointIn s) (weightIn s) x y
+    agrees = sym (mixed-is ∙ channels-are)
