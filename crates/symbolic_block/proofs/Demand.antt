@@ -104,30 +104,32 @@ module _ (fp : ℕ) (s : SymbolicBlock) where
   none : Acceptable fp s → None (refusals fp s)
   none e = first-none (refusals fp s) all-numbered (sym (refusal-is fp s) ∙ e)
 
+  pub void-none : Acceptable fp s → s .mark ≡ 1 → None (voidRefusals fp s)
+  void-none a m = subst None (refusals-void s m fp) (none a)
+
+  pub mode-none : Acceptable fp s → (s .mark ≡ 1 → ⊥) → None (modeRefusals fp s)
+  mode-none a m = subst None (refusals-mode s m fp) (none a)
+
   accepted : None (refusals fp s) → Acceptable fp s
   accepted n = refusal-is fp s ∙ none-first (refusals fp s) n
 
 -- ---- writing
 
 module _ (fp : ℕ) (s : SymbolicBlock) (z : Sized s) (a : Acceptable fp s) where
-  void-none : s .mark ≡ 1 → None (voidRefusals fp s)
-  void-none m = subst None (refusals-void s m fp) (none fp s a)
-
-  mode-none : (s .mark ≡ 1 → ⊥) → None (modeRefusals fp s)
-  mode-none m = subst None (refusals-mode s m fp) (none fp s a)
-
   fits : blockOf s < 2 ^ 128
-  fits = by-mark s (λ m. rw (block-void s m) (void.block-lt fp s m (void-none m) z)) (λ m. rw (block-mode s m) (written.block-lt fp s (fine fp s m (mode-none m)) z))
+  fits =
+      by-mark s (λ m. rw (block-void s m) (void.block-lt fp s m (void-none fp s a m) z))
+      (λ m. rw (block-mode s m) (written.block-lt fp s (fine fp s m (mode-none fp s a m)) z))
 
   no-fault : faultOf fp (blockOf s) ≡ 0
   no-fault =
-      by-mark s (λ m. rw (block-void s m) (void.void-faultless fp s m (void-none m) z))
-      (λ m. rw (block-mode s m) (written.mode-faultless fp s (fine fp s m (mode-none m)) z (mode-none m)))
+      by-mark s (λ m. rw (block-void s m) (void.void-faultless fp s m (void-none fp s a m) z))
+      (λ m. rw (block-mode s m) (written.mode-faultless fp s (fine fp s m (mode-none fp s a m)) z (mode-none fp s a m)))
 
   back : readBlock (blockOf s) ≡ s
   back =
-      by-mark s (λ m. rw (block-void s m) (void.void-back fp s m (void-none m) z))
-      (λ m. rw (block-mode s m) (written.mode-back fp s (fine fp s m (mode-none m)) z))
+      by-mark s (λ m. rw (block-void s m) (void.void-back fp s m (void-none fp s a m) z))
+      (λ m. rw (block-mode s m) (written.mode-back fp s (fine fp s m (mode-none fp s a m)) z))
 
   shows : (kind : Kind) (x y : ℕ) → blockTexel fp kind (blockOf s) x y ≡ pictureOf fp kind s x y
   shows kind x y = block-shows fp kind (blockOf s) x y no-fault ∙ ap (λ (t : SymbolicBlock). pictureOf fp kind t x y) back
@@ -137,7 +139,7 @@ module _ (fp : ℕ) (s : SymbolicBlock) (z : Sized s) (a : Acceptable fp s) wher
   shows-numbers kind x y c = ap (λ (t : Texel). shownChannel kind t c) (shows kind x y)
 
   pub typed : Typed s
-  typed = by-mark s (λ m. void-typed fp s m (void-none m) z) (λ m. mode-typed fp s (fine fp s m (mode-none m)) z)
+  typed = by-mark s (λ m. void-typed fp s m (void-none fp s a m) z) (λ m. mode-typed fp s (fine fp s m (mode-none fp s a m)) z)
 
   module _ (m : s .mark ≡ 0) where
     not-1 : s .mark ≡ 1 → ⊥
@@ -145,14 +147,14 @@ module _ (fp : ℕ) (s : SymbolicBlock) (z : Sized s) (a : Acceptable fp s) wher
 
     endpoint-codes : Smallest (encodingAt (endpointRangeOf (headerOf s))) (bitsAt (endpointRangeOf (headerOf s))) (endpointCount (headerOf s)) (endpointIn s)
         (sequenceAt (encodingAt (endpointRangeOf (headerOf s))) (bitsAt (endpointRangeOf (headerOf s))) (blockOf s) (endpointsFrom (s .partitions)) (endpointCount (headerOf s)))
-    endpoint-codes = rw (block-mode s not-1) (written.endpoint-codes fp s (fine fp s not-1 (mode-none not-1)) z)
+    endpoint-codes = rw (block-mode s not-1) (written.endpoint-codes fp s (fine fp s not-1 (mode-none fp s a not-1)) z)
 
     weight-codes : Smallest (encodingAt (s .range)) (bitsAt (s .range)) (weightCount (gridOf s)) (weightIn s)
         (sequenceAt (encodingAt (s .range)) (bitsAt (s .range)) (reverse 128 (blockOf s)) 0 (weightCount (gridOf s)))
-    weight-codes = rw (block-mode s not-1) (written.weight-codes fp s (fine fp s not-1 (mode-none not-1)) z)
+    weight-codes = rw (block-mode s not-1) (written.weight-codes fp s (fine fp s not-1 (mode-none fp s a not-1)) z)
 
     spare : field (blockOf s) (endpointsEnd (headerOf s)) (componentFrom (headerOf s) - endpointsEnd (headerOf s)) ≡ 0
-    spare = rw (block-mode s not-1) (written.spare-zero fp s (fine fp s not-1 (mode-none not-1)) z)
+    spare = rw (block-mode s not-1) (written.spare-zero fp s (fine fp s not-1 (mode-none fp s a not-1)) z)
 
 -- ---- reading
 

@@ -34,7 +34,7 @@ multiple from to (c ∷ cs) h p l =
     (c .value * 2 ^ (c .place - p) + r .0, ap₂ _+_ e (r .1) ∙ sym (add-mul (c .value * 2 ^ (c .place - p)) (r .0) (2 ^ p)))
 
 -- a cell above lo, which lies below bit `from`
-cell-above : (c : Cell) (from lo : ℕ) → from ≤ c .place → c .value < 2 ^ c .width → lo < 2 ^ from → c .value * 2 ^ c .place + lo < 2 ^ (c .place + c .width)
+pub cell-above : (c : Cell) (from lo : ℕ) → from ≤ c .place → c .value < 2 ^ c .width → lo < 2 ^ from → c .value * 2 ^ c .place + lo < 2 ^ (c .place + c .width)
 cell-above c from lo h v l =
     let q : 2 ^ (c .place + c .width) ≡ 2 ^ c .width * 2 ^ c .place = ap (λ (x : ℕ). 2 ^ x) (omega arith) ∙ pow-add 2 (c .width) (c .place) in
     rw q (digits-lt v (lt-of-lt-of-le l (pow-mono h)))

@@ -68,7 +68,7 @@ module _ (fp : ℕ) (s : SymbolicBlock) (m : s .mark ≡ 1) (n : None (voidRefus
   extent-lt : (i : ℕ) → i < 4 → extentIn s i < 2 ^ 13
   extent-lt i h = omega (arith, within-used 4 4 8191 (extentIn s) extents-in i h h)
 
-  apart : Apart 0 128 (voidCells s)
+  pub apart : Apart 0 128 (voidCells s)
   unfolding voidCells
   apart =
       (omega arith, omega arith)

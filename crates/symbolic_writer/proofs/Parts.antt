@@ -1,23 +1,22 @@
 -- The parts of a block that hold packed numbers.
 -- Assumes nothing.
-use mathlib.Core.Path.{_≡_, subst, sym, ap, _∙_}
+use mathlib.Core.Path.{_≡_, sym, ap, _∙_}
 use mathlib.Core.List.{List}
-use Prim.Native.Nat.{ℕ, suc, _+_, _-_, _*_, _%_, _^_, _≤_, _<_}
-use native.Mathlib.Nat.{mod-eq-of-lt, lt-of-lt-of-le, zero-mul}
+use Prim.Native.Nat.{ℕ, _+_, _-_, _*_, _%_, _^_, _≤_, _<_}
+use native.Mathlib.Nat.{mod-eq-of-lt, lt-of-lt-of-le}
 use native.Mathlib.Omega.{arith}
-use lib.ListN.{length, getD, take, length-map}
-use lib.Pow.{pow-pos, pow-mono, shl-shr}
-use lib.Seq.{getD-take, length-take-le, ext-getD}
+use lib.ListN.{length, getD, take}
+use lib.Pow.{pow-mono}
+use lib.Seq.{ext-getD}
 use Rattle.laws.specs.Table.{padded}
 use Rattle.laws.proofs.Filling.{padded-here, length-padded}
 use Rattle.bits.specs.Field.{field, reverse}
-use Rattle.bits.proofs.Fields.{field-none, field-past}
-use Rattle.bits.proofs.Reverse.{reverse-lt, reverse-bit, bits-ext, reverse-join}
+use Rattle.bits.proofs.Fields.{field-lt, field-none}
+use Rattle.bits.proofs.Reverse.{reverse-lt, reverse-reverse}
 use Rattle.encoding.specs.declared.Stored.{Stored}
 use Rattle.quantization.specs.Ranges.{encodingAt, bitsAt, rangeBits}
 use Rattle.integer_sequence.specs.Reading.{stored}
 use Rattle.integer_sequence.specs.Writing.{packed, values, withSequence}
-use Rattle.integer_sequence.proofs.Search.{value-at}
 use Rattle.block_mode.specs.declared.WeightGrid.{WeightGrid}
 use Rattle.block_header.specs.declared.Header.{Header}
 use Rattle.block_header.specs.Counts.{weightCount, weightBits, endpointCount, endpointRangeOf}
@@ -25,8 +24,9 @@ use Rattle.block_fault.specs.Bits.{endpointsFrom}
 use Rattle.symbolic_block.specs.declared.SymbolicBlock.{SymbolicBlock}
 use Rattle.symbolic_block.specs.Fields.{gridOf, headerOf}
 use Rattle.symbolic_block.specs.Writing.{endpointStream, weightStream}
-use Rattle.symbolic_block.proofs.Numbers.{packed-size}
+use Rattle.symbolic_block.proofs.Numbers.{taken, packed-size, value, reverse-top}
 use Rattle.symbolic_writer.specs.Piled.{withValue, Packable}
+use Rattle.symbolic_writer.proofs.Piled.{below-kept}
 
 -- the endpoint numbers in a list of 64
 abbrev pub long : List Stored → List Stored
@@ -34,23 +34,19 @@ long xs = padded 64 18 (λ i. getD xs i (stored 0)) (stored 0)
 
 -- begin as before
 module _ (xs : List Stored) (e : length xs ≡ 18) (n : ℕ) (h : n ≤ 18) where
-  long-length : length (take n (values (long xs))) ≡ n
-  long-length =
-      length-take-le n (values (long xs)) (omega (arith, length-map (long xs) (λ (s : Stored). s .0), length-padded (λ i. getD xs i (stored 0)) (stored 0) 64 18))
-
-  short-length : length (take n (values xs)) ≡ n
-  short-length = length-take-le n (values xs) (omega (arith, length-map xs (λ (s : Stored). s .0)))
+  long-64 : length (long xs) ≡ 64
+  long-64 = length-padded (λ i. getD xs i (stored 0)) (stored 0) 64 18
 
   same-at : (i : ℕ) → i < n → getD (take n (values (long xs))) i 0 ≡ getD (take n (values xs)) i 0
   same-at i m =
-      getD-take n (values (long xs)) i 0 m ∙ value-at (long xs) i
+      value 64 n 0 (long xs) long-64 (omega arith) i m
       ∙ ap (λ (x : Stored). x .0) (padded-here (λ i. getD xs i (stored 0)) (stored 0) 64 18 i (stored 0) (omega arith) (omega arith))
-      ∙ sym (value-at xs i) ∙ sym (getD-take n (values xs) i 0 m)
+      ∙ sym (value 18 n 0 xs e h i m)
 
   pub taken-same : take n (values (long xs)) ≡ take n (values xs)
   taken-same =
-      ext-getD 0 (take n (values (long xs))) (take n (values xs)) (long-length ∙ sym short-length)
-      (λ i l. same-at i (omega (arith, long-length)))
+      let l : length (take n (values (long xs))) ≡ n = taken 64 n 0 (long xs) long-64 (omega arith) in
+      ext-getD 0 (take n (values (long xs))) (take n (values xs)) (l ∙ sym (taken 18 n 0 xs e h)) (λ i m. same-at i (omega (arith, l)))
 
 -- a sequence from bit 0 on
 pub sequence-first : (k n B : ℕ) (xs : List Stored) → length xs ≡ 64 → n ≤ 64 → rangeBits k n ≤ 128
@@ -63,30 +59,13 @@ sequence-first k n B xs e h m =
     start : (x : ℕ) → 0 + x * 2 ^ 0 ≡ x
     start x = omega arith
 
-reverse-zero : (k : ℕ) → reverse k 0 ≡ 0
-reverse-zero k =
-    bits-ext k (reverse k 0) 0 (reverse-lt k 0) (pow-pos k)
-    (λ i h. reverse-bit k 0 i h ∙ field-past 0 (k - suc i) 1 (pow-pos (k - suc i)) ∙ sym (field-past 0 i 1 (pow-pos i)))
-
--- what was laid from bit k on
-laid-from : (y k w : ℕ) → y < 2 ^ w → field (y * 2 ^ k) k w ≡ y
-unfolding field
-laid-from y k w h = rw (shl-shr y k) (mod-eq-of-lt h)
-
 -- w bits in reverse stand at the top of the reversed 128
 pub reversed-top : (w x : ℕ) → w ≤ 128 → x < 2 ^ w → field (reverse 128 x) (128 - w) w ≡ reverse w x
 reversed-top w x h l =
-    ap (λ (y : ℕ). field y (128 - w) w) whole ∙ laid-from (reverse w x) (128 - w) w (reverse-lt w x)
-  where
-    split-w : w + (128 - w) ≡ 128
-    split-w = omega arith
-
-    whole : reverse 128 x ≡ reverse w x * 2 ^ (128 - w)
-    whole =
-        let j : reverse (w + (128 - w)) (0 * 2 ^ w + x) ≡ reverse w x * 2 ^ (128 - w) + reverse (128 - w) 0 = reverse-join w (128 - w) 0 x l in
-        let z : 0 * 2 ^ w + x ≡ x = omega (arith, zero-mul (2 ^ w)) in
-        let q : reverse 128 x ≡ reverse w x * 2 ^ (128 - w) + reverse (128 - w) 0 = subst (λ (k : ℕ). reverse k x ≡ reverse w x * 2 ^ (128 - w) + reverse (128 - w) 0) split-w (rw z at j) in
-        omega (arith, q, reverse-zero (128 - w))
+    let top = field (reverse 128 x) (128 - w) w in
+    let low : field x 0 w ≡ reverse w top =
+    ap (λ (y : ℕ). field y 0 w) (sym (reverse-reverse 128 x (lt-of-lt-of-le l (pow-mono h)))) ∙ reverse-top 128 w (reverse 128 x) h (reverse-lt 128 x) in
+    sym (reverse-reverse w top (field-lt (reverse 128 x) (128 - w) w)) ∙ ap (reverse w) (sym low ∙ below-kept x w l)
 
 -- ---- step by step
 

@@ -11,7 +11,7 @@ use Rattle.bits.specs.Field.{field}
 use Rattle.bits.proofs.Fields.{field-lt}
 use Rattle.integer_sequence.proofs.Search.{append-next}
 use Rattle.symbolic_block.specs.Cells.{Cell, laid}
-use Rattle.symbolic_block.proofs.Laid.{Apart}
+use Rattle.symbolic_block.proofs.Laid.{Apart, cell-above}
 use Rattle.symbolic_writer.specs.Piled.{withValue, piled}
 
 apart-le : (from to : ℕ) (cs : List Cell) → Apart from to cs → from ≤ to
@@ -25,16 +25,11 @@ below-kept B p h = rw (div-one B) (mod-eq-of-lt h)
 
 -- a cell above B
 module _ (c : Cell) (from B : ℕ) (h : from ≤ c .place) (v : c .value < 2 ^ c .width) (l : B < 2 ^ from) where
-  above-lt : c .value * 2 ^ c .place + B < 2 ^ (c .place + c .width)
-  above-lt =
-      let q : 2 ^ (c .place + c .width) ≡ 2 ^ c .width * 2 ^ c .place = ap (λ (x : ℕ). 2 ^ x) (add-comm (c .place) (c .width)) ∙ pow-add 2 (c .width) (c .place) in
-      rw q (digits-lt v (lt-of-lt-of-le l (pow-mono h)))
-
   above-is : c .place + c .width ≤ 128 → withValue B (c .place) (c .value) ≡ c .value * 2 ^ c .place + B
   unfolding withValue
   above-is m =
       rw (below-kept B (c .place) (lt-of-lt-of-le l (pow-mono h)), add-comm B (c .value * 2 ^ c .place))
-      (mod-eq-of-lt (lt-of-lt-of-le above-lt (pow-mono m)))
+      (mod-eq-of-lt (lt-of-lt-of-le (cell-above c from B h v l) (pow-mono m)))
 
 above : (from : ℕ) (cs : List Cell) → Apart from 128 cs → (B : ℕ) → B < 2 ^ from → piled B cs ≡ laid cs + B
 unfolding piled laid
@@ -42,7 +37,7 @@ above from [] h B l = omega arith
 above from (c ∷ cs) h B l =
     let e : c .value * 2 ^ c .place + laid cs + B ≡ laid cs + (c .value * 2 ^ c .place + B) = omega arith in
     rw (above-is c from B (h .0) (h .1) l (apart-le (c .place + c .width) 128 cs (h .2)))
-    (above (c .place + c .width) cs (h .2) (c .value * 2 ^ c .place + B) (above-lt c from B (h .0) (h .1) l) ∙ sym e)
+    (above (c .place + c .width) cs (h .2) (c .value * 2 ^ c .place + B) (cell-above c from B (h .0) (h .1) l) ∙ sym e)
 
 -- from an empty block
 pub piled-laid : (cs : List Cell) → Apart 0 128 cs → piled 0 cs ≡ laid cs
