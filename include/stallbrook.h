@@ -11,7 +11,7 @@
  *    1 footprint above 13
  *    3 an image side is 0 or above 4096
  *    4 block bytes not exactly 16 for each block
- *    5 a list that is written not exactly as long as said
+ *    5 the call's other list (texels, tally or numbers) not exactly as long as said
  * Faults of a block, the first that holds:
  *   11 reserved block mode
  *   12 void extent: bits 11..10 not both 1, or extents neither all ones nor low < high on both axes
@@ -54,20 +54,19 @@ uint8_t astc_decode_image_unorm16(uint8_t footprint, uint32_t width, uint32_t he
 uint8_t astc_decode_image_srgb8(uint8_t footprint, uint32_t width, uint32_t height, const uint8_t *blocks, size_t blocks_len,
     uint8_t *out, size_t out_len, uint64_t *tally, size_t tally_len);
 
-/* A block's symbolic block: its settings and stored numbers, as 103 numbers. In order: void-extent mark, 4 colours, 4 extents, grid
- * width, grid height, weight range, planes, plane channel, partitions, partition index, selector, 4 endpoint modes, 18 endpoint
- * numbers, 64 weights; unused ones are 0.
- * Answers 0, or the block's fault or the refusal 1 or 4, all 103 numbers being 0 then; or 5, after 1 and 4, where numbers is not of
- * 103 numbers, which leaves it as it was. */
+/* A block's symbolic block: its settings and stored numbers, as 103 numbers. In order, with their places: void-extent mark (0), 4 colours
+ * (1 to 4), 4 extents (5 to 8), grid width (9), grid height (10), weight range (11), planes (12), plane channel (13), partitions (14),
+ * partition index (15), selector (16), 4 endpoint modes (17 to 20), 18 endpoint numbers (21 to 38), 64 weights (39 to 102); unused ones
+ * are 0.
+ * Answers 0, or the block's fault or the refusal 1 or 4, all 103 numbers being 0 then. Where numbers is not of 103 numbers it answers 1,
+ * 4 or else 5, and leaves them as they were. */
 uint8_t astc_read_symbolic(uint8_t footprint, const uint8_t *block, size_t block_len, uint16_t *numbers, size_t numbers_len);
 
-/* The block of a symbolic block, with the smallest codes and spare bits 0. words are 9: the 4 colours, the 4 extents and the partition
- * index; bytes are the 94 others in the order above: mark, grid width, grid height, weight range, planes, plane channel, partitions,
- * selector, 4 endpoint modes, 18 endpoint numbers, 64 weights; block is of 16 bytes.
- * Answers 0, or the refusal of the symbolic block (1, 12, 14 to 20, 31 to 34), the 16 bytes being 0 then; or, before these, 4 (block not
- * of 16 bytes) or 5 (words not 9 or bytes not 94), which leaves block as it was. */
-uint8_t astc_write_symbolic(uint8_t footprint, const uint16_t *words, size_t words_len, const uint8_t *bytes, size_t bytes_len,
-    uint8_t *block, size_t block_len);
+/* The block of a symbolic block, with the smallest codes and spare bits 0: 103 numbers in the order above, whatever they are, to 16 bytes.
+ * Answers 0, or the first refusal in the order 1, 31, 32, 14 to 17, 33, 18 to 20, 34 (with mark 1: 1, 31, 12), all 16 bytes being 0 then.
+ * Where block is not of 16 bytes or numbers not of 103 it answers 1, 4 (block) or 5 (numbers), the first that holds, and leaves block as
+ * it was. */
+uint8_t astc_write_symbolic(uint8_t footprint, const uint16_t *numbers, size_t numbers_len, uint8_t *block, size_t block_len);
 
 #ifdef __cplusplus
 }

@@ -1,3 +1,1 @@
 pub mod Images
-pub mod Lists
-pub mod Numbers

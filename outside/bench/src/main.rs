@@ -1,11 +1,11 @@
 //! Time of the library's image calls against the reference's: bench [ROUNDS]
 //!
-//! 1,024 by 1,024 texels at 6x6 and 12x12, both kinds, mixed LDR mode blocks from the reference's
-//! writer. Library and reference take turns in one process; thread CPU time, median of the rounds.
-//! Buffers are filled once before the first round and not cleared between calls.
+//! 1,024 by 1,024 texels at 6x6 and 12x12, both kinds. The blocks are LDR mode blocks of all sorts, random settings and
+//! numbers that the library's writer wrote. Library and reference take turns in one process, both at opt-level 3; thread
+//! CPU time, median of the rounds. Buffers are filled once before the first round and not cleared between calls.
 
 use reference::random::{Random, mode_block};
-use reference::{FOOTPRINTS, decode_image_u8, decode_image_u16, write};
+use reference::{FOOTPRINTS, decode_image_u8, decode_image_u16};
 
 const SIDE: usize = 1024;
 const SEED: u64 = 1;
@@ -40,11 +40,16 @@ fn median(times: &mut [f64]) -> f64 {
     times[times.len() / 2]
 }
 
+/// Mode blocks for a whole image, each written by the library.
 fn blocks(footprint: usize) -> Vec<u8> {
     let (w, h) = FOOTPRINTS[footprint];
     let mut r = Random(SEED);
-    let count = SIDE.div_ceil(w) * SIDE.div_ceil(h);
-    (0..count).flat_map(|_| write(footprint, &mode_block(&mut r, footprint)).unwrap()).collect()
+    let mut blocks = vec![0; 16 * SIDE.div_ceil(w) * SIDE.div_ceil(h)];
+    for block in blocks.chunks_mut(16) {
+        let numbers = mode_block(&mut r, footprint).to_numbers();
+        assert_eq!(library::raw::write_symbolic(footprint as u8, &numbers, block), 0);
+    }
+    blocks
 }
 
 /// Runs both in turns; answers the ratio of the medians.
@@ -69,7 +74,8 @@ fn measure(name: &str, rounds: usize, mut ours: impl FnMut(), mut theirs: impl F
 fn main() {
     let rounds: usize = std::env::args().nth(1).map_or(21, |n| n.parse().expect("bench [ROUNDS]"));
     println!(
-        "{SIDE} by {SIDE}, seed {SEED}, {rounds} rounds, medians of thread CPU time, buffers not cleared between calls"
+        "{SIDE} by {SIDE}, mixed mode blocks by the library's writer, seed {SEED}, {rounds} rounds, \
+         medians of thread CPU time, buffers not cleared between calls"
     );
     let side = SIDE as u32;
     let mut worst = 0f64;

@@ -53,12 +53,21 @@ impl Number for u16 {
     }
 }
 
+impl Number for u64 {
+    const MARK: u64 = 0xA75C_0000_0000_00A7;
+    fn other(self) -> u64 {
+        !self
+    }
+}
+
 const GUARD: usize = 8;
 
 /// Lends a buffer and tells where it differs from what is expected afterwards. Where something
 /// is expected (`Some`) the buffer starts with other numbers everywhere, else it must stay as it was.
+/// `row` is the texels in a row, where the buffer holds texels.
 fn lend<T: Number>(
-    len: usize, expected: Option<&[T]>, row: usize, what: &str, expected_answer: u8, call: impl FnOnce(&mut [T]) -> u8,
+    len: usize, expected: Option<&[T]>, row: Option<usize>, what: &str, expected_answer: u8,
+    call: impl FnOnce(&mut [T]) -> u8,
 ) -> Option<String> {
     let mut buffer = vec![T::MARK; len + 2 * GUARD];
     if let Some(expected) = expected {
@@ -78,6 +87,9 @@ fn lend<T: Number>(
         }
         let Some(expected) = expected else {
             return Some(format!("{what} is refused by {answer} but writes number {i}"));
+        };
+        let Some(row) = row else {
+            return Some(format!("{what}, number {i}: {given:?}, expected {wanted:?}"));
         };
         let texel = i / 4;
         return Some(format!(
@@ -109,12 +121,14 @@ pub struct BlockCase {
     pub footprint: u8,
     pub block: Vec<u8>,
     pub out_len: usize,
+    /// Of the list that the reader gets.
+    pub numbers_len: usize,
 }
 
 impl BlockCase {
     pub fn new(footprint: usize, block: [u8; 16]) -> BlockCase {
         let (w, h) = FOOTPRINTS[footprint];
-        BlockCase { footprint: footprint as u8, block: block.to_vec(), out_len: 4 * w * h }
+        BlockCase { footprint: footprint as u8, block: block.to_vec(), out_len: 4 * w * h, numbers_len: NUMBERS }
     }
 
     /// The block, where the call isn't refused.
@@ -127,16 +141,16 @@ impl BlockCase {
         let f = self.footprint as usize;
         let Some(block) = self.whole() else {
             let refusal = block_refusal(f, self.block.len(), self.out_len);
-            return lend(self.out_len, None, 1, "decode_block_unorm16", refusal, |out| {
+            return lend(self.out_len, None, None, "decode_block_unorm16", refusal, |out| {
                 library::raw::decode_block_unorm16(self.footprint, &self.block, out)
             })
             .or_else(|| {
-                lend(self.out_len, None, 1, "decode_block_srgb8", refusal, |out| {
+                lend(self.out_len, None, None, "decode_block_srgb8", refusal, |out| {
                     library::raw::decode_block_srgb8(self.footprint, &self.block, out)
                 })
             });
         };
-        let row = FOOTPRINTS[f].0;
+        let row = Some(FOOTPRINTS[f].0);
         let mut numbers = vec![0; self.out_len];
         let fault = decode_u16(f, block, &mut numbers);
         let mut bytes = vec![0; self.out_len];
@@ -151,45 +165,29 @@ impl BlockCase {
         })
     }
 
+    /// The reader's refusal: 1, 4, and 5 where its list is not of 103 numbers.
+    pub fn read_refusal(&self) -> u8 {
+        match read_refusal(self.footprint as usize, self.block.len()) {
+            0 if self.numbers_len != NUMBERS => 5,
+            refusal => refusal,
+        }
+    }
+
     fn read_difference(&self) -> Option<String> {
-        let f = self.footprint as usize;
-        let refusal = read_refusal(f, self.block.len());
-        let expected = match refusal {
-            0 => read(f, self.block.as_slice().try_into().unwrap()),
+        let expected = match self.read_refusal() {
+            0 => read(self.footprint as usize, self.block.as_slice().try_into().unwrap()),
             refusal => Err(refusal),
         };
         let (answer, numbers) = match expected {
             Ok(s) => (0, s.to_numbers()),
             Err(number) => (number, [0; NUMBERS]),
         };
-        let mut given = numbers.map(|n| !n);
-        let given_answer = library::raw::read_symbolic(self.footprint, &self.block, &mut given);
-        if given_answer != answer {
-            return Some(format!("read_symbolic answers {given_answer}, expected {answer}"));
-        }
-        if given != numbers {
-            return Some(number_difference("read_symbolic", &given, &numbers));
-        }
-        (answer == 0).then(|| write_difference(self.footprint, &numbers)).flatten()
+        let wanted = (self.numbers_len == NUMBERS).then_some(numbers.as_slice());
+        lend(self.numbers_len, wanted, None, "read_symbolic", answer, |given| {
+            library::raw::read_symbolic(self.footprint, &self.block, given)
+        })
+        .or_else(|| (answer == 0).then(|| SymbolicCase::new(self.footprint, &numbers).write_difference()).flatten())
     }
-}
-
-fn number_difference(what: &str, given: &[u16; NUMBERS], expected: &[u16; NUMBERS]) -> String {
-    let at = (0..NUMBERS).find(|&i| given[i] != expected[i]).unwrap();
-    format!("{what}, number {at}: {}, expected {}", given[at], expected[at])
-}
-
-fn write_difference(footprint: u8, numbers: &[u16; NUMBERS]) -> Option<String> {
-    let (answer, block) = match write(footprint as usize, &SymbolicBlock::from_numbers(numbers)) {
-        Ok(block) => (0, block),
-        Err(number) => (number, [0; 16]),
-    };
-    let mut given = block.map(|b| !b);
-    let given_answer = library::raw::write_symbolic(footprint, numbers, &mut given);
-    if given_answer != answer {
-        return Some(format!("write_symbolic answers {given_answer}, expected {answer}"));
-    }
-    (given != block).then(|| format!("write_symbolic gives {}, expected {}", hex(&given), hex(&block)))
 }
 
 impl Case for BlockCase {
@@ -226,6 +224,11 @@ impl Case for BlockCase {
                     cases.push(BlockCase { out_len, ..self.clone() });
                 }
             }
+            for numbers_len in [0, self.numbers_len / 2, self.numbers_len.saturating_sub(1)] {
+                if numbers_len < self.numbers_len {
+                    cases.push(BlockCase { numbers_len, ..self.clone() });
+                }
+            }
         }
         cases
     }
@@ -233,7 +236,8 @@ impl Case for BlockCase {
 
 impl fmt::Display for BlockCase {
     fn fmt(&self, f: &mut fmt::Formatter) -> fmt::Result {
-        writeln!(f, "block call, {}, out length {}", size_name(self.footprint), self.out_len)?;
+        let name = size_name(self.footprint);
+        writeln!(f, "block call, {name}, out length {}, list of {} numbers", self.out_len, self.numbers_len)?;
         writeln!(f, "block {}", hex(&self.block))?;
         if let Some(block) = self.whole() {
             match read(self.footprint as usize, block) {
@@ -249,15 +253,44 @@ impl fmt::Display for BlockCase {
 #[derive(Clone)]
 pub struct SymbolicCase {
     pub footprint: u8,
-    pub numbers: [u16; NUMBERS],
+    pub numbers: Vec<u16>,
+    pub block_len: usize,
+}
+
+impl SymbolicCase {
+    pub fn new(footprint: u8, numbers: &[u16; NUMBERS]) -> SymbolicCase {
+        SymbolicCase { footprint, numbers: numbers.to_vec(), block_len: 16 }
+    }
+
+    /// The symbolic block, where both lengths are right.
+    pub fn whole(&self) -> Option<SymbolicBlock> {
+        let numbers = self.numbers.as_slice().try_into().ok()?;
+        (self.block_len == 16).then(|| SymbolicBlock::from_numbers(numbers))
+    }
+
+    /// The block written; or the refusal: of a length, which comes after 1, or of the symbolic block.
+    pub fn written(&self) -> Result<[u8; 16], u8> {
+        match self.whole() {
+            Some(s) => write(self.footprint as usize, &s),
+            None if self.footprint > 13 => Err(1),
+            None if self.block_len != 16 => Err(4),
+            None => Err(5),
+        }
+    }
+
+    fn write_difference(&self) -> Option<String> {
+        let written = self.written();
+        let block = written.unwrap_or([0; 16]);
+        let wanted = self.whole().map(|_| block.as_slice());
+        lend(self.block_len, wanted, None, "write_symbolic", written.err().unwrap_or(0), |given| {
+            library::raw::write_symbolic(self.footprint, &self.numbers, given)
+        })
+    }
 }
 
 impl Case for SymbolicCase {
     fn difference(&self) -> Option<String> {
-        write_difference(self.footprint, &self.numbers).or_else(|| {
-            let block = write(self.footprint as usize, &SymbolicBlock::from_numbers(&self.numbers)).ok()?;
-            BlockCase::new(self.footprint as usize, block).difference()
-        })
+        self.write_difference().or_else(|| BlockCase::new(self.footprint as usize, self.written().ok()?).difference())
     }
 
     fn smaller(&self) -> Vec<SymbolicCase> {
@@ -280,8 +313,11 @@ impl Case for SymbolicCase {
 
 impl fmt::Display for SymbolicCase {
     fn fmt(&self, f: &mut fmt::Formatter) -> fmt::Result {
-        writeln!(f, "write call, {}", size_name(self.footprint))?;
-        writeln!(f, "{:?}", SymbolicBlock::from_numbers(&self.numbers))
+        writeln!(f, "write call, {}, block length {}", size_name(self.footprint), self.block_len)?;
+        match self.whole() {
+            Some(s) => writeln!(f, "{s:?}"),
+            None => writeln!(f, "{} numbers {:?}", self.numbers.len(), self.numbers),
+        }
     }
 }
 
@@ -293,14 +329,19 @@ pub struct ImageCase {
     pub height: u32,
     pub blocks: Vec<u8>,
     pub out_len: usize,
+    pub tally_len: usize,
 }
 
 /// A void extent, all channels 0.
 const PLAIN: [u8; 16] = [0xFC, 0xFD, 0xFF, 0xFF, 0xFF, 0xFF, 0xFF, 0xFF, 0, 0, 0, 0, 0, 0, 0, 0];
 
 impl ImageCase {
+    /// 1, 3, 4, 5; 5 also where the tally is not of 3 numbers.
     pub fn refusal(&self) -> u8 {
-        image_refusal(self.footprint as usize, self.width, self.height, self.blocks.len(), self.out_len)
+        match image_refusal(self.footprint as usize, self.width, self.height, self.blocks.len(), self.out_len) {
+            0 if self.tally_len != 3 => 5,
+            refusal => refusal,
+        }
     }
 
     pub fn tally(&self) -> Tally {
@@ -334,23 +375,30 @@ impl Case for ImageCase {
             assert_eq!(tally, decode_image_u8(f, w, h, &self.blocks, &mut bytes));
             expected = [tally.faulty, tally.first_index, tally.first_fault as u64];
         }
-        let tally_difference = |what: &str, tally: [u64; 3]| {
-            (tally != expected).then(|| format!("{what} tells {tally:?}, expected {expected:?}"))
+        // Lends the tally to a call, which tells its own differences.
+        let with_tally = |what: &str, call: &dyn Fn(&mut [u64]) -> Option<String>| {
+            let mut found = None;
+            let wanted = (self.tally_len == 3).then_some(expected.as_slice());
+            let told = lend(self.tally_len, wanted, None, &format!("tally of {what}"), 0, |tally| {
+                found = call(tally);
+                0
+            });
+            found.or(told)
         };
-        let row = w.max(1);
-        let mut tally = expected.map(|n| !n);
-        let wanted = (refusal == 0).then_some(numbers.as_slice());
-        lend(self.out_len, wanted, row, "decode_image_unorm16", refusal, |out| {
-            library::raw::decode_image_unorm16(self.footprint, self.width, self.height, &self.blocks, out, &mut tally)
-        })
-        .or_else(|| tally_difference("decode_image_unorm16", tally))
-        .or_else(|| {
-            let mut tally = expected.map(|n| !n);
-            let wanted = (refusal == 0).then_some(bytes.as_slice());
-            lend(self.out_len, wanted, row, "decode_image_srgb8", refusal, |out| {
-                library::raw::decode_image_srgb8(self.footprint, self.width, self.height, &self.blocks, out, &mut tally)
+        let row = Some(w.max(1));
+        with_tally("decode_image_unorm16", &|tally| {
+            let wanted = (refusal == 0).then_some(numbers.as_slice());
+            lend(self.out_len, wanted, row, "decode_image_unorm16", refusal, |out| {
+                library::raw::decode_image_unorm16(self.footprint, self.width, self.height, &self.blocks, out, tally)
             })
-            .or_else(|| tally_difference("decode_image_srgb8", tally))
+        })
+        .or_else(|| {
+            with_tally("decode_image_srgb8", &|tally| {
+                let wanted = (refusal == 0).then_some(bytes.as_slice());
+                lend(self.out_len, wanted, row, "decode_image_srgb8", refusal, |out| {
+                    library::raw::decode_image_srgb8(self.footprint, self.width, self.height, &self.blocks, out, tally)
+                })
+            })
         })
     }
 
@@ -369,6 +417,9 @@ impl Case for ImageCase {
                 if (len, out_len) != (self.blocks.len(), self.out_len) {
                     cases.push(ImageCase { blocks: self.blocks[..len].to_vec(), out_len, ..*self });
                 }
+            }
+            if self.tally_len != 3 {
+                cases.push(ImageCase { tally_len: 3, ..self.clone() });
             }
             return cases;
         }
@@ -409,8 +460,8 @@ impl fmt::Display for ImageCase {
         let (name, len) = (size_name(self.footprint), self.blocks.len());
         writeln!(
             f,
-            "image call, {name}, {} by {}, {len} block bytes, out length {}",
-            self.width, self.height, self.out_len
+            "image call, {name}, {} by {}, {len} block bytes, out length {}, tally length {}",
+            self.width, self.height, self.out_len, self.tally_len
         )?;
         for (index, block) in self.blocks.chunks(16).enumerate().take(64) {
             let fault = match block.try_into() {

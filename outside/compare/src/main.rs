@@ -7,8 +7,8 @@ mod seen;
 use std::time::{SystemTime, UNIX_EPOCH};
 
 use cases::{BlockCase, Case, ImageCase, SymbolicCase, shrink};
+use reference::block_refusal;
 use reference::random::Random;
-use reference::{SymbolicBlock, block_refusal, read_refusal, refusal};
 use seen::Seen;
 
 /// Failing cases that are made smaller and printed; the others are only counted.
@@ -42,7 +42,7 @@ impl Run {
     fn block(&mut self, case: BlockCase) {
         let (f, len) = (case.footprint as usize, case.block.len());
         self.seen.count("block call, refusal", block_refusal(f, len, case.out_len) as u32);
-        self.seen.count("read call, refusal", read_refusal(f, len) as u32);
+        self.seen.count("read call, refusal", case.read_refusal() as u32);
         if let Some(block) = case.whole() {
             self.seen.block(f, block);
             self.blocks += 1;
@@ -51,14 +51,20 @@ impl Run {
     }
 
     fn symbolic(&mut self, case: SymbolicCase) {
-        let s = SymbolicBlock::from_numbers(&case.numbers);
-        self.seen.symbolic(case.footprint, &s, refusal(case.footprint as usize, &s));
+        let refusal = case.written().err().unwrap_or(0);
+        self.seen.count("write call, refusal", refusal as u32);
+        if let Some(s) = case.whole() {
+            self.seen.symbolic(case.footprint, &s, refusal);
+        }
         self.case(case);
     }
 
     fn image(&mut self, case: ImageCase) {
         let refusal = case.refusal();
         self.seen.count("image call, refusal", refusal as u32);
+        if case.tally_len != 3 {
+            self.seen.count("image call, tally not of 3 numbers, refusal", refusal as u32);
+        }
         if refusal == 0 {
             let tally = case.tally();
             self.seen.count("image, footprint", case.footprint as u32);
@@ -110,6 +116,9 @@ fn main() {
     for case in make::edges(&mut r) {
         run.image(case);
     }
+    for case in make::above_255(&mut r) {
+        run.symbolic(case);
+    }
     while run.blocks < blocks {
         for _ in 0..100 {
             run.block(make::block(&mut r));
@@ -120,6 +129,7 @@ fn main() {
         for _ in 0..2 {
             run.block(make::refused_block(&mut r));
             run.image(make::refused_image(&mut r));
+            run.symbolic(make::refused_lists(&mut r));
         }
         run.image(make::image(&mut r));
     }

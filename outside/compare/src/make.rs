@@ -66,7 +66,7 @@ fn other_length(r: &mut Random, right: usize) -> usize {
 /// A block call that is refused; several reasons may hold at once.
 pub fn refused_block(r: &mut Random) -> BlockCase {
     let mut case = block(r);
-    let reason = 1 + r.below(7);
+    let reason = 1 + r.below(15);
     if reason & 1 != 0 {
         case.footprint = bad_footprint(r);
     }
@@ -76,6 +76,9 @@ pub fn refused_block(r: &mut Random) -> BlockCase {
     }
     if reason & 4 != 0 {
         case.out_len = other_length(r, case.out_len);
+    }
+    if reason & 8 != 0 {
+        case.numbers_len = other_length(r, NUMBERS);
     }
     case
 }
@@ -128,7 +131,41 @@ pub fn symbolic(r: &mut Random) -> SymbolicCase {
         }
     };
     let footprint = if r.once_in(64) { bad_footprint(r) } else { f as u8 };
-    SymbolicCase { footprint, numbers: s.to_numbers() }
+    SymbolicCase::new(footprint, &s.to_numbers())
+}
+
+/// At every footprint and each place of the list one number above 255: an acceptable one with other high bits, or any.
+pub fn above_255(r: &mut Random) -> Vec<SymbolicCase> {
+    let mut cases = Vec::new();
+    for f in 0..FOOTPRINTS.len() {
+        for place in 0..NUMBERS {
+            for s in [mode_block(r, f), mode_block(r, f), mode_block(r, f), void_extent(r)] {
+                for above in [256 * (1 + r.below(255)), 256, 1024, 8192, 256 + r.below(65280), 65535] {
+                    let mut numbers = s.to_numbers();
+                    numbers[place] = if above % 256 == 0 { numbers[place] % 256 + above as u16 } else { above as u16 };
+                    cases.push(SymbolicCase::new(f as u8, &numbers));
+                }
+            }
+        }
+    }
+    cases
+}
+
+/// A write call with wrong lengths, or with a right one and a refused footprint.
+pub fn refused_lists(r: &mut Random) -> SymbolicCase {
+    let mut case = symbolic(r);
+    let reason = 1 + r.below(7);
+    if reason & 1 != 0 {
+        case.footprint = bad_footprint(r);
+    }
+    if reason & 2 != 0 {
+        let len = other_length(r, NUMBERS);
+        case.numbers.resize(len, 1);
+    }
+    if reason & 4 != 0 {
+        case.block_len = other_length(r, 16);
+    }
+    case
 }
 
 /// A symbolic block that is refused by 20 alone.
@@ -222,7 +259,7 @@ fn image_of(r: &mut Random, f: usize, width: u32, height: u32, many: usize) -> I
             write(f, &symbolic_block(r, f)).unwrap()
         });
     }
-    ImageCase { footprint: f as u8, width, height, blocks, out_len: 4 * (width * height) as usize }
+    ImageCase { footprint: f as u8, width, height, blocks, out_len: 4 * (width * height) as usize, tally_len: 3 }
 }
 
 /// Images with a side of 4,096, at every footprint.
@@ -239,7 +276,7 @@ pub fn edges(r: &mut Random) -> Vec<ImageCase> {
 /// An image call that is refused; several reasons may hold at once.
 pub fn refused_image(r: &mut Random) -> ImageCase {
     let mut case = image(r);
-    let reason = 1 + r.below(15);
+    let reason = 1 + r.below(31);
     if reason & 1 != 0 {
         case.footprint = bad_footprint(r);
     }
@@ -266,6 +303,9 @@ pub fn refused_image(r: &mut Random) -> ImageCase {
     }
     if reason & 8 != 0 {
         case.out_len = other_length(r, case.out_len);
+    }
+    if reason & 16 != 0 {
+        case.tally_len = other_length(r, 3);
     }
     case
 }

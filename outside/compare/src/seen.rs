@@ -3,7 +3,7 @@
 use std::collections::BTreeMap;
 
 use reference::tables::{BLOCK_MODES, BlockMode, ENDPOINT_RANGES};
-use reference::{SymbolicBlock, fault, read, write};
+use reference::{NUMBERS, SymbolicBlock, fault, read, write};
 
 const FAULTS: [u32; 10] = [11, 12, 13, 14, 15, 16, 17, 18, 19, 20];
 const LDR_MODES: [u32; 10] = [0, 1, 4, 5, 6, 8, 9, 10, 12, 13];
@@ -18,15 +18,19 @@ impl Seen {
         seen.require("block, footprint", 0..14);
         seen.require("block, fault", [0].into_iter().chain(FAULTS));
         seen.require("block call, refusal", [0, 1, 4, 5]);
-        seen.require("read call, refusal", [0, 1, 4]);
+        seen.require("read call, refusal", [0, 1, 4, 5]);
         seen.require("image call, refusal", [0, 1, 3, 4, 5]);
+        seen.require("image call, tally not of 3 numbers, refusal", [1, 3, 4, 5]);
         seen.require("image, footprint", 0..14);
         seen.require("image, first fault", [0].into_iter().chain(FAULTS));
         seen.require("image, first faulty block not the first block", [1]);
         seen.require("image, several faulty blocks", [1]);
         seen.require("image, side of 4096", [1]);
-        seen.require("write call, refusal", [0, 1, 12, 14, 15, 16, 17, 18, 19, 20, 31, 32, 33, 34]);
+        seen.require("write call, refusal", [0, 1, 4, 5, 12, 14, 15, 16, 17, 18, 19, 20, 31, 32, 33, 34]);
         seen.require("written block, footprint", 0..14);
+        seen.require("place of a number above 255", 0..NUMBERS as u32);
+        // At most eight endpoint numbers have eight bits each.
+        seen.require("place of an endpoint number above 255 whose range reaches 255", 21..29);
         seen.require("any block mode", 0..2048);
         seen.require("block mode without fault", (0..2048).filter(|&m| possible(m)));
         seen.require("colour endpoint mode", LDR_MODES);
@@ -85,7 +89,19 @@ impl Seen {
 
     /// Numbers that the writer got, and its refusal of them.
     pub fn symbolic(&mut self, footprint: u8, s: &SymbolicBlock, refusal: u8) {
-        self.count("write call, refusal", refusal as u32);
+        let large = |n: &u16| *n > 255;
+        for (place, _) in s.to_numbers().iter().enumerate().filter(|(_, n)| large(n)) {
+            self.count("place of a number above 255", place as u32);
+        }
+        if refusal == 34 {
+            // With 255 for each, it is acceptable: nothing but the numbers above 255 is wrong.
+            let clipped = SymbolicBlock { endpoints: s.endpoints.map(|n| n.min(255)), ..*s };
+            if reference::refusal(footprint as usize, &clipped) == 0 {
+                for (i, _) in s.endpoints.iter().enumerate().filter(|(_, n)| large(n)) {
+                    self.count("place of an endpoint number above 255 whose range reaches 255", 21 + i as u32);
+                }
+            }
+        }
         if refusal == 0 {
             self.count("written block, footprint", footprint as u32);
         }

@@ -9,7 +9,8 @@ unsafe extern "C" {
         footprint: u8, block: *const u8, block_len: usize, out: *mut u8, out_len: usize,
     ) -> u8;
 
-    /// 0 or 1, 3, 4, 5. Tally, of 3 numbers: count of faulty blocks, raster index and fault of the first; zeros on a refusal.
+    /// 0 or 1, 3, 4, 5. Tally, of 3 numbers: count of faulty blocks, raster index and fault of the first; zeros on a refusal. A tally of
+    /// another length: 1, 3, 4 or 5, nothing written.
     pub fn astc_decode_image_unorm16(
         footprint: u8, width: u32, height: u32, blocks: *const u8, blocks_len: usize, out: *mut u16, out_len: usize,
         tally: *mut u64, tally_len: usize,
@@ -24,10 +25,9 @@ unsafe extern "C" {
         footprint: u8, block: *const u8, block_len: usize, numbers: *mut u16, numbers_len: usize,
     ) -> u8;
 
-    /// 0 or the first refusal; the block is all 0 on a refusal of the symbolic block. Words: colours, extents, partition index (9); bytes:
-    /// all other fields in order (94).
+    /// 0 or the first refusal; the 16 bytes are all 0 unless it answers 0. Where there are not 16 bytes or not 103 numbers, 1, 4 or 5,
+    /// nothing written.
     pub fn astc_write_symbolic(
-        footprint: u8, words: *const u16, words_len: usize, bytes: *const u8, bytes_len: usize, block: *mut u8,
-        block_len: usize,
+        footprint: u8, numbers: *const u16, numbers_len: usize, block: *mut u8, block_len: usize,
     ) -> u8;
 }

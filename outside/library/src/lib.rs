@@ -204,6 +204,8 @@ pub fn read_symbolic(footprint: u8, block: &[u8]) -> Result<SymbolicBlock, Error
 /// ```
 /// let block = [0x42, 0, 0, 0xFE, 1, 0, 0, 0, 0, 0, 0, 0, 0, 0, 0, 0x80];
 /// let mut settings = stallbrook::read_symbolic(0, &block)?;
+/// settings.endpoints[0] = 256;
+/// assert_eq!(stallbrook::write_symbolic(0, &settings), Err(stallbrook::Error::Refused(34)));
 /// settings.planes = 3;
 /// assert_eq!(stallbrook::write_symbolic(0, &settings), Err(stallbrook::Error::Refused(31)));
 /// # Ok::<(), stallbrook::Error>(())

@@ -11,7 +11,7 @@ pub fn decode_block_srgb8(footprint: u8, block: &[u8], out: &mut [u8]) -> u8 {
 }
 
 pub fn decode_image_unorm16(
-    footprint: u8, width: u32, height: u32, blocks: &[u8], out: &mut [u16], tally: &mut [u64; 3],
+    footprint: u8, width: u32, height: u32, blocks: &[u8], out: &mut [u16], tally: &mut [u64],
 ) -> u8 {
     unsafe {
         ffi::astc_decode_image_unorm16(
@@ -29,7 +29,7 @@ pub fn decode_image_unorm16(
 }
 
 pub fn decode_image_srgb8(
-    footprint: u8, width: u32, height: u32, blocks: &[u8], out: &mut [u8], tally: &mut [u64; 3],
+    footprint: u8, width: u32, height: u32, blocks: &[u8], out: &mut [u8], tally: &mut [u64],
 ) -> u8 {
     unsafe {
         ffi::astc_decode_image_srgb8(
@@ -46,32 +46,10 @@ pub fn decode_image_srgb8(
     }
 }
 
-pub fn read_symbolic(footprint: u8, block: &[u8], numbers: &mut [u16; 103]) -> u8 {
+pub fn read_symbolic(footprint: u8, block: &[u8], numbers: &mut [u16]) -> u8 {
     unsafe { ffi::astc_read_symbolic(footprint, block.as_ptr(), block.len(), numbers.as_mut_ptr(), numbers.len()) }
 }
 
-/// The archive's call takes the colours, the extents and the partition index as words and all other fields as bytes. A number above 255 in
-/// a byte's place is refused just as 255 is there, but for endpoint numbers, whose range may reach 255: these are refused by 34 here.
-pub fn write_symbolic(footprint: u8, numbers: &[u16; 103], block: &mut [u8; 16]) -> u8 {
-    let mut words = [0; 9];
-    words[..8].copy_from_slice(&numbers[1..9]);
-    words[8] = numbers[15];
-    let byte_fields = [&numbers[..1], &numbers[9..15], &numbers[16..]].concat();
-    let bytes: Vec<u8> = byte_fields.iter().map(|&n| n.min(255) as u8).collect();
-    let number = unsafe {
-        ffi::astc_write_symbolic(
-            footprint,
-            words.as_ptr(),
-            words.len(),
-            bytes.as_ptr(),
-            bytes.len(),
-            block.as_mut_ptr(),
-            block.len(),
-        )
-    };
-    if number == 0 && numbers[21..39].iter().any(|&n| n > 255) {
-        *block = [0; 16];
-        return 34;
-    }
-    number
+pub fn write_symbolic(footprint: u8, numbers: &[u16], block: &mut [u8]) -> u8 {
+    unsafe { ffi::astc_write_symbolic(footprint, numbers.as_ptr(), numbers.len(), block.as_mut_ptr(), block.len()) }
 }

@@ -1,0 +1,59 @@
+use mathlib.Core.Path.{_≡_, refl}
+use Prim.Native.Nat.{_-_, _≤_, min}
+use native.Mathlib.Omega.{arith}
+use borrow.Author.Needs.{needs}
+use lib.ListN.{length, getD}
+use Rattle.laws.proofs.Filling.{Filling, filling-start, filling-more, filling-done}
+use Rattle.symbolic_numbers.specs.Numbers.{clippedNumbers}
+use Rattle.symbolic_numbers.proofs.clipped_numbers.Statement.{statement}
+use Rattle.symbolic_numbers.proofs.clipped_numbers.Tie as tie
+
+abbrev Inv-loop : tie.InvT-loop
+Inv-loop numbers out₀ i₀ out i = (i ≤ 103) × (length numbers ≡ 103) × Filling (λ k. min (getD numbers k 0) 255) 0 103 out i
+
+abbrev μ-loop : tie.MeasureT-loop
+μ-loop numbers out₀ i₀ out i = 103 - i
+
+loop-holds : tie.Need-loop-holds Inv-loop μ-loop
+loop-holds c = (omega arith, c .before .pre, filling-start _ 0 103 _ refl)
+
+mul-clipped : tie.Need-mul-clipped Inv-loop μ-loop
+mul-clipped c = omega arith
+
+shared-slice-read-clipped : tie.Need-shared-slice-read-clipped Inv-loop μ-loop
+shared-slice-read-clipped c = omega arith
+
+clipped-requires : tie.Need-clipped-requires Inv-loop μ-loop
+clipped-requires c κs = search needs
+
+array-write-out : tie.Need-array-write-out Inv-loop μ-loop
+array-write-out c = omega (arith, c .before .before .before .loop .inv .2 .size)
+
+add-i : tie.Need-add-i Inv-loop μ-loop
+add-i c = omega arith
+
+loop-less : tie.Need-loop-less Inv-loop μ-loop
+loop-less c = omega arith
+
+loop-again : tie.Need-loop-again Inv-loop μ-loop
+loop-again c = (omega arith, omega arith, filling-more _ 0 103 _ _ _ (omega arith) (c .before .before .before .loop .inv .2) (c .clipped .ensures))
+
+returns : tie.Need-returns Inv-loop μ-loop
+unfolding clippedNumbers
+returns c = filling-done _ 0 103 _ _ (omega arith) (c .before .loop .inv .2)
+
+pub clipped-numbers-spec : {M : Type 1} → statement M
+clipped-numbers-spec =
+    tie.close
+    (tie.spec
+    Inv-loop
+    μ-loop
+    loop-holds
+    mul-clipped
+    shared-slice-read-clipped
+    clipped-requires
+    array-write-out
+    add-i
+    loop-less
+    loop-again
+    returns)

@@ -1,0 +1,53 @@
+use mathlib.Core.Path.{refl, sym, _∙_}
+use Prim.Native.Nat.{_-_, _≤_}
+use native.Mathlib.Omega.{arith}
+use borrow.Author.Needs.{needs}
+use lib.ListN.{length, getD}
+use Rattle.laws.proofs.Filling.{Filling, filling-start, filling-more, filling-done}
+use Rattle.symbolic_numbers.proofs.put_block.Statement.{statement}
+use Rattle.symbolic_numbers.proofs.put_block.Tie as tie
+
+abbrev Inv-loop : tie.InvT-loop
+Inv-loop block₀ from i₀ block i = (i ≤ 16) × Filling (λ k. getD from k 0) 0 16 block i
+
+abbrev μ-loop : tie.MeasureT-loop
+μ-loop block₀ from i₀ block i = 16 - i
+
+loop-holds : tie.Need-loop-holds Inv-loop μ-loop
+loop-holds c = (omega arith, filling-start _ 0 16 _ (c .pre))
+
+array-read-block : tie.Need-array-read-block Inv-loop μ-loop
+array-read-block c = search needs
+
+slice-write-block : tie.Need-slice-write-block Inv-loop μ-loop
+slice-write-block c = omega (arith, c .before .loop .inv .1 .size)
+
+add-i : tie.Need-add-i Inv-loop μ-loop
+add-i c = omega arith
+
+loop-less : tie.Need-loop-less Inv-loop μ-loop
+loop-less c = omega arith
+
+loop-again : tie.Need-loop-again Inv-loop μ-loop
+loop-again c = (omega arith, filling-more _ 0 16 _ _ _ (omega arith) (c .before .loop .inv .1) refl)
+
+same-length : tie.Need-same-length Inv-loop μ-loop
+same-length c = c .before .loop .inv .1 .size ∙ sym (c .before .before .pre)
+
+returns : tie.Need-returns Inv-loop μ-loop
+returns c = filling-done _ 0 16 _ _ (omega arith) (c .before .loop .inv .1)
+
+pub put-block-spec : {M : Type 1} → statement M
+put-block-spec =
+    tie.close
+    (tie.spec
+    Inv-loop
+    μ-loop
+    loop-holds
+    array-read-block
+    slice-write-block
+    add-i
+    loop-less
+    loop-again
+    same-length
+    returns)

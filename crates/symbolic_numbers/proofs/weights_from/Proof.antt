@@ -1,0 +1,53 @@
+use mathlib.Core.Path.{refl}
+use Prim.Native.Nat.{_+_, _-_, _≤_}
+use native.Mathlib.Omega.{arith}
+use lib.ListN.{getD}
+use Rattle.laws.proofs.Filling.{Filling, filling-start, filling-more, filling-done}
+use Rattle.integer_sequence.specs.Reading.{stored}
+use Rattle.symbolic_numbers.proofs.weights_from.Statement.{statement}
+use Rattle.symbolic_numbers.proofs.weights_from.Tie as tie
+
+abbrev Inv-loop : tie.InvT-loop
+Inv-loop bytes out₀ i₀ out i = (i ≤ 64) × Filling (λ k. stored (getD bytes (39 + k) 0)) (stored 0) 64 out i
+
+abbrev μ-loop : tie.MeasureT-loop
+μ-loop bytes out₀ i₀ out i = 64 - i
+
+loop-holds : tie.Need-loop-holds Inv-loop μ-loop
+loop-holds c = (omega arith, filling-start _ (stored 0) 64 _ refl)
+
+add-t7 : tie.Need-add-t7 Inv-loop μ-loop
+add-t7 c = omega arith
+
+array-read-t10 : tie.Need-array-read-t10 Inv-loop μ-loop
+array-read-t10 c = omega arith
+
+array-set-from-out : tie.Need-array-set-from-out Inv-loop μ-loop
+array-set-from-out c = omega (arith, c .before .loop .inv .1 .size)
+
+add-i : tie.Need-add-i Inv-loop μ-loop
+add-i c = omega arith
+
+loop-less : tie.Need-loop-less Inv-loop μ-loop
+loop-less c = omega arith
+
+loop-again : tie.Need-loop-again Inv-loop μ-loop
+loop-again c = (omega arith, filling-more _ (stored 0) 64 _ _ _ (omega arith) (c .before .loop .inv .1) refl)
+
+returns : tie.Need-returns Inv-loop μ-loop
+returns c = filling-done _ (stored 0) 64 _ _ (omega arith) (c .before .loop .inv .1)
+
+pub weights-from-spec : {M : Type 1} → statement M
+weights-from-spec =
+    tie.close
+    (tie.spec
+    Inv-loop
+    μ-loop
+    loop-holds
+    add-t7
+    array-read-t10
+    array-set-from-out
+    add-i
+    loop-less
+    loop-again
+    returns)

@@ -1,0 +1,55 @@
+-- What the calls that read and write a symbolic block (01: sheet) as a list of 103 numbers answer, and what they leave.
+-- Assumes nothing.
+use Prim.Native.Nat.{ℕ}
+use mathlib.Core.Bool.{not}
+use mathlib.Core.List.{List, [], _∷_}
+use lib.Dec.{eqb}
+use lib.ListN.{length}
+use Rattle.laws.specs.Choice.{pick, both}
+use Rattle.block_header.specs.Reasons.{when, firstOf}
+use Rattle.one_block.specs.declared.Answer.{Answer}
+use Rattle.one_block.specs.declared.Answer.the-variants.{Refused, Faulty, Done}
+use Rattle.one_block.specs.Calls.{numberTold}
+use Rattle.symbolic_block.specs.Refusals.{unknownFootprint}
+use Rattle.symbolic_calls.specs.Writing.{writingOf}
+use Rattle.symbolic_reader.specs.Answers.{readingOf}
+use Rattle.symbolic_numbers.specs.Numbers.{flatOf, blockOver, blockFrom}
+
+-- ---- the reader
+
+-- the number told where the list lent is not of 103 numbers: 5, after the refusals 1 and 4
+abbrev pub refusedOr5 : Answer → ℕ
+refusedOr5 (Refused n) = n
+refusedOr5 (Faulty n) = 5
+refusedOr5 Done = 5
+
+-- what the call answers for the bytes s and a list of so many numbers
+unfoldable pub readNumber : ℕ → List ℕ → ℕ → ℕ
+unfolding readingOf
+readNumber fp s n = pick (eqb n 103) (numberTold (readingOf fp s .answer)) (refusedOr5 (readingOf fp s .answer))
+
+-- what the list holds then: the symbolic block, zeros on a fault and on the refusals 1 and 4; what it held where it is not of 103 numbers
+unfoldable pub readNumbers : ℕ → List ℕ → List ℕ → List ℕ
+unfolding flatOf readingOf
+readNumbers fp s old = pick (eqb (length old) 103) (flatOf (readingOf fp s .block)) old
+
+-- ---- the writer
+
+-- the refusals that come before the symbolic block's own, for a list of so many numbers and a block of so many bytes
+unfoldable pub lentRefusal : ℕ → ℕ → ℕ → ℕ
+unfolding unknownFootprint
+lentRefusal fp numbers block =
+    firstOf (when (unknownFootprint fp) 1 ∷ when (not (eqb block 16)) 4 ∷ when (not (eqb numbers 103)) 5 ∷ [])
+
+-- what the call answers with a block of so many bytes: these, else the refusal of the list's symbolic block, 0 for none
+unfoldable pub writeNumber : ℕ → List ℕ → ℕ → ℕ
+unfolding lentRefusal blockOver writingOf
+writeNumber fp numbers n =
+    let e = lentRefusal fp (length numbers) n in
+    pick (eqb e 0) (numberTold (writingOf fp (blockFrom numbers) .answer)) e
+
+-- what the block holds then: the bytes written, "all 0 on a refusal"; what it held where it is not of 16 bytes, or the list not of 103 numbers
+unfoldable pub writeBlock : ℕ → List ℕ → List ℕ → List ℕ
+unfolding blockOver writingOf
+writeBlock fp numbers old =
+    pick (both (eqb (length old) 16) (eqb (length numbers) 103)) (writingOf fp (blockFrom numbers) .bytes) old

@@ -1,0 +1,77 @@
+-- A symbolic block (01: sheet) as one list of 103 numbers, both ways.
+-- Assumes nothing.
+use Prim.Native.Nat.{ℕ, _+_, _-_, min}
+use mathlib.Core.Bool.{Bool}
+use mathlib.Core.List.{List, [], _∷_, _++_}
+use lib.Dec.{ltb, leb}
+use lib.ListN.{getD}
+use Rattle.laws.specs.Choice.{pick, all}
+use Rattle.laws.specs.Table.{tab}
+use Rattle.encoding.specs.declared.Stored.{Stored}
+use Rattle.integer_sequence.specs.Reading.{stored}
+use Rattle.symbolic_block.specs.declared.SymbolicBlock.{SymbolicBlock}
+use Rattle.symbolic_block.specs.Fields.{colourIn, extentIn, modeIn, numberIn, endpointIn, weightIn}
+
+-- ---- a symbolic block's list
+
+-- all fields before the endpoint numbers, in the order of 01, "Fields"
+abbrev pub settingsWith : SymbolicBlock → ℕ → ℕ → ℕ → ℕ → List ℕ
+settingsWith s mode0 mode1 mode2 mode3 =
+    s .mark
+    ∷ colourIn s 0 ∷ colourIn s 1 ∷ colourIn s 2 ∷ colourIn s 3
+    ∷ extentIn s 0 ∷ extentIn s 1 ∷ extentIn s 2 ∷ extentIn s 3
+    ∷ s .width ∷ s .height ∷ s .range ∷ s .planes
+    ∷ s .component ∷ s .partitions ∷ s .index ∷ s .selector
+    ∷ mode0 ∷ mode1 ∷ mode2 ∷ mode3
+    ∷ []
+
+abbrev pub settingsOf : SymbolicBlock → List ℕ
+settingsOf s = settingsWith s (modeIn s 0) (modeIn s 1) (modeIn s 2) (modeIn s 3)
+
+-- then the endpoint numbers, then the weights
+unfoldable pub flatOf : SymbolicBlock → List ℕ
+unfolding tab
+flatOf s = settingsOf s ++ (tab (endpointIn s) 18 ++ tab (weightIn s) 64)
+
+-- its number i, by position
+abbrev pub flatAt : List ℕ → List Stored → List Stored → ℕ → ℕ
+flatAt settings endpoints weights i =
+    pick (ltb i 21) (getD settings i 0) (pick (ltb i 39) (numberIn endpoints (i - 21)) (numberIn weights (i - 39)))
+
+-- ---- a list's symbolic block
+
+-- the fields at their places in that order, from two such lists: the colours, the extents and the partition index from the first, all
+-- others from the second
+unfoldable pub blockOver : List ℕ → List ℕ → SymbolicBlock
+unfolding tab
+blockOver words bytes = record {
+  mark = getD bytes 0 0;
+  colours = tab (λ i. getD words (1 + i) 0) 4;
+  extents = tab (λ i. getD words (5 + i) 0) 4;
+  width = getD bytes 9 0;
+  height = getD bytes 10 0;
+  range = getD bytes 11 0;
+  planes = getD bytes 12 0;
+  component = getD bytes 13 0;
+  partitions = getD bytes 14 0;
+  index = getD words 15 0;
+  selector = getD bytes 16 0;
+  modes = tab (λ i. getD bytes (17 + i) 0) 4;
+  endpoints = tab (λ i. stored (getD bytes (21 + i) 0)) 18;
+  weights = tab (λ i. stored (getD bytes (39 + i) 0)) 64;
+}
+
+-- the symbolic block of one list, its numbers as they are: also those that are too large for the struct's types
+abbrev pub blockFrom : List ℕ → SymbolicBlock
+blockFrom numbers = blockOver numbers numbers
+
+-- ---- numbers above 255
+
+-- the list with 255 for each number above it
+unfoldable pub clippedNumbers : List ℕ → List ℕ
+unfolding tab
+clippedNumbers numbers = tab (λ i. min (getD numbers i 0) 255) 103
+
+-- no endpoint number is above 255
+unfoldable pub endpointsFit : List ℕ → Bool
+endpointsFit numbers = all (λ i. leb (getD numbers (21 + i) 0) 255) 18

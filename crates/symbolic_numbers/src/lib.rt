@@ -1,0 +1,254 @@
+// The reader and the writer of symbolic blocks (01: sheets) over one list of 103 numbers, in the order of 01, "Fields".
+use encoding::Stored;
+use one_block::Answer;
+use symbolic_block::SymbolicBlock;
+use symbolic_calls::Writing;
+ghost use mathlib.Core.Path.{_≡_};
+ghost use Prim.Native.Nat.{_+_, _<_, min};
+ghost use lib.ListN.{length, getD};
+ghost use Rattle.laws.specs.Choice.{pick};
+ghost use Rattle.laws.specs.Table.{tab};
+ghost use Rattle.integer_sequence.specs.Reading.{stored};
+ghost use Rattle.symbolic_block.specs.Refusals.{unknownFootprint};
+ghost use Rattle.symbolic_refusal.specs.Stages.{orElse};
+ghost use Rattle.symbolic_calls.specs.Writing.{writingOf};
+ghost use Rattle.symbolic_numbers.specs.Numbers.{settingsOf, flatAt, flatOf, blockOver, blockFrom, clippedNumbers, endpointsFit};
+ghost use Rattle.symbolic_numbers.specs.Calls.{refusedOr5, readNumber, readNumbers, writeNumber, writeBlock};
+
+// ---- a symbolic block's list
+
+fn wide(x: u8) -> u16
+    ensures { λ r. ⌜ r ≡ x ⌝ }
+{
+    x as u16
+}
+
+// All fields before the endpoint numbers.
+fn settings_of(s: SymbolicBlock) -> [u16; 21]
+    ensures { λ r. ⌜ r ≡ settingsOf s ⌝ }
+{
+    let c = s.colours;
+    let e = s.extents;
+    let m = s.modes;
+    [
+        s.mark as u16,
+        c[0],
+        c[1],
+        c[2],
+        c[3],
+        e[0],
+        e[1],
+        e[2],
+        e[3],
+        s.width as u16,
+        s.height as u16,
+        s.range as u16,
+        s.planes as u16,
+        s.component as u16,
+        s.partitions as u16,
+        s.index,
+        s.selector as u16,
+        wide(m[0]),
+        wide(m[1]),
+        wide(m[2]),
+        wide(m[3]),
+    ]
+}
+
+// Number i of the list.
+fn flat_at(settings: [u16; 21], endpoints: [Stored; 18], weights: [Stored; 64], i: usize) -> u16
+    requires { ⌜ i < 103 ⌝ }
+    ensures { λ r. ⌜ r ≡ flatAt settings endpoints weights i ⌝ }
+{
+    if i < 21 {
+        return settings[i];
+    }
+    if i < 39 {
+        let e = endpoints[i - 21];
+        return wide(e.0);
+    }
+    let w = weights[i - 39];
+    wide(w.0)
+}
+
+fn put(s: SymbolicBlock, numbers: &mut [u16])
+    requires { ⌜ length (now numbers) ≡ 103 ⌝ }
+    ensures { λ r. ⌜ now (numbers .exit) ≡ flatOf s ⌝ }
+{
+    let settings = settings_of(s);
+    let endpoints = s.endpoints;
+    let weights = s.weights;
+    let mut i: usize = 0;
+    while i < 103 {
+        numbers[i] = flat_at(settings, endpoints, weights, i);
+        i += 1;
+    }
+}
+
+fn refused_or_5(a: Answer) -> u8
+    ensures { λ r. ⌜ r ≡ refusedOr5 a ⌝ }
+{
+    match a {
+        Answer::Refused(n) => n,
+        Answer::Faulty(_) => 5,
+        Answer::Done => 5,
+    }
+}
+
+// A block's symbolic block: the fault's number or the refusal's with zeros in `numbers`, 5 with `numbers` as it was, or 0.
+pub fn read_numbers(footprint: u8, block: &[u8], numbers: &mut [u16]) -> u8
+    ensures { λ r. ⌜ r ≡ readNumber footprint (now (block .entry)) (length (now (numbers .entry))) ⌝ }
+    ensures { λ r. ⌜ now (numbers .exit) ≡ readNumbers footprint (now (block .entry)) (now (numbers .entry)) ⌝ }
+{
+    let reading = symbolic_reader::read_symbolic(footprint, block);
+    let answer = reading.answer;
+    if numbers.len() != 103 {
+        return refused_or_5(answer);
+    }
+    put(reading.block, numbers);
+    one_block::number_told(answer)
+}
+
+// ---- a list's symbolic block, with 255 for each number above it where the struct has a byte
+
+fn clipped(x: u16) -> u8
+    ensures { λ r. ⌜ r ≡ min x 255 ⌝ }
+{
+    if x < 256 { x as u8 } else { 255 }
+}
+
+fn clipped_numbers(numbers: &[u16]) -> [u8; 103]
+    requires { ⌜ length (now numbers) ≡ 103 ⌝ }
+    ensures { λ r. ⌜ r ≡ clippedNumbers (now (numbers .entry)) ⌝ }
+{
+    let mut out = [0u8; 103];
+    let mut i: usize = 0;
+    while i < numbers.len() {
+        out[i] = clipped(numbers[i]);
+        i += 1;
+    }
+    out
+}
+
+fn endpoints_from(bytes: [u8; 103]) -> [Stored; 18]
+    ensures { λ r. ⌜ r ≡ tab (λ i. stored (getD bytes (21 + i) 0)) 18 ⌝ }
+{
+    let mut out = [Stored(0); 18];
+    let mut i: usize = 0;
+    while i < 18 {
+        out[i] = Stored(bytes[21 + i]);
+        i += 1;
+    }
+    out
+}
+
+fn weights_from(bytes: [u8; 103]) -> [Stored; 64]
+    ensures { λ r. ⌜ r ≡ tab (λ i. stored (getD bytes (39 + i) 0)) 64 ⌝ }
+{
+    let mut out = [Stored(0); 64];
+    let mut i: usize = 0;
+    while i < 64 {
+        out[i] = Stored(bytes[39 + i]);
+        i += 1;
+    }
+    out
+}
+
+fn block_from(numbers: &[u16]) -> SymbolicBlock
+    requires { ⌜ length (now numbers) ≡ 103 ⌝ }
+    ensures { λ r. ⌜ r ≡ blockOver (now (numbers .entry)) (clippedNumbers (now (numbers .entry))) ⌝ }
+{
+    let bytes = clipped_numbers(numbers);
+    let endpoints = endpoints_from(bytes);
+    let weights = weights_from(bytes);
+    SymbolicBlock {
+        mark: bytes[0],
+        colours: [numbers[1], numbers[2], numbers[3], numbers[4]],
+        extents: [numbers[5], numbers[6], numbers[7], numbers[8]],
+        width: bytes[9],
+        height: bytes[10],
+        range: bytes[11],
+        planes: bytes[12],
+        component: bytes[13],
+        partitions: bytes[14],
+        index: numbers[15],
+        selector: bytes[16],
+        modes: [bytes[17], bytes[18], bytes[19], bytes[20]],
+        endpoints,
+        weights,
+    }
+}
+
+// Whether no endpoint number is above 255.
+fn endpoints_fit(numbers: &[u16]) -> bool
+    requires { ⌜ length (now numbers) ≡ 103 ⌝ }
+    ensures { λ r. ⌜ r ≡ endpointsFit (now (numbers .entry)) ⌝ }
+{
+    let mut i: usize = 0;
+    while i < 18 {
+        if 255 < numbers[21 + i] {
+            return false;
+        }
+        i += 1;
+    }
+    true
+}
+
+fn or_34(n: u8) -> u8
+    ensures { λ r. ⌜ r ≡ orElse n 34 ⌝ }
+{
+    if n == 0 { 34 } else { n }
+}
+
+// The block of a list. Every limit of a byte field is below 255, but that of an endpoint number may be 255: so 255 in place of a
+// number above it is refused for the same reason, except where it would be an endpoint number within its range.
+fn writing_of(footprint: u8, numbers: &[u16]) -> Writing
+    requires { ⌜ length (now numbers) ≡ 103 ⌝ }
+    ensures { λ r. ⌜ r ≡ writingOf footprint (blockFrom (now (numbers .entry))) ⌝ }
+{
+    let s = block_from(numbers);
+    if endpoints_fit(numbers) {
+        return symbolic_calls::write_symbolic(footprint, s);
+    }
+    let n = symbolic_refusal::refusal(footprint, s);
+    Writing {
+        answer: Answer::Refused(or_34(n)),
+        bytes: [0u8; 16],
+    }
+}
+
+fn put_block(from: [u8; 16], block: &mut [u8])
+    requires { ⌜ length (now block) ≡ 16 ⌝ }
+    ensures { λ r. ⌜ now (block .exit) ≡ tab (λ k. getD from k 0) 16 ⌝ }
+{
+    let mut i: usize = 0;
+    while i < 16 {
+        block[i] = from[i];
+        i += 1;
+    }
+}
+
+// 1 for a footprint that there is not, else n.
+fn after_1(footprint: u8, n: u8) -> u8
+    ensures { λ r. ⌜ r ≡ pick (unknownFootprint footprint) 1 n ⌝ }
+{
+    if 13 < footprint { 1 } else { n }
+}
+
+// The block of a list: 0, the refusal with zeros in `block`, or 1, 4 or 5 with `block` as it was where a length is wrong.
+pub fn write_numbers(footprint: u8, numbers: &[u16], block: &mut [u8]) -> u8
+    ensures { λ r. ⌜ r ≡ writeNumber footprint (now (numbers .entry)) (length (now (block .entry))) ⌝ }
+    ensures { λ r. ⌜ now (block .exit) ≡ writeBlock footprint (now (numbers .entry)) (now (block .entry)) ⌝ }
+{
+    if block.len() != 16 {
+        return after_1(footprint, 4);
+    }
+    if numbers.len() != 103 {
+        return after_1(footprint, 5);
+    }
+    let writing = writing_of(footprint, numbers);
+    let answer = writing.answer;
+    let from = writing.bytes;
+    put_block(from, block);
+    one_block::number_told(answer)
+}
