@@ -59,10 +59,10 @@ endpoint-zero k = go (isEndpoint k 0) refl where
 value : List Stored → ℕ → ℕ
 value xs i = getD xs i (stored 0) .0
 
-pub levels-same : (f : ℕ → ℕ) → f 0 ≡ 0 → (N : ℕ) → N ≤ 64 → (κ : Encoding) (b s n : ℕ)
+pub levels-same : (f : ℕ → ℕ) → f 0 ≡ 0 → (N : ℕ) (κ : Encoding) (b s n : ℕ) → n ≤ 64
     → padded N n (λ i. level (f (getD (numbers κ b s n) i (stored 0) .0))) (level 0) ≡ tab (λ i. level (f (pick (ltb i n) (number κ b s i) 0))) N
 unfolding padded numbers
-levels-same f z N h κ b s n =
+levels-same f z N κ b s n h =
     tab-ext (λ k. pick (ltb k n) (level (f (getD (numbers κ b s n) k (stored 0) .0))) (level 0)) (λ i. level (f (pick (ltb i n) (number κ b s i) 0))) (level 0) N same
   where
     same : (k : ℕ) → k < N → pick (ltb k n) (level (f (getD (numbers κ b s n) k (stored 0) .0))) (level 0) ≡ level (f (pick (ltb k n) (number κ b s k) 0))
@@ -106,6 +106,6 @@ module _ (N : ℕ) (rule : Rule) (xs : List Stored) where
           ]
 
 -- read, then unquantised
-pub levels-read : (f : ℕ → ℕ) → f 0 ≡ 0 → (N : ℕ) → N ≤ 64 → (κ : Encoding) (b s n : ℕ) {xs : List Stored} {r : List Level} → xs ≡ numbers κ b s n
+pub levels-read : (f : ℕ → ℕ) → f 0 ≡ 0 → (N : ℕ) (κ : Encoding) (b s n : ℕ) → n ≤ 64 → {xs : List Stored} {r : List Level} → xs ≡ numbers κ b s n
     → r ≡ padded N n (λ i. level (f (getD xs i (stored 0) .0))) (level 0) → r ≡ tab (λ i. level (f (pick (ltb i n) (number κ b s i) 0))) N
-levels-read f z N h κ b s n ex er = er ∙ ap (λ (l : List Stored). padded N n (λ i. level (f (getD l i (stored 0) .0))) (level 0)) ex ∙ levels-same f z N h κ b s n
+levels-read f z N κ b s n h ex er = er ∙ ap (λ (l : List Stored). padded N n (λ i. level (f (getD l i (stored 0) .0))) (level 0)) ex ∙ levels-same f z N κ b s n h

@@ -1,3 +1,4 @@
+pub mod Frames
 pub mod Painting
 pub mod Levels
 pub mod Shows

@@ -2,8 +2,9 @@
 -- Assumes nothing.
 use mathlib.Core.Path.{_≡_, refl, sym, ap, ap₂, _∙_, subst}
 use mathlib.Core.List.{List}
-use Prim.Native.Nat.{ℕ, suc, _+_, _*_, _/_, _%_, _≤_, _<_}
-use native.Mathlib.Nat.{mul-le-mul-right, mul-comm, suc-mul, add-mul}
+use Prim.Native.Nat.{ℕ, suc, _+_, _-_, _*_, _/_, _%_, _≤_, _<_}
+use native.Mathlib.Nat.{mul-le-mul, mul-le-mul-right, mul-comm, mul-assoc, suc-mul, add-mul}
+use mathlib.Core.Bool.{Bool, true, false}
 use native.Mathlib.Omega.{arith}
 use lib.Arith.{digits-div, digits-mod}
 use lib.Dec.{eqb}
@@ -13,8 +14,11 @@ use Rattle.encoding.specs.declared.Level.{Level}
 use Rattle.block_mode.specs.declared.WeightGrid.{WeightGrid}
 use Rattle.partition.specs.declared.Seeds.{Seeds}
 use Rattle.partition.specs.Seeds.{selectBy}
-use Rattle.weight_grid.specs.Cell.{level}
-use Rattle.weight_grid.specs.Bilinear.{infillOf}
+use Rattle.weight_grid.specs.Cell.{level, weightAt}
+use Rattle.weight_grid.specs.Bilinear.{blendOf, readOf}
+use Rattle.weight_grid.proofs.Points.{number-lt}
+use Rattle.block_mode.specs.Back2D.{Limits}
+use Rattle.block_header.specs.Counts.{weightCount}
 use Rattle.interpolation.specs.declared.ExpandedPair.{ExpandedPair}
 use Rattle.interpolation.specs.Texel.{texelOf}
 use Rattle.block_core.specs.Prepared.{noExpanded, texelAt}
@@ -75,10 +79,10 @@ unfolding Filled
 laid-rows width texel l x y e w = record { size = w .size; holds = λ k h. w .holds k (omega (arith, add-mul y 1 width)) }
 
 -- a place of a row lies in the buffer
-pub place-fits : (fp x y : ℕ) → widthOf fp ≤ 12 → heightOf fp ≤ 12 → x < widthOf fp → y < heightOf fp → 4 * (y * widthOf fp + x) + 4 ≤ 576
-place-fits fp x y hw hh hx hy =
-    let m : suc y * widthOf fp ≤ 12 * widthOf fp = mul-le-mul-right (widthOf fp) (omega arith) in
-    omega (arith, suc-mul y (widthOf fp))
+pub place-fits : (width height x y : ℕ) → width ≤ 12 → height ≤ 12 → x < width → y < height → 4 * (y * width + x) + 4 ≤ 576
+place-fits width height x y hw hh hx hy =
+    let m : suc y * width ≤ 12 * width = mul-le-mul-right width (omega arith) in
+    omega (arith, suc-mul y width)
 
 pub rows-none : (width : ℕ) (texel : ℕ → ℕ → Texel) (l : List ℕ) → length l ≡ 576 → RowsTo width texel l 0
 rows-none width texel l e = record { size = e; holds = λ k h. absurd (omega arith) }
@@ -95,15 +99,44 @@ pub laid-shown : (fp : ℕ) (texel : ℕ → ℕ → Texel) (l : List ℕ) (t : 
 unfolding Filled
 laid-shown fp texel l t e w = record { size = w .size; holds = λ k h. w .holds k (rw e h) }
 
+-- ---- a texel
+
+-- the weight from the four neighbours of number n
+abbrev pub cornersAt : List Level → ℕ → ℕ → ℕ → ℕ → ℕ → ℕ
+cornersAt levels width planes gs gt n =
+    blendOf (gs % 16) (gt % 16)
+    (getD levels n (level 0) .0) (getD levels (n + planes) (level 0) .0)
+    (getD levels (n + width * planes) (level 0) .0) (getD levels (n + width * planes + planes) (level 0) .0)
+
+inner : (t : Bool) (a b : ℕ) → pick t (level a) (level b) ≡ level (pick t a b)
+inner true a b = refl
+inner false a b = refl
+
+-- what is read of the levels lies in their room, with two planes too
+pub reach : (g : WeightGrid) (gs gt : ℕ) → Limits g → weightCount g ≤ 64 → gs ≤ 16 * (g .width - 1) → gt ≤ 16 * (g .height - 1)
+    → gt / 16 * (g .width * g .planes) + gs / 16 * g .planes + g .width * g .planes + g .planes + 1 < 96
+unfolding weightCount
+reach g gs gt l n hs ht =
+    let x = gs / 16 in
+    let y = gt / 16 in
+    let w = l .width-low in
+    let h = l .height-low in
+    let p : 0 < g .planes = l .planes-low in
+    let m = number-lt (g .width) (g .height) (g .planes) 0 x y (omega (arith, w)) (omega (arith, h)) p in
+    let r : g .width * g .planes ≤ 24 = mul-le-mul {n₂ = 12} {m₂ = 2} (l .width-most) (l .planes-most) in
+    omega (arith, m, n, r, l .planes-most, add-mul (y * g .width) x (g .planes), mul-assoc y (g .width) (g .planes))
+
 -- the texel, step by step
-pub told : (g : WeightGrid) (component : ℕ) (levels : List Level) (table : List ExpandedPair) (seeds : Seeds) (gs gt x y : ℕ) {first second : Level} {p k : ℕ} {t : Texel}
-    → first ≡ level (infillOf levels (g .width) (g .height) (g .planes) 0 gs gt)
-    → second .0 ≡ pick (eqb (g .planes) 2) (infillOf levels (g .width) (g .height) (g .planes) 1 gs gt) (first .0)
-    → p ≡ selectBy seeds x y → k ≡ pick (eqb (g .planes) 2) component 4 → t ≡ texelOf (getD table p noExpanded) first second k
-    → t ≡ texelAt g component levels table seeds gs gt x y
-unfolding texelAt
-told g component levels table seeds gs gt x y {first} {second} ef es ep ek et =
-    let e : second ≡ level (pick (eqb (g .planes) 2) (infillOf levels (g .width) (g .height) (g .planes) 1 gs gt) (infillOf levels (g .width) (g .height) (g .planes) 0 gs gt)) =
-    (let q : second .0 ≡ pick (eqb (g .planes) 2) (infillOf levels (g .width) (g .height) (g .planes) 1 gs gt) (infillOf levels (g .width) (g .height) (g .planes) 0 gs gt) = es ∙ ap (λ (l : Level). pick (eqb (g .planes) 2) (infillOf levels (g .width) (g .height) (g .planes) 1 gs gt) (l .0)) ef in
-    λ i. record { 0 = q i }) in
-    rw (et, ef, e, ep, ek)
+pub told : (g : WeightGrid) (component : ℕ) (levels : List Level) (table : List ExpandedPair) (seeds : Seeds) (partitions gs gt x y n : ℕ) {first second : Level} {p : ℕ} {t : Texel}
+    → n ≡ gt / 16 * (g .width * g .planes) + gs / 16 * g .planes
+    → first ≡ level (cornersAt levels (g .width) (g .planes) gs gt n)
+    → second ≡ pick (eqb (g .planes) 2) (level (cornersAt levels (g .width) (g .planes) gs gt (n + 1))) first
+    → p ≡ pick (eqb partitions 1) 0 (selectBy seeds x y) → t ≡ texelOf (getD table p noExpanded) first second component
+    → t ≡ texelAt g component levels table seeds partitions gs gt x y
+unfolding texelAt readOf weightAt
+told g component levels table seeds partitions gs gt x y n {first} {second} en ef es ep et =
+    let z : n ≡ n + 0 = omega arith in
+    let a : first ≡ level (readOf levels (g .width) (g .planes) 0 gs gt) = ef ∙ ap (λ (k : ℕ). level (cornersAt levels (g .width) (g .planes) gs gt k)) (z ∙ ap (λ (k : ℕ). k + 0) en) in
+    let b : second ≡ level (pick (eqb (g .planes) 2) (readOf levels (g .width) (g .planes) 1 gs gt) (readOf levels (g .width) (g .planes) 0 gs gt)) =
+    es ∙ rw (a, en) (inner (eqb (g .planes) 2) _ _) in
+    rw (et, a, b, ep)

@@ -11,7 +11,7 @@ use interpolation::Texel;
 use partition::Seeds;
 use quantization::Rule;
 ghost use mathlib.Core.Path.{_≡_};
-ghost use Prim.Native.Nat.{ℕ, _+_, _*_, _≤_, _<_};
+ghost use Prim.Native.Nat.{ℕ, _+_, _*_, _%_, _≤_, _<_};
 ghost use lib.Dec.{eqb, ltb};
 ghost use lib.ListN.{length, getD};
 ghost use Rattle.laws.specs.Choice.{pick};
@@ -25,22 +25,52 @@ ghost use Rattle.quantization.specs.Unquantise.{unquantEndpoint, unquantWeight}
 ghost use Rattle.block_header.specs.Counts.{weightCount, endpointCount, endpointRangeOf};
 ghost use Rattle.color_endpoint.specs.Table.{tableOf};
 ghost use Rattle.interpolation.specs.Expansion.{expandedTable};
-ghost use Rattle.footprint.specs.Footprint.{widthOf, heightOf, texelsOf};
 ghost use Rattle.weight_grid.specs.Cell.{level};
-ghost use Rattle.weight_grid.specs.Bilinear.{infillOf};
-ghost use Rattle.weight_grid.specs.Place.{scaleOf, gridPlace};
-ghost use Rattle.texel.specs.Meaning.{endpointLevels, weightLevels, solidTexel, magenta, texelFrom};
+ghost use Rattle.weight_grid.specs.Bilinear.{blendOf};
+ghost use Rattle.block_mode.specs.Back2D.{Limits};
+ghost use Rattle.partition.specs.Seeds.{selectBy};
+ghost use Rattle.texel.specs.Meaning.{endpointLevels, solidTexel, texelFrom};
 ghost use Rattle.block_fault.specs.Bits.{colourAt, endpointsFrom, endpointAt, weightAt};
 ghost use Rattle.block_fault.specs.Faults.{faultOf};
-ghost use Rattle.block_core.specs.Prepared.{texelAt, texelIn};
+ghost use Rattle.block_core.specs.Prepared.{frameOf, roomyLevels, texelIn, Inside};
 ghost use Rattle.block_core.specs.Held.{RowsTo, Shown, Held};
 
-// The weight of the second plane; with one plane the first serves.
-fn second_weight(levels: [Level; 64], g: WeightGrid, first: Level, gs: u32, gt: u32) -> Level
-    ensures { λ r. ⌜ r .0 ≡ pick (eqb (g .planes) 2) (infillOf levels (g .width) (g .height) (g .planes) 1 gs gt) (first .0) ⌝ }
+// A footprint's sides and the scale factors of a weight grid along them, once for each block.
+struct Frame {
+    width: u8,
+    height: u8,
+    across: u16,
+    down: u16,
+}
+
+fn frame_of(fp: u8) -> Frame
+    ensures { λ r. ⌜ r ≡ frameOf fp ⌝ }
 {
-    if g.planes == 2 {
-        weight_grid::infill(levels, g.width, g.height, g.planes, 1, gs, gt)
+    let width = footprint::width(fp);
+    let height = footprint::height(fp);
+    Frame {
+        width,
+        height,
+        across: weight_grid::scale(width),
+        down: weight_grid::scale(height),
+    }
+}
+
+// The weight of the second plane, from its four neighbours; with one plane the first serves.
+fn second_weight(
+    planes: u8,
+    first: Level,
+    gs: u32,
+    gt: u32,
+    l00: Level,
+    l01: Level,
+    l10: Level,
+    l11: Level,
+) -> Level
+    ensures { λ r. ⌜ r ≡ pick (eqb planes 2) (level (blendOf (gs % 16) (gt % 16) (l00 .0) (l01 .0) (l10 .0) (l11 .0))) first ⌝ }
+{
+    if planes == 2 {
+        weight_grid::infill(gs, gt, l00, l01, l10, l11)
     } else {
         first
     }
@@ -53,61 +83,14 @@ fn second_component(planes: u8, component: u8) -> u8
     if planes == 2 { component } else { 4 }
 }
 
-// The texel at x, y, which lies at gs, gt of the grid.
-fn texel_at(
-    g: WeightGrid,
-    component: u8,
-    levels: [Level; 64],
-    table: [ExpandedPair; 4],
-    seeds: Seeds,
-    gs: u32,
-    gt: u32,
-    x: u8,
-    y: u8,
-) -> Texel
-    ensures { λ r. ⌜ r ≡ texelAt g component levels table seeds gs gt x y ⌝ }
+// The partition of the texel at x, y; no hash where there is one partition.
+fn partition_of(seeds: Seeds, partitions: u8, x: u8, y: u8) -> usize
+    ensures { λ r. ⌜ (r ≡ pick (eqb partitions 1) 0 (selectBy seeds x y)) × (r < 4) ⌝ }
 {
-    let first = weight_grid::infill(levels, g.width, g.height, g.planes, 0, gs, gt);
-    let second = second_weight(levels, g, first, gs, gt);
-    let p = partition::partition_at(seeds, x, y) as usize;
-    let pair = table[p];
-    interpolation::mix_texel(pair, first, second, second_component(g.planes, component))
-}
-
-// Four numbers of a texel at place i of the buffer.
-fn put(out: &mut [u16; 576], i: usize, t: Texel)
-    requires { ⌜ i + 4 ≤ 576 ⌝ }
-    ensures { λ r. ⌜ now (out .exit) ≡ putFour (now (out .entry)) i (t .r) (t .g) (t .b) (t .a) ⌝ }
-{
-    out[i] = t.r;
-    out[i + 1] = t.g;
-    out[i + 2] = t.b;
-    out[i + 3] = t.a;
-}
-
-// Row y of the texels.
-fn paint_row(
-    g: WeightGrid,
-    component: u8,
-    levels: [Level; 64],
-    table: [ExpandedPair; 4],
-    seeds: Seeds,
-    fp: u8,
-    y: u8,
-    out: &mut [u16; 576],
-)
-    requires { ⌜ y < heightOf fp ⌝ }
-    ensures { λ r. ⌜ (RowsTo (widthOf fp) (texelIn g component levels table seeds fp) (now (out .entry)) y → RowsTo (widthOf fp) (texelIn g component levels table seeds fp) (now (out .exit)) (y + 1)) ⌝ }
-{
-    let width = footprint::width(fp);
-    let scale = weight_grid::scale(width);
-    let gt = weight_grid::grid_place(weight_grid::scale(footprint::height(fp)), y, g.height);
-    let mut x: u8 = 0;
-    while x < width {
-        let gs = weight_grid::grid_place(scale, x, g.width);
-        let t = texel_at(g, component, levels, table, seeds, gs, gt, x, y);
-        put(out, place(width, x, y), t);
-        x += 1;
+    if partitions == 1 {
+        0
+    } else {
+        partition::partition_at(seeds, x, y) as usize
     }
 }
 
@@ -118,22 +101,77 @@ fn place(width: u8, x: u8, y: u8) -> usize
     4 * ((y as usize) * (width as usize) + x as usize)
 }
 
+// Four numbers of a texel at place i of the buffer.
+fn put(out: &mut [u16; 576], i: usize, r: u16, g: u16, b: u16, a: u16)
+    requires { ⌜ i + 4 ≤ 576 ⌝ }
+    ensures { λ _. ⌜ now (out .exit) ≡ putFour (now (out .entry)) i r g b a ⌝ }
+{
+    out[i] = r;
+    out[i + 1] = g;
+    out[i + 2] = b;
+    out[i + 3] = a;
+}
+
+// Row y of the texels. Its function reads the levels itself: no array is passed for a texel. A neighbour outside the grid is read too, its
+// factor is 0.
+fn paint_row(
+    g: WeightGrid,
+    component: u8,
+    levels: [Level; 96],
+    table: [ExpandedPair; 4],
+    seeds: Seeds,
+    partitions: u8,
+    f: Frame,
+    y: u8,
+    out: &mut [u16; 576],
+)
+    requires { ⌜ Inside g f ⌝ }
+    requires { ⌜ y < f .height ⌝ }
+    ensures { λ r. ⌜ (RowsTo (f .width) (texelIn g component levels table seeds partitions f) (now (out .entry)) y → RowsTo (f .width) (texelIn g component levels table seeds partitions f) (now (out .exit)) (y + 1)) ⌝ }
+{
+    let planes = g.planes as usize;
+    let row = (g.width as usize) * planes;
+    let gt = weight_grid::grid_place(f.down, y, g.height);
+    let from = ((gt / 16) as usize) * row;
+    let mut x: u8 = 0;
+    while x < f.width {
+        let gs = weight_grid::grid_place(f.across, x, g.width);
+        let n = from + ((gs / 16) as usize) * planes;
+        let l00 = levels[n];
+        let l01 = levels[n + planes];
+        let l10 = levels[n + row];
+        let l11 = levels[n + row + planes];
+        let first = weight_grid::infill(gs, gt, l00, l01, l10, l11);
+        let m = n + 1;
+        let k00 = levels[m];
+        let k01 = levels[m + planes];
+        let k10 = levels[m + row];
+        let k11 = levels[m + row + planes];
+        let second = second_weight(g.planes, first, gs, gt, k00, k01, k10, k11);
+        let pair = table[partition_of(seeds, partitions, x, y)];
+        let t = interpolation::mix_texel(pair, first, second, component);
+        put(out, place(f.width, x, y), t.r, t.g, t.b, t.a);
+        x += 1;
+    }
+}
+
 // All texels, row by row.
 fn paint(
     g: WeightGrid,
     component: u8,
-    levels: [Level; 64],
+    levels: [Level; 96],
     table: [ExpandedPair; 4],
     seeds: Seeds,
-    fp: u8,
+    partitions: u8,
+    f: Frame,
     out: &mut [u16; 576],
 )
-    ensures { λ r. ⌜ (length (now (out .entry)) ≡ 576 → Shown fp (texelIn g component levels table seeds fp) (now (out .exit))) ⌝ }
+    requires { ⌜ Inside g f ⌝ }
+    ensures { λ r. ⌜ (length (now (out .entry)) ≡ 576 → RowsTo (f .width) (texelIn g component levels table seeds partitions f) (now (out .exit)) (f .height)) ⌝ }
 {
-    let height = footprint::height(fp);
     let mut y: u8 = 0;
-    while y < height {
-        paint_row(g, component, levels, table, seeds, fp, y, out);
+    while y < f.height {
+        paint_row(g, component, levels, table, seeds, partitions, f, y, out);
         y += 1;
     }
 }
@@ -145,7 +183,7 @@ fn flood(t: Texel, fp: u8, out: &mut [u16; 576])
     let count = footprint::texels(fp) as usize;
     let mut i: usize = 0;
     while i < count {
-        put(out, 4 * i, t);
+        put(out, 4 * i, t.r, t.g, t.b, t.a);
         i += 1;
     }
 }
@@ -157,13 +195,13 @@ fn level_by(rule: Rule, s: Stored) -> Level
     quantization::unquantize(rule, s)
 }
 
-// The levels of the first n weights.
-fn weight_levels(range: u8, xs: [Stored; 64], n: usize) -> [Level; 64]
+// The levels of the first n weights, and room past them.
+fn weight_levels(range: u8, xs: [Stored; 64], n: usize) -> [Level; 96]
     requires { ⌜ n ≤ 64 ⌝ }
-    ensures { λ r. ⌜ r ≡ padded 64 n (λ i. level (unquantWeight range (getD xs i (stored 0) .0))) (level 0) ⌝ }
+    ensures { λ r. ⌜ r ≡ padded 96 n (λ i. level (unquantWeight range (getD xs i (stored 0) .0))) (level 0) ⌝ }
 {
     let rule = quantization::weight_rule(range);
-    let mut out = [Level(0); 64];
+    let mut out = [Level(0); 96];
     let mut i: usize = 0;
     while i < n {
         out[i] = level_by(rule, xs[i]);
@@ -188,9 +226,9 @@ fn endpoint_levels(range: u8, xs: [Stored; 64], n: usize) -> [Level; 18]
 }
 
 // The unquantised weights of a block.
-fn weights_of(block: PhysicalBlock, g: WeightGrid, n: u8) -> [Level; 64]
+fn weights_of(block: PhysicalBlock, g: WeightGrid, n: u8) -> [Level; 96]
     requires { ⌜ (n ≡ weightCount g) × (n ≤ 64) ⌝ }
-    ensures { λ r. ⌜ r ≡ weightLevels (g .range) (λ i. pick (ltb i (weightCount g)) (number (encodingAt (g .range)) (bitsAt (g .range)) (sequenceAt (encodingAt (g .range)) (bitsAt (g .range)) (reverse 128 (blockNumber block)) 0 (weightCount g)) i) 0) ⌝ }
+    ensures { λ r. ⌜ r ≡ roomyLevels (g .range) (λ i. pick (ltb i (weightCount g)) (number (encodingAt (g .range)) (bitsAt (g .range)) (sequenceAt (encodingAt (g .range)) (bitsAt (g .range)) (reverse 128 (blockNumber block)) 0 (weightCount g)) i) 0) ⌝ }
 {
     weight_levels(
         g.range,
@@ -240,13 +278,23 @@ fn pairs_of(block: PhysicalBlock, h: Header, kind: Kind) -> [ExpandedPair; 4]
 // The texels of a coded block.
 fn paint_coded(block: PhysicalBlock, h: Header, fp: u8, kind: Kind, out: &mut [u16; 576])
     requires { ⌜ (weightCount (h .grid) ≤ 64) × (endpointCount h ≤ 18) ⌝ }
+    requires { ⌜ Limits (h .grid) ⌝ }
     ensures { λ r. ⌜ (length (now (out .entry)) ≡ 576 → Shown fp (texelFrom fp kind h (endpointAt (blockNumber block) h) (weightAt (blockNumber block) h)) (now (out .exit))) ⌝ }
 {
     let g = h.grid;
     let levels = weights_of(block, g, block_header::weight_count(g) as u8);
     let table = pairs_of(block, h, kind);
     let seeds = partition::partition_seeds(h.index, h.partitions, footprint::is_small(fp));
-    paint(g, h.component, levels, table, seeds, fp, out);
+    paint(
+        g,
+        second_component(g.planes, h.component),
+        levels,
+        table,
+        seeds,
+        h.partitions,
+        frame_of(fp),
+        out,
+    );
 }
 
 fn colours(block: PhysicalBlock) -> Texel

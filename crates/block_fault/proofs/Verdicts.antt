@@ -8,12 +8,17 @@ use native.Mathlib.Omega.{arith}
 use lib.Dec.{eqb, ltb}
 use borrow.Author.Tests.{eqb-true, eqb-false, ltb-false}
 use Rattle.laws.specs.Choice.{pick}
+use Rattle.bits.specs.Field.{field}
+use Rattle.block_mode.specs.declared.BlockMode.{BlockMode}
+use Rattle.block_mode.specs.declared.BlockMode.the-variants.{VoidExtent, Reserved, Grid}
+use Rattle.block_mode.specs.Back2D.{Limits}
+use Rattle.block_mode.proofs.Modes.{any-limits}
 use Rattle.block_header.specs.declared.Header.{Header}
 use Rattle.block_header.specs.Counts.{weightCount, endpointCount}
 use Rattle.block_header.specs.Reasons.{firstOf, gridTooLarge, tooManyWeights, weightBitsOutside, fourWithTwoPlanes, tooManyEndpoints, tooFewEndpointBits, someHdr}
 use Rattle.block_fault.specs.declared.Verdict.{Verdict}
 use Rattle.block_fault.specs.declared.Verdict.the-variants as verdict
-use Rattle.block_fault.specs.Bits.{modeAt, isVoid, isReserved, headerAt}
+use Rattle.block_fault.specs.Bits.{modeAt, isVoid, isReserved, gridIn, headerWith, headerAt}
 use Rattle.block_fault.specs.Faults.{modeReasons, faultOf}
 use Rattle.block_fault.specs.Settings.{verdictOf, withHeader, settingsOf}
 
@@ -21,6 +26,12 @@ header-verdict : (v : Verdict) (h : Header) → withHeader v h .verdict ≡ v
 header-verdict verdict.Coded h = refl
 header-verdict verdict.VoidExtent h = refl
 header-verdict (verdict.Fault n) h = refl
+
+-- a mode is a void extent, reserved or a grid
+pub a-grid : (m : BlockMode) → isVoid m ≡ false → isReserved m ≡ false → m ≡ Grid (gridIn m)
+a-grid VoidExtent v r = let z : _≡_ {A = Bool} true false = v in absurd (let w : _≡_ {A = ℕ} 0 1 = cc in omega arith)
+a-grid Reserved v r = let z : _≡_ {A = Bool} true false = r in absurd (let w : _≡_ {A = ℕ} 0 1 = cc in omega arith)
+a-grid (Grid g) v r = refl
 
 module _ (fp B : ℕ) where
   pub settings-verdict : settingsOf fp B .verdict ≡ verdictOf fp B
@@ -59,6 +70,13 @@ module _ (fp B : ℕ) where
   passed : (t : Bool) (n rest : ℕ) → (n ≡ 0 → ⊥) → pick t n rest ≡ 0 → (t ≡ false) × (rest ≡ 0)
   passed true n rest h e = absurd (h e)
   passed false n rest h e = (refl, e)
+
+  -- the grid of a coded block without fault is within the limits of the modes
+  pub coded-limits : faultOf fp B ≡ 0 → isVoid (modeAt B) ≡ false → Limits (headerAt B .grid)
+  unfolding faultOf modeReasons headerAt headerWith modeAt
+  coded-limits e v =
+      let b = passed (isReserved (modeAt B)) 11 _ (λ z. omega arith) (rw v at e) in
+      any-limits (field B 0 11) (gridIn (modeAt B)) (a-grid (modeAt B) v (b .0))
 
   -- a coded block without fault has at most 64 weights and 18 endpoint numbers
   pub coded-counts : faultOf fp B ≡ 0 → isVoid (modeAt B) ≡ false → (weightCount (headerAt B .grid) ≤ 64) × (endpointCount (headerAt B) ≤ 18)

@@ -12,7 +12,9 @@ ghost use Rattle.interpolation.specs.Expansion.{
   expandedTable,
   shownOf,
 };
-ghost use Rattle.interpolation.specs.Texel.{mixOf, weightOf, texelOf};
+ghost use Rattle.interpolation.specs.Texel.{mixOf, texelOf};
+ghost use lib.Dec.{eqb};
+ghost use Rattle.laws.specs.Choice.{pick};
 use encoding::Level;
 use endpoint_arithmetic::EndpointPair;
 
@@ -127,30 +129,32 @@ pub fn shown(kind: Kind, n: u16) -> u16
 }
 
 // What is left of 64.
-fn rest(i: u32) -> u32
+fn rest(i: u16) -> u16
     ensures { λ r. ⌜ (r ≡ 64 - i) × (r ≤ 64) ⌝ }
 {
     if i < 64 { 64 - i } else { 0 }
 }
 
 // Two expanded channels mixed by a weight.
-pub fn mix(c0: u16, c1: u16, i: Level) -> u32
-    ensures { λ r. ⌜ r ≡ mixOf c0 c1 (i .0) ⌝ }
+fn mix(c0: u16, c1: u16, i: u16) -> u32
+    requires { ⌜ i ≤ 255 ⌝ }
+    ensures { λ r. ⌜ r ≡ mixOf c0 c1 i ⌝ }
 {
-    let w = i.0 as u32;
-    ((c0 as u32) * rest(w) + (c1 as u32) * w + 32) / 64
+    ((c0 as u32) * (rest(i) as u32) + (c1 as u32) * (i as u32) + 32) / 64
 }
 
 // The same as 16 bits.
-fn mix_channel(c0: u16, c1: u16, i: Level) -> u16
-    ensures { λ r. ⌜ r ≡ mixOf c0 c1 (i .0) % 65536 ⌝ }
+fn mix_channel(c0: u16, c1: u16, i: u16) -> u16
+    requires { ⌜ i ≤ 255 ⌝ }
+    ensures { λ r. ⌜ r ≡ mixOf c0 c1 i % 65536 ⌝ }
 {
     (mix(c0, c1, i) % 65536) as u16
 }
 
-// The weight of a channel.
-fn weight(component: u8, first: Level, second: Level, channel: u8) -> Level
-    ensures { λ r. ⌜ r ≡ weightOf component first second channel ⌝ }
+// The weight of a channel. Sixteen bits each, as the channels are, so that four are chosen and mixed at once.
+fn weight(component: u8, first: u16, second: u16, channel: u8) -> u16
+    requires { ⌜ (first ≤ 255) × (second ≤ 255) ⌝ }
+    ensures { λ r. ⌜ (r ≡ pick (eqb channel component) second first) × (r ≤ 255) ⌝ }
 {
     if channel == component { second } else { first }
 }
@@ -159,10 +163,12 @@ fn weight(component: u8, first: Level, second: Level, channel: u8) -> Level
 pub fn mix_texel(p: ExpandedPair, first: Level, second: Level, component: u8) -> Texel
     ensures { λ r. ⌜ r ≡ texelOf p first second component ⌝ }
 {
+    let i = first.0 as u16;
+    let j = second.0 as u16;
     Texel {
-        r: mix_channel(p.c0[0], p.c1[0], weight(component, first, second, 0)),
-        g: mix_channel(p.c0[1], p.c1[1], weight(component, first, second, 1)),
-        b: mix_channel(p.c0[2], p.c1[2], weight(component, first, second, 2)),
-        a: mix_channel(p.c0[3], p.c1[3], weight(component, first, second, 3)),
+        r: mix_channel(p.c0[0], p.c1[0], weight(component, i, j, 0)),
+        g: mix_channel(p.c0[1], p.c1[1], weight(component, i, j, 1)),
+        b: mix_channel(p.c0[2], p.c1[2], weight(component, i, j, 2)),
+        a: mix_channel(p.c0[3], p.c1[3], weight(component, i, j, 3)),
     }
 }

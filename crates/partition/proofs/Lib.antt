@@ -1,3 +1,4 @@
+pub mod Largest
 pub mod Agree
 pub mod Bounds
 pub mod Laws

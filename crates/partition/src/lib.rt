@@ -1,6 +1,7 @@
 // Which partition a texel belongs to: the seeds are made once for a block, the pattern is asked at each texel.
 ghost use mathlib.Core.Path.{_≡_};
-ghost use Prim.Native.Nat.{_-_, _<_, _≤_};
+ghost use Prim.Native.Nat.{_-_, _<_, _≤_, max};
+ghost use Rattle.laws.specs.Choice.{pick};
 ghost use Rattle.partition.specs.Hash.{hashOf};
 ghost use Rattle.partition.specs.Select.{bitShift, countShift, sh1, sh2, seedOf, firstLargest, doubled};
 ghost use Rattle.partition.specs.Seeds.{laneBy, laneFor, laneUnless, seedsFrom, seedsOf, selectBy};
@@ -175,18 +176,27 @@ fn lane_at(l: Lane, x: u8, y: u8) -> u32
     ((l.x as u32) * (x as u32) + (l.y as u32) * (y as u32) + (l.offset as u32)) % 64
 }
 
+fn larger(a: u32, b: u32) -> u32
+    ensures { λ r. ⌜ r ≡ max a b ⌝ }
+{
+    if a >= b { a } else { b }
+}
+
+fn chosen(first: bool, m: u8, n: u8) -> u8
+    ensures { λ r. ⌜ r ≡ pick first m n ⌝ }
+{
+    if first { m } else { n }
+}
+
+// The larger of each two, then of these: what is chosen hangs on no branch.
 fn first_largest(a: u32, b: u32, c: u32, d: u32) -> u8
     ensures { λ r. ⌜ r ≡ firstLargest a b c d ⌝ }
 {
-    if a >= b && a >= c && a >= d {
-        0
-    } else if b >= c && b >= d {
-        1
-    } else if c >= d {
-        2
-    } else {
-        3
-    }
+    chosen(
+        larger(a, b) >= larger(c, d),
+        chosen(a >= b, 0, 1),
+        chosen(c >= d, 2, 3),
+    )
 }
 
 // The partition of the texel at x, y.

@@ -127,9 +127,3 @@ pub weight-is : (B : ℕ) (h : Header) (i : ℕ) → weightAt B h i
     (field (reverse 128 B) 0 (weightBits (h .grid))) i) 0
 unfolding weightAt weightBits rangeBits
 weight-is B h i = refl
-
--- a mode is a void extent, reserved or a grid
-pub a-grid : (m : BlockMode) → isVoid m ≡ false → isReserved m ≡ false → m ≡ Grid (gridIn m)
-a-grid VoidExtent v r = let z : _≡_ {A = Bool} true false = v in absurd (let w : _≡_ {A = ℕ} 0 1 = cc in omega arith)
-a-grid Reserved v r = let z : _≡_ {A = Bool} true false = r in absurd (let w : _≡_ {A = ℕ} 0 1 = cc in omega arith)
-a-grid (Grid g) v r = refl

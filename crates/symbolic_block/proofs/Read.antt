@@ -24,6 +24,7 @@ use Rattle.block_mode.proofs.Modes.{mode-limits, mode-found}
 use Rattle.block_header.specs.declared.Header.{Header}
 use Rattle.block_header.specs.Counts.{weightCount, weightBits, componentBits, indexBits, selectorBits, extraBits, endpointCount, endpointRangeOf}
 use Rattle.block_fault.specs.Bits.{modeAt, isVoid, isReserved, gridIn, partitionsAt, indexAt, selectorAt, baseAt, extraAt, componentAt, modeOf, headerWith, headerAt, endpointAt, weightAt}
+use Rattle.block_fault.proofs.Verdicts.{a-grid}
 use Rattle.symbolic_block.specs.declared.SymbolicBlock.{SymbolicBlock}
 use Rattle.symbolic_block.specs.Fields.{numberIn, Sized}
 use Rattle.symbolic_block.specs.Refusals.{within, outside, noBlockMode, modesMisfit, unknownFootprint, badMark, badWidth, badHeight, badRange, badPlanes, badComponent, badPartitions, badIndex, badSelector, badModes, badEndpoints, badWeights, modeRefusals}
@@ -32,7 +33,7 @@ use Rattle.symbolic_block.proofs.Reasons.{None, _also_, none-at, none-e
 use Rattle.symbolic_block.proofs.Lists.{is-within, all-within, stored-at, zeros-unused}
 use Rattle.symbolic_block.proofs.Classes.{mode-most, read-fits, fit-all}
 use Rattle.symbolic_block.proofs.Numbers.{number-most}
-use Rattle.symbolic_block.proofs.Opened.{modeFaults, header-is, endpoint-is, weight-is, a-grid}
+use Rattle.symbolic_block.proofs.Opened.{modeFaults, header-is, endpoint-is, weight-is}
 use Rattle.symbolic_block.proofs.Room.{index-le, selector-le, component-le, pick-le}
 
 -- what every header is that is read

@@ -1,3 +1,4 @@
 pub mod Bounds
 pub mod Factors
 pub mod Points
+pub mod Reading

@@ -7,27 +7,11 @@ use Prim.Native.Nat.{ℕ, _+_, _*_, _/_, _≤_, _<_}
 use native.Mathlib.Nat.{mul-le-mul-right, mul-comm, suc-mul}
 use native.Mathlib.Omega.{arith}
 use lib.Dec.{ltb}
-use lib.ListN.{length, List·getD-eq-default}
 use borrow.Author.Tests.{ltb-true}
 use Rattle.laws.specs.Choice.{pick}
 use Rattle.encoding.specs.declared.Level.{Level}
-use Rattle.weight_grid.specs.Cell.{level, weightAt, cellOf, cellNumber}
+use Rattle.weight_grid.specs.Cell.{weightAt, cellOf}
 use Rattle.weight_grid.specs.Bilinear.{infillOf}
-
--- past the end
-pub none : (levels : List Level) (n : ℕ) → length levels ≡ 64 → 64 ≤ n → weightAt levels n ≡ 0
-unfolding weightAt
-none levels n e h = let k : length levels ≤ n = omega arith in rw (List·getD-eq-default levels (level 0) k, weightAt)
-
--- a cell is the weight of its number
-pub cell-read : (levels : List Level) (width height planes plane x y : ℕ) → length levels ≡ 64
-    → weightAt levels (cellNumber width height planes plane x y) ≡ cellOf levels width height planes plane x y
-unfolding cellNumber cellOf
-cell-read levels width height planes plane x y e = go (ltb x width) (ltb y height) where
-  go : (s t : Bool) → weightAt levels (pick s (pick t ((y * width + x) * planes + plane) 64) 64) ≡ pick s (pick t (weightAt levels ((y * width + x) * planes + plane)) 0) 0
-  go true true = refl
-  go true false = none levels 64 e (omega arith)
-  go false t = none levels 64 e (omega arith)
 
 -- a weight of the grid is one of its width x height x planes
 pub number-lt : (width height planes plane x y : ℕ) → x < width → y < height → plane < planes → (y * width + x) * planes + plane < width * height * planes

@@ -3,7 +3,7 @@
 use Prim.Native.Nat.{ℕ, _+_, _-_, _*_, _/_, _%_}
 use mathlib.Core.List.{List}
 use Rattle.encoding.specs.declared.Level.{Level}
-use Rattle.weight_grid.specs.Cell.{cellOf}
+use Rattle.weight_grid.specs.Cell.{weightAt, cellOf}
 
 -- the factors of the four corners
 unfoldable pub w11 : ℕ → ℕ → ℕ
@@ -30,3 +30,11 @@ infillOf levels width height planes plane gs gt =
     (cellOf levels width height planes plane (gs / 16 + 1) (gt / 16))
     (cellOf levels width height planes plane (gs / 16) (gt / 16 + 1))
     (cellOf levels width height planes plane (gs / 16 + 1) (gt / 16 + 1))
+
+-- the same with every neighbour read, in the grid or not: a neighbour outside has the factor 0. That both agree at the places of a block
+-- is a theorem: proofs/Reading.antt.
+unfoldable pub readOf : List Level → ℕ → ℕ → ℕ → ℕ → ℕ → ℕ
+readOf levels width planes plane gs gt =
+    let row = width * planes in
+    let n = gt / 16 * row + gs / 16 * planes + plane in
+    blendOf (gs % 16) (gt % 16) (weightAt levels n) (weightAt levels (n + planes)) (weightAt levels (n + row)) (weightAt levels (n + row + planes))

@@ -1,9 +1,9 @@
 // The weight of a texel, from the weights of a grid that may be smaller than the block.
 ghost use mathlib.Core.Path.{_≡_};
-ghost use Prim.Native.Nat.{_-_, _<_};
+ghost use Prim.Native.Nat.{_-_, _%_, _<_};
 ghost use Rattle.weight_grid.specs.Place.{scaleOf, gridPlace};
-ghost use Rattle.weight_grid.specs.Cell.{level, cellNumber};
-ghost use Rattle.weight_grid.specs.Bilinear.{blendOf, infillOf};
+ghost use Rattle.weight_grid.specs.Cell.{level};
+ghost use Rattle.weight_grid.specs.Bilinear.{blendOf};
 use encoding::Level;
 
 fn less_one(n: u8) -> u32
@@ -30,22 +30,7 @@ pub fn grid_place(scale: u16, i: u8, points: u8) -> u32
     ((scale as u32) * (i as u32) * less_one(points) + 32) / 64
 }
 
-// The number of a grid point's weight; 64, which no weight has, outside the grid.
-fn cell_number(width: u8, height: u8, planes: u8, plane: u8, x: u32, y: u32) -> usize
-    ensures { λ r. ⌜ r ≡ cellNumber width height planes plane x y ⌝ }
-{
-    let w = width as u32;
-    if x < w {
-        if y < (height as u32) {
-            (((y * w) + x) * (planes as u32) + (plane as u32)) as usize
-        } else {
-            64
-        }
-    } else {
-        64
-    }
-}
-
+// The factors of four neighbours, and their sum in sixteenths.
 fn blend(fs: u32, ft: u32, p00: u8, p01: u8, p10: u8, p11: u8) -> u8
     requires { ⌜ (fs < 16) × (ft < 16) ⌝ }
     ensures { λ r. ⌜ r ≡ blendOf fs ft p00 p01 p10 p11 ⌝ }
@@ -58,44 +43,9 @@ fn blend(fs: u32, ft: u32, p00: u8, p01: u8, p10: u8, p11: u8) -> u8
         / 16) as u8
 }
 
-// The weight at gs, gt of one plane of the grid, from the unquantised weights in stream order.
-// What lies outside the grid, or past the last weight, is not read.
-pub fn infill(
-    levels: [Level; 64],
-    width: u8,
-    height: u8,
-    planes: u8,
-    plane: u8,
-    gs: u32,
-    gt: u32,
-) -> Level
-    ensures { λ r. ⌜ r ≡ level (infillOf levels width height planes plane gs gt) ⌝ }
+// The weight at gs, gt of a grid, from the weights of its four neighbours there.
+pub fn infill(gs: u32, gt: u32, l00: Level, l01: Level, l10: Level, l11: Level) -> Level
+    ensures { λ r. ⌜ r ≡ level (blendOf (gs % 16) (gt % 16) (l00 .0) (l01 .0) (l10 .0) (l11 .0)) ⌝ }
 {
-    let x = gs / 16;
-    let y = gt / 16;
-    let n00 = cell_number(width, height, planes, plane, x, y);
-    let n01 = cell_number(width, height, planes, plane, x + 1, y);
-    let n10 = cell_number(width, height, planes, plane, x, y + 1);
-    let n11 = cell_number(width, height, planes, plane, x + 1, y + 1);
-    let mut p00: u8 = 0;
-    let mut p01: u8 = 0;
-    let mut p10: u8 = 0;
-    let mut p11: u8 = 0;
-    if n00 < 64 {
-        let l = levels[n00];
-        p00 = l.0;
-    }
-    if n01 < 64 {
-        let l = levels[n01];
-        p01 = l.0;
-    }
-    if n10 < 64 {
-        let l = levels[n10];
-        p10 = l.0;
-    }
-    if n11 < 64 {
-        let l = levels[n11];
-        p11 = l.0;
-    }
-    Level(blend(gs % 16, gt % 16, p00, p01, p10, p11))
+    Level(blend(gs % 16, gt % 16, l00.0, l01.0, l10.0, l11.0))
 }

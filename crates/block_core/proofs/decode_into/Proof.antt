@@ -4,7 +4,7 @@ use Rattle.block_fault.specs.declared.Settings.{Settings}
 use Rattle.block_fault.specs.declared.Verdict.the-variants as verdict
 use Rattle.block_fault.specs.Bits.{headerAt}
 use Rattle.block_fault.specs.Settings.{verdictOf}
-use Rattle.block_fault.proofs.Verdicts.{settings-verdict, told-fault, told-void, told-coded, coded-header, coded-counts}
+use Rattle.block_fault.proofs.Verdicts.{settings-verdict, told-fault, told-void, told-coded, coded-header, coded-counts, coded-limits}
 use Rattle.texel.specs.Meaning.{magenta}
 use Rattle.block_core.proofs.Shows.{shown-held, shows-fault, shows-void, shows-coded}
 use borrow.Author.Needs.{needs}
@@ -43,7 +43,7 @@ paint-coded-requires : tie.Need-paint-coded-requires
 paint-coded-requires c κs =
     let r = c .before .before .before .before in
     let k = told-coded _ _ (verdict-is r ∙ c .before .before .enum-told2 .given .1) in
-    rw (header-is r (verdict-is r ∙ c .before .before .enum-told2 .given .1)) (coded-counts _ _ (k .0) (k .1))
+    rw (header-is r (verdict-is r ∙ c .before .before .enum-told2 .given .1)) (coded-counts _ _ (k .0) (k .1), coded-limits _ _ (k .0) (k .1))
 
 returns : tie.Need-returns
 unfolding magenta

@@ -17,7 +17,7 @@ returns : tie.Need-returns
 unfolding endpointLevels
 returns c =
     let a = c .before .before .args in
-    levels-read (unquantEndpoint (a .range)) (endpoint-zero (a .range)) 18 (omega arith) (encodingAt (a .range)) (bitsAt (a .range)) _ (a .n) (c .before .read-sequence .ensures) (c .endpoint-levels .ensures)
+    levels-read (unquantEndpoint (a .range)) (endpoint-zero (a .range)) 18 (encodingAt (a .range)) (bitsAt (a .range)) _ (a .n) (omega (arith, c .before .before .pre)) (c .before .read-sequence .ensures) (c .endpoint-levels .ensures)
 
 pub endpoints-of-spec : {M : Type 1} → statement M
 endpoints-of-spec = tie.close (tie.spec read-sequence-requires endpoint-levels-requires returns)

@@ -1,51 +1,74 @@
 use mathlib.Core.Path.{_≡_, refl, sym, ap, _∙_}
-use Prim.Native.Nat.{ℕ, _+_, _-_, _*_, _≤_, _<_}
+use Prim.Native.Nat.{ℕ, _+_, _-_, _*_, _/_, _≤_, _<_}
+use native.Mathlib.Nat.{mul-le-mul}
 use native.Mathlib.Omega.{arith}
 use borrow.Author.Needs.{needs}
-use Rattle.footprint.specs.Footprint.{widthOf, heightOf}
-use Rattle.footprint.proofs.Laws.{width-le, height-le}
 use Rattle.block_core.specs.Prepared.{texelIn}
 use Rattle.block_core.specs.Held.{RowsTo}
-use Rattle.block_core.proofs.Painting.{Laid, laid-texel, rows-laid, laid-rows, place-fits}
+use Rattle.block_core.proofs.Painting.{Laid, laid-texel, rows-laid, laid-rows, place-fits, reach, told}
 use Rattle.block_core.proofs.paint_row.Statement.{statement}
 use Rattle.block_core.proofs.paint_row.Tie as tie
 
 abbrev Inv-loop : tie.InvT-loop
-Inv-loop g component levels table seeds fp y out₀ width scale gt x₀ out x = (x ≤ width) × (RowsTo (widthOf fp) (texelIn g component levels table seeds fp) out₀ y → Laid (widthOf fp) (texelIn g component levels table seeds fp) out (4 * (y * widthOf fp + x)))
+Inv-loop g component seeds partitions f y out₀ levels table planes row gt from x₀ out x =
+    (x ≤ f .width) × (RowsTo (f .width) (texelIn g component levels table seeds partitions f) out₀ y → Laid (f .width) (texelIn g component levels table seeds partitions f) out (4 * (y * f .width + x)))
 
 abbrev μ-loop : tie.MeasureT-loop
-μ-loop g component levels table seeds fp y out₀ width scale gt x₀ out x = width - x
+μ-loop g component seeds partitions f y out₀ levels table planes row gt from x₀ out x = f .width - x
 
--- the place is in the row
-inside : (c : tie.After-place Inv-loop μ-loop) → c .before .before .before .before .before .loop .x < widthOf (c .before .before .before .before .before .before .before .before .before .before .before .args .fp)
-inside c = rw (← c .before .before .before .before .before .before .before .before .before .before .width .ensures) (c .before .before .before .before .loop-test .taken)
+-- ---- where the row lies
 
-exactly : (c : tie.After-loop Inv-loop μ-loop) → c .before .loop .x ≡ widthOf (c .before .before .before .before .before .before .before .args .fp)
-exactly c = let e : c .before .loop .x ≡ c .before .before .before .before .before .before .width .result = omega arith in e ∙ c .before .before .before .before .before .before .width .ensures
+row-le : (c : tie.Start Inv-loop μ-loop) → c .args .g .width * c .args .g .planes ≤ 24
+row-le c = mul-le-mul {n₂ = 12} {m₂ = 2} (c .pre .0 .limits .width-most) (c .pre .0 .limits .planes-most)
+
+down-le : (c : tie.After-grid-place Inv-loop μ-loop) → let a = c .before .before .before .args in c .grid-place .result ≤ 16 * (a .g .height - 1)
+down-le c = let s = c .before .before .before in rw (c .grid-place .ensures) (s .pre .0 .rows (s .args .y) (s .pre .1))
+
+from-le : (c : tie.After-grid-place Inv-loop μ-loop) → let a = c .before .before .before .args in c .grid-place .result / 16 * (a .g .width * a .g .planes) ≤ 11 * 24
+from-le c =
+    let s = c .before .before .before in
+    mul-le-mul {n₂ = 11} {m₂ = 24} (omega (arith, down-le c, s .pre .0 .limits .height-most)) (row-le s)
+
+-- ---- where the texel lies
+
+across-le : (c : tie.After-grid-place2 Inv-loop μ-loop) → let a = c .before .before .before .before .before .before .before .args in c .grid-place2 .result ≤ 16 * (a .g .width - 1)
+across-le c =
+    let s = c .before .before .before .before .before .before .before in
+    rw (c .grid-place2 .ensures) (s .pre .0 .columns (c .before .before .before .loop .x) (c .before .if1 .taken))
+
+room : (c : tie.After-grid-place2 Inv-loop μ-loop) → let a = c .before .before .before .before .before .before .before .args in
+    c .before .before .before .before .grid-place .result / 16 * (a .g .width * a .g .planes) + c .grid-place2 .result / 16 * a .g .planes + a .g .width * a .g .planes + a .g .planes + 1 < 96
+room c =
+    let s = c .before .before .before .before .before .before .before in
+    reach (s .args .g) _ _ (s .pre .0 .limits) (s .pre .0 .count) (across-le c) (down-le (c .before .before .before .before))
 
 -- the texel at the place
-shown : (c : tie.After-place Inv-loop μ-loop) → let a = c .before .before .before .before .before .before .before .before .before .before .before .args in
-    c .before .before .texel-at .result ≡ texelIn (a .g) (a .component) (a .levels) (a .table) (a .seeds) (a .fp) (c .before .before .before .before .before .loop .x) (a .y)
+shown : (c : tie.After-place Inv-loop μ-loop) → let a = c .before .before .before .before .before .before .before .before .before .before .before .before .before .before .before .before .before .before .before .before .before .before .args in
+    c .before .before .mix-texel .result ≡ texelIn (a .g) (a .component) (a .t3) (a .t4) (a .seeds) (a .partitions) (a .f) (c .before .before .before .before .before .before .before .before .before .before .before .before .before .before .before .before .before .before .loop .x) (a .y)
 unfolding texelIn
 shown c =
-    let f = c .before .before .before .before .before .before in
-    c .before .before .texel-at .ensures
-    ∙ rw (c .before .before .before .grid-place2 .ensures, f .grid-place .ensures, f .before .scale2 .ensures, f .before .before .height .ensures, f .before .before .before .scale .ensures, f .before .before .before .before .width .ensures)
+    let a = c .before .before .before .before .before .before .before .before .before .before .before .before .before .before .before .before .before .before .before .before .before .before .args in
+    told (a .g) (a .component) (a .t3) (a .t4) (a .seeds) (a .partitions) _ _ (c .before .before .before .before .before .before .before .before .before .before .before .before .before .before .before .before .before .before .loop .x) (a .y) _ refl
+    (c .before .before .before .before .before .before .before .before .before .before .infill .ensures) (c .before .before .before .before .before .second-weight .ensures) (c .before .before .before .before .partition-of .ensures .0) (c .before .before .mix-texel .ensures)
+    ∙ rw (c .before .before .before .before .before .before .before .before .before .before .before .before .before .before .before .grid-place2 .ensures, c .before .before .before .before .before .before .before .before .before .before .before .before .before .before .before .before .before .before .before .grid-place .ensures)
 
-width-requires : tie.Need-width-requires Inv-loop μ-loop
-width-requires c κs = search needs
+cast-planes : tie.Need-cast-planes Inv-loop μ-loop
+cast-planes c = search needs
 
-scale-requires : tie.Need-scale-requires Inv-loop μ-loop
-scale-requires c κs = search needs
+cast-row : tie.Need-cast-row Inv-loop μ-loop
+cast-row c = search needs
 
-height-requires : tie.Need-height-requires Inv-loop μ-loop
-height-requires c κs = search needs
-
-scale-requires-2 : tie.Need-scale-requires-2 Inv-loop μ-loop
-scale-requires-2 c κs = search needs
+mul-row : tie.Need-mul-row Inv-loop μ-loop
+mul-row c = omega (arith, row-le (c .before .before))
 
 grid-place-requires : tie.Need-grid-place-requires Inv-loop μ-loop
 grid-place-requires c κs = search needs
+
+cast-from : tie.Need-cast-from Inv-loop μ-loop
+cast-from c = search needs
+
+mul-from : tie.Need-mul-from Inv-loop μ-loop
+mul-from c = omega (arith, from-le c)
 
 loop-holds : tie.Need-loop-holds Inv-loop μ-loop
 loop-holds c = (omega arith, rows-laid _ _ _ _)
@@ -53,41 +76,116 @@ loop-holds c = (omega arith, rows-laid _ _ _ _)
 grid-place-requires-2 : tie.Need-grid-place-requires-2 Inv-loop μ-loop
 grid-place-requires-2 c κs = search needs
 
-texel-at-requires : tie.Need-texel-at-requires Inv-loop μ-loop
-texel-at-requires c κs = search needs
+cast-n : tie.Need-cast-n Inv-loop μ-loop
+cast-n c = search needs
+
+mul-n : tie.Need-mul-n Inv-loop μ-loop
+mul-n c = omega (arith, room c)
+
+add-n : tie.Need-add-n Inv-loop μ-loop
+add-n c = omega (arith, room c)
+
+array-copy-out-l00 : tie.Need-array-copy-out-l00 Inv-loop μ-loop
+array-copy-out-l00 c = omega (arith, room c)
+
+add-l01 : tie.Need-add-l01 Inv-loop μ-loop
+add-l01 c = omega (arith, room (c .before))
+
+array-copy-out-l01 : tie.Need-array-copy-out-l01 Inv-loop μ-loop
+array-copy-out-l01 c = omega (arith, room (c .before))
+
+add-l10 : tie.Need-add-l10 Inv-loop μ-loop
+add-l10 c = omega (arith, room (c .before .before))
+
+array-copy-out-l10 : tie.Need-array-copy-out-l10 Inv-loop μ-loop
+array-copy-out-l10 c = omega (arith, room (c .before .before))
+
+add-l11 : tie.Need-add-l11 Inv-loop μ-loop
+add-l11 c = omega (arith, room (c .before .before .before))
+
+add-l11-2 : tie.Need-add-l11-2 Inv-loop μ-loop
+add-l11-2 c = omega (arith, room (c .before .before .before))
+
+array-copy-out-l11 : tie.Need-array-copy-out-l11 Inv-loop μ-loop
+array-copy-out-l11 c = omega (arith, room (c .before .before .before))
+
+infill-requires : tie.Need-infill-requires Inv-loop μ-loop
+infill-requires c κs = search needs
+
+add-m : tie.Need-add-m Inv-loop μ-loop
+add-m c = omega (arith, room (c .before .before .before .before .before))
+
+array-copy-out-k00 : tie.Need-array-copy-out-k00 Inv-loop μ-loop
+array-copy-out-k00 c = omega (arith, room (c .before .before .before .before .before))
+
+add-k01 : tie.Need-add-k01 Inv-loop μ-loop
+add-k01 c = omega (arith, room (c .before .before .before .before .before .before))
+
+array-copy-out-k01 : tie.Need-array-copy-out-k01 Inv-loop μ-loop
+array-copy-out-k01 c = omega (arith, room (c .before .before .before .before .before .before))
+
+add-k10 : tie.Need-add-k10 Inv-loop μ-loop
+add-k10 c = omega (arith, room (c .before .before .before .before .before .before .before))
+
+array-copy-out-k10 : tie.Need-array-copy-out-k10 Inv-loop μ-loop
+array-copy-out-k10 c = omega (arith, room (c .before .before .before .before .before .before .before))
+
+add-k11 : tie.Need-add-k11 Inv-loop μ-loop
+add-k11 c = omega (arith, room (c .before .before .before .before .before .before .before .before))
+
+add-k11-2 : tie.Need-add-k11-2 Inv-loop μ-loop
+add-k11-2 c = omega (arith, room (c .before .before .before .before .before .before .before .before))
+
+array-copy-out-k11 : tie.Need-array-copy-out-k11 Inv-loop μ-loop
+array-copy-out-k11 c = omega (arith, room (c .before .before .before .before .before .before .before .before))
+
+second-weight-requires : tie.Need-second-weight-requires Inv-loop μ-loop
+second-weight-requires c κs = search needs
+
+partition-of-requires : tie.Need-partition-of-requires Inv-loop μ-loop
+partition-of-requires c κs = search needs
+
+mul-pair : tie.Need-mul-pair Inv-loop μ-loop
+mul-pair c = search needs
+
+array-copy-out-pair : tie.Need-array-copy-out-pair Inv-loop μ-loop
+array-copy-out-pair c = c .partition-of .ensures .1
+
+mix-texel-requires : tie.Need-mix-texel-requires Inv-loop μ-loop
+mix-texel-requires c κs = search needs
 
 place-requires : tie.Need-place-requires Inv-loop μ-loop
 place-requires c κs = search needs
 
 put-requires : tie.Need-put-requires Inv-loop μ-loop
 put-requires c κs =
-    let s = c .before .before .before .before .before .before .before .before .before .before .before in
-    let h = place-fits (s .args .fp) (c .before .before .before .before .before .loop .x) (s .args .y) (width-le (s .args .fp)) (height-le (s .args .fp)) (inside c) (s .pre) in
-    rw (c .place .ensures, c .before .before .before .before .before .before .before .before .before .before .width .ensures) h
+    let s = c .before .before .before .before .before .before .before .before .before .before .before .before .before .before .before .before .before .before .before .before .before .before in
+    rw (c .place .ensures) (place-fits (s .args .f .width) (s .args .f .height) _ (s .args .y) (s .pre .0 .width-most) (s .pre .0 .height-most) (c .before .before .before .before .before .before .before .before .before .before .before .before .before .before .before .before .if1 .taken) (s .pre .1))
 
 add-x : tie.Need-add-x Inv-loop μ-loop
-add-x c = omega arith
+add-x c = omega (arith, c .before .before .before .before .before .before .before .before .before .before .before .before .before .before .before .before .before .if1 .taken, c .before .before .before .before .before .before .before .before .before .before .before .before .before .before .before .before .before .before .before .before .before .before .before .pre .0 .width-most)
 
 loop-less : tie.Need-loop-less Inv-loop μ-loop
-loop-less c = omega arith
+loop-less c = omega (arith, c .before .before .before .before .before .before .before .before .before .before .before .before .before .before .before .before .before .if1 .taken)
 
 loop-again : tie.Need-loop-again Inv-loop μ-loop
 loop-again c =
     let d = c .before in
-    let s = d .before .before .before .before .before .before .before .before .before .before .before in
+    let s = d .before .before .before .before .before .before .before .before .before .before .before .before .before .before .before .before .before .before .before .before .before .before in
     let a = s .args in
-    let l = d .before .before .before .before .before .loop in
-    let w = d .before .before .before .before .before .before .before .before .before .before .width .ensures in (
-      omega arith,
+    let l = d .before .before .before .before .before .before .before .before .before .before .before .before .before .before .before .before .before .before .loop in
+    let t = d .before .before .before .before .before .before .before .before .before .before .before .before .before .before .before .before .if1 .taken in (
+      omega (arith, t),
       λ r. rw (c .put .ensures)
-          (laid-texel (widthOf (a .fp)) (texelIn (a .g) (a .component) (a .levels) (a .table) (a .seeds) (a .fp)) (l .out) (l .x) (a .y) (inside d)
-          (place-fits (a .fp) (l .x) (a .y) (width-le (a .fp)) (height-le (a .fp)) (inside d) (s .pre)) (shown d) (d .place .ensures ∙ rw w) (l .inv .1 r)),
+          (laid-texel (a .f .width) (texelIn (a .g) (a .component) (a .t3) (a .t4) (a .seeds) (a .partitions) (a .f)) (l .out) (l .x) (a .y) t
+          (place-fits (a .f .width) (a .f .height) (l .x) (a .y) (s .pre .0 .width-most) (s .pre .0 .height-most) t (s .pre .1)) (shown d) (d .place .ensures) (l .inv .1 r)),
     )
 
 returns : tie.Need-returns Inv-loop μ-loop
 returns c =
-    let s = c .before .before .before .before .before .before .before in
-    λ r. laid-rows (widthOf (s .args .fp)) _ _ (c .before .loop .x) (s .args .y) (exactly c) (c .before .loop .inv .1 r)
+    let l = c .before .before .loop in
+    let s = c .before .before .before .before .before .before in
+    λ r. laid-rows (s .args .f .width) _ _ (l .x) (s .args .y) (omega (arith, c .if1 .left, l .inv .0)) (l .inv .1 r)
 
 pub paint-row-spec : {M : Type 1} → statement M
 paint-row-spec =
@@ -95,14 +193,40 @@ paint-row-spec =
     (tie.spec
     Inv-loop
     μ-loop
-    width-requires
-    scale-requires
-    height-requires
-    scale-requires-2
+    cast-planes
+    cast-row
+    mul-row
     grid-place-requires
+    cast-from
+    mul-from
     loop-holds
     grid-place-requires-2
-    texel-at-requires
+    cast-n
+    mul-n
+    add-n
+    array-copy-out-l00
+    add-l01
+    array-copy-out-l01
+    add-l10
+    array-copy-out-l10
+    add-l11
+    add-l11-2
+    array-copy-out-l11
+    infill-requires
+    add-m
+    array-copy-out-k00
+    add-k01
+    array-copy-out-k01
+    add-k10
+    array-copy-out-k10
+    add-k11
+    add-k11-2
+    array-copy-out-k11
+    second-weight-requires
+    partition-of-requires
+    mul-pair
+    array-copy-out-pair
+    mix-texel-requires
     place-requires
     put-requires
     add-x

@@ -8,7 +8,7 @@ infill-requires : tie.Need-infill-requires
 infill-requires c κs = search needs
 
 returns : tie.Need-returns
-returns c = rw (eq-eqb _ _ (c .before .if1 .taken), c .infill .ensures)
+returns c = rw (eq-eqb _ _ (c .before .if1 .taken)) (c .infill .ensures)
 
 returns-2 : tie.Need-returns-2
 returns-2 c = rw (ne-eqb _ _ (c .if1 .left))

@@ -8,17 +8,17 @@ use Rattle.interpolation.proofs.mix.Statement.{statement}
 use Rattle.interpolation.proofs.mix.Tie as tie
 
 module _ (c : tie.After-rest) where
-  first : c .before .before .args .c0 * c .rest .result ≤ 65535 * 64
+  first : c .before .args .c0 * c .rest .result ≤ 65535 * 64
   first = mul-le-mul {n₂ = 65535} {m₂ = 64} (omega arith) (omega arith)
 
-  second : c .before .before .args .c1 * c .before .before .args .i .0 ≤ 65535 * 255
-  second = mul-le-mul {n₂ = 65535} {m₂ = 255} (omega arith) (omega arith)
-
-cast-w : tie.Need-cast-w
-cast-w c = search needs
+  second : c .before .args .c1 * c .before .args .i ≤ 65535 * 255
+  second = mul-le-mul {n₂ = 65535} {m₂ = 255} (omega arith) (c .before .pre)
 
 rest-requires : tie.Need-rest-requires
 rest-requires c κs = search needs
+
+cast-result : tie.Need-cast-result
+cast-result c = search needs
 
 mul-result : tie.Need-mul-result
 mul-result c = omega (arith, first c)
@@ -39,4 +39,4 @@ returns c = rw (c .rest .ensures .0)
 pub mix-spec : {M : Type 1} → statement M
 mix-spec =
     tie.close
-    (tie.spec cast-w rest-requires mul-result mul-result-2 add-result add-result-2 returns)
+    (tie.spec rest-requires cast-result mul-result mul-result-2 add-result add-result-2 returns)

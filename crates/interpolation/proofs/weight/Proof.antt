@@ -1,16 +1,13 @@
 -- `interpolation::weight` meets its contract.
-use Rattle.interpolation.specs.Texel.{weightOf}
 use borrow.Author.Tests.{eq-eqb, ne-eqb}
 use Rattle.interpolation.proofs.weight.Statement.{statement}
 use Rattle.interpolation.proofs.weight.Tie as tie
 
 returns : tie.Need-returns
-unfolding weightOf
-returns c = rw (eq-eqb _ _ (c .if1 .taken))
+returns c = (rw (eq-eqb _ _ (c .if1 .taken)), c .before .pre .1)
 
 returns-2 : tie.Need-returns-2
-unfolding weightOf
-returns-2 c = rw (ne-eqb _ _ (c .if1 .left))
+returns-2 c = (rw (ne-eqb _ _ (c .if1 .left)), c .before .pre .0)
 
 pub weight-spec : {M : Type 1} → statement M
 weight-spec = tie.close (tie.spec returns returns-2)
