@@ -249,13 +249,6 @@ fn endpoints_of(block: PhysicalBlock, from: u8, range: u8, n: u8) -> [Level; 18]
     )
 }
 
-// Where the endpoint numbers begin.
-fn endpoints_from(partitions: u8) -> u8
-    ensures { λ r. ⌜ r ≡ endpointsFrom partitions ⌝ }
-{
-    if partitions == 1 { 17 } else { 29 }
-}
-
 // The expanded endpoint pairs of a block, one for each partition.
 fn pairs_of(block: PhysicalBlock, h: Header, kind: Kind) -> [ExpandedPair; 4]
     requires { ⌜ endpointCount h ≤ 18 ⌝ }
@@ -264,7 +257,7 @@ fn pairs_of(block: PhysicalBlock, h: Header, kind: Kind) -> [ExpandedPair; 4]
     let n = block_header::endpoint_count(h) as u8;
     let ends = endpoints_of(
         block,
-        endpoints_from(h.partitions),
+        block_fault::endpoints_from(h.partitions),
         block_header::endpoint_range_of(h),
         n,
     );

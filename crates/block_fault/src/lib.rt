@@ -16,7 +16,7 @@ ghost use Rattle.block_header.specs.Counts.{weightBits};
 ghost use Rattle.block_mode.specs.Back2D.{Limits};
 ghost use Rattle.block_mode.specs.declared.BlockMode.the-variants.{Grid};
 ghost use Rattle.block_header.specs.Reasons.{firstOf};
-ghost use Rattle.block_fault.specs.Bits.{modeAt, modeOf, headerWith, selectorAt, extentAt};
+ghost use Rattle.block_fault.specs.Bits.{modeAt, modeOf, headerWith, selectorAt, extentAt, endpointsFrom};
 ghost use Rattle.block_fault.specs.Faults.{badExtents, voidReasons};
 ghost use Rattle.block_fault.specs.Settings.{stageOf, bareOf, verdictFrom, voidSettings, settingsOf};
 
@@ -147,6 +147,13 @@ fn modes_for(partitions: u8, selector: u8, code: u32) -> [u8; 4]
     let m2 = mode_for(partitions, selector, code, 2);
     let m3 = mode_for(partitions, selector, code, 3);
     [m0, m1, m2, m3]
+}
+
+// Where the endpoint numbers begin.
+pub fn endpoints_from(partitions: u8) -> u8
+    ensures { λ r. ⌜ r ≡ endpointsFrom partitions ⌝ }
+{
+    if partitions == 1 { 17 } else { 29 }
 }
 
 // The settings, once the grid, the partitions and the selector are known.

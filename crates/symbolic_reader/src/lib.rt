@@ -132,12 +132,6 @@ fn uncoded(b: PhysicalBlock, v: Verdict) -> Reading
     }
 }
 
-fn endpoints_from(partitions: u8) -> u8
-    ensures { λ r. ⌜ r ≡ endpointsFrom partitions ⌝ }
-{
-    if partitions == 1 { 17 } else { 29 }
-}
-
 fn first_18(xs: [Stored; 64]) -> [Stored; 18]
     ensures { λ r. ⌜ r ≡ tab (λ i. getD xs i (stored 0)) 18 ⌝ }
 {
@@ -156,7 +150,12 @@ fn endpoints(b: PhysicalBlock, h: Header) -> [Stored; 18]
 {
     let n = block_header::endpoint_count(h) as u8;
     let range = block_header::endpoint_range_of(h);
-    first_18(integer_sequence::read_sequence(b, endpoints_from(h.partitions), range, n))
+    first_18(integer_sequence::read_sequence(
+        b,
+        block_fault::endpoints_from(h.partitions),
+        range,
+        n,
+    ))
 }
 
 fn weights(b: PhysicalBlock, h: Header) -> [Stored; 64]

@@ -115,20 +115,13 @@ fn modes_code(h: Header) -> u64
     lows * power(count) + classes
 }
 
-// The bit where the endpoint numbers begin.
-fn endpoints_from(partitions: u8) -> u8
-    ensures { λ r. ⌜ (r ≡ endpointsFrom partitions) × (r ≤ 29) ⌝ }
-{
-    if partitions == 1 { 17 } else { 29 }
-}
-
 // The bit where they end.
 fn endpoints_end(h: Header) -> u32
     ensures { λ r. ⌜ r ≡ endpointsEnd h ⌝ }
 {
     let n = block_header::endpoint_count(h);
     let range = block_header::endpoint_range_of(h);
-    endpoints_from(h.partitions) as u32 + quantization::range_bits(range, n) as u32
+    block_fault::endpoints_from(h.partitions) as u32 + quantization::range_bits(range, n) as u32
 }
 
 // The bit where the weights begin, which run down to it from bit 127.
@@ -208,7 +201,13 @@ fn with_endpoints(b: PhysicalBlock, s: SymbolicBlock) -> PhysicalBlock
     let xs = s.endpoints;
     let n = block_header::endpoint_count(h) as u8;
     let range = block_header::endpoint_range_of(h);
-    integer_sequence::write_sequence(b, endpoints_from(s.partitions), range, lengthened(xs), n)
+    integer_sequence::write_sequence(
+        b,
+        block_fault::endpoints_from(s.partitions),
+        range,
+        lengthened(xs),
+        n,
+    )
 }
 
 // The weights as they stand in a block, from the last bit of their stream to its first.

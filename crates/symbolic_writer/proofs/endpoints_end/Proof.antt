@@ -36,7 +36,7 @@ add-result c = omega (arith, small c)
 returns : tie.Need-returns
 unfolding endpointsEnd
 returns c =
-    ap₂ _+_ (c .before .endpoints-from .ensures .0) (c .range-bits .ensures ∙ rw (c .before .before .endpoint-range-of .ensures, c .before .before .before .endpoint-count .ensures .0))
+    ap₂ _+_ (c .before .endpoints-from .ensures) (c .range-bits .ensures ∙ rw (c .before .before .endpoint-range-of .ensures, c .before .before .before .endpoint-count .ensures .0))
 
 pub endpoints-end-spec : {M : Type 1} → statement M
 endpoints-end-spec =

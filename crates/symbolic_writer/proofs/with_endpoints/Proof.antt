@@ -38,7 +38,7 @@ write-sequence-requires c κs = search needs
 returns : tie.Need-returns
 returns c =
     endpoint-steps (c .before .before .before .before .before .before .before .args .s) (c .before .before .before .before .before .before .before .pre) (long-enough (c .before .before .before .before .before .before .before)) _ (c .before .before .before .before .before .before .header-of .ensures) (c .before .before .before .before .endpoint-count .ensures .0) (c .before .before .before .endpoint-range-of .ensures)
-    (c .before .before .endpoints-from .ensures .0) (c .before .lengthened .ensures) (c .write-sequence .ensures)
+    (c .before .before .endpoints-from .ensures) (c .before .lengthened .ensures) (c .write-sequence .ensures)
 
 pub with-endpoints-spec : {M : Type 1} → statement M
 with-endpoints-spec =
