@@ -53,17 +53,23 @@ fn low_bits(x: u64, w: u32) -> u64
     if w < 64 { x % (1 << w) } else { x }
 }
 
-// The 64 bits of a block from bit p on.
-pub fn word_at(b: PhysicalBlock, p: u32) -> u64
+// The 64 bits of a block from bit p of its low half on.
+fn across(b: PhysicalBlock, p: u32) -> u64
+    requires { ⌜ p < 64 ⌝ }
     ensures { λ r. ⌜ r ≡ field (blockNumber b) p 64 ⌝ }
 {
     let lo = b.lo;
     let hi = b.hi;
-    if p == 0 {
-        return lo;
-    }
+    (hi << (63 - p) << 1) + (lo >> p)
+}
+
+// The 64 bits of a block from bit p on.
+pub fn word_at(b: PhysicalBlock, p: u32) -> u64
+    ensures { λ r. ⌜ r ≡ field (blockNumber b) p 64 ⌝ }
+{
+    let hi = b.hi;
     if p < 64 {
-        return (hi << (64 - p)) + (lo >> p);
+        return across(b, p);
     }
     if p < 128 {
         return hi >> (p - 64);
@@ -86,19 +92,28 @@ fn byte_of(b: PhysicalBlock, k: usize) -> u8
     (word_at(b, (8 * k) as u32) % 256) as u8
 }
 
-// The bits of a block from bit p on.
-fn shifted(b: PhysicalBlock, p: u32) -> PhysicalBlock
+// The bits of a block from bit p of its low half on.
+pub fn later(b: PhysicalBlock, p: u32) -> PhysicalBlock
+    requires { ⌜ p < 64 ⌝ }
     ensures { λ r. ⌜ blockNumber r ≡ blockNumber b / 2 ^ p ⌝ }
 {
     let hi = b.hi;
-    let word = word_at(b, p);
-    if 64 <= p {
-        return PhysicalBlock { lo: word, hi: 0 };
-    }
+    let word = across(b, p);
     PhysicalBlock {
         lo: word,
         hi: hi >> p,
     }
+}
+
+// The bits of a block from bit p on.
+fn shifted(b: PhysicalBlock, p: u32) -> PhysicalBlock
+    ensures { λ r. ⌜ blockNumber r ≡ blockNumber b / 2 ^ p ⌝ }
+{
+    if p < 64 {
+        return later(b, p);
+    }
+    let lo = word_at(b, p);
+    PhysicalBlock { lo, hi: 0 }
 }
 
 // The first w bits of a block.
