@@ -42,10 +42,12 @@ pub fn code_bits(encoding: Encoding, n: u32) -> u64
     ensures { λ r. ⌜ r ≡ codeBits encoding n ⌝ }
 {
     let m = n as u64;
+    let trits = (8 * m + 4) / 5;
+    let quints = (7 * m + 2) / 3;
     match encoding {
         Encoding::Bits => 0,
-        Encoding::Trits => (8 * m + 4) / 5,
-        Encoding::Quints => (7 * m + 2) / 3,
+        Encoding::Trits => trits,
+        Encoding::Quints => quints,
     }
 }
 

@@ -149,10 +149,8 @@ fn stepped(level: u32, limit: u32) -> u8
     requires { ⌜ level ≤ 2147483647 ⌝ }
     ensures { λ r. ⌜ r ≡ stepped level limit ⌝ }
 {
-    if limit < level {
-        return ((level + 1) % 256) as u8;
-    }
-    (level % 256) as u8
+    let more: u32 = if limit < level { 1 } else { 0 };
+    ((level + more) % 256) as u8
 }
 
 // 000: "unq = D * C + B; unq = unq ^ A; unq = (A & top) | (unq >> 2);". A & top is (A + 1) / 4.
@@ -160,14 +158,12 @@ pub fn unquantize(rule: Rule, s: Stored) -> Level
     ensures { λ r. ⌜ r .0 ≡ byRule rule (s .0) ⌝ }
 {
     let v = s.0;
-    if rule.0 < v {
-        return Level(0);
-    }
     let a = wide(v % 2) * (rule.5 as u32);
     let b = wide(v & rule.2) * (rule.4 as u32) / 128;
     let d = wide(v) * (rule.1 as u32) / 256;
     let unq = (d * wide(rule.3) + b) ^ a;
-    Level(stepped((a + 1) / 4 + unq / 4, wide(rule.6)))
+    let level = stepped((a + 1) / 4 + unq / 4, wide(rule.6));
+    Level(if rule.0 < v { 0 } else { level })
 }
 
 // The level of a stored endpoint number, 0..255.
