@@ -1,3 +1,4 @@
+use Rattle.encoding.proofs.Laws.{code-radix}
 use borrow.Author.Needs.{needs}
 use Rattle.encoding.proofs.code_bits.Statement.{statement}
 use Rattle.encoding.proofs.code_bits.Tie as tie
@@ -14,23 +15,17 @@ mul-quints c = search needs
 add-quints : tie.Need-add-quints
 add-quints c = search needs
 
-enum-told : tie.Need-enum-told
-enum-told c = search needs
+radix-of-requires : tie.Need-radix-of-requires
+radix-of-requires c κs = search needs
 
-enum-told-2 : tie.Need-enum-told-2
-enum-told-2 c = search needs
+chosen-requires : tie.Need-chosen-requires
+chosen-requires c κs = search needs
 
-enum-told-3 : tie.Need-enum-told-3
-enum-told-3 c = search needs
+chosen-requires-2 : tie.Need-chosen-requires-2
+chosen-requires-2 c κs = search needs
 
 returns : tie.Need-returns
-returns c = search needs
-
-returns-2 : tie.Need-returns-2
-returns-2 c = rw (c .enum-told2 .given .1)
-
-returns-3 : tie.Need-returns-3
-returns-3 c = rw (c .enum-told3 .given .1)
+returns c = rw (c .chosen2 .ensures, c .before .chosen .ensures, c .before .before .radix-of .ensures) (code-radix (c .before .before .before .args .encoding) (c .before .before .before .args .n))
 
 pub code-bits-spec : {M : Type 1} → statement M
 code-bits-spec =
@@ -40,9 +35,7 @@ code-bits-spec =
     add-trits
     mul-quints
     add-quints
-    enum-told
-    enum-told-2
-    enum-told-3
-    returns
-    returns-2
-    returns-3)
+    radix-of-requires
+    chosen-requires
+    chosen-requires-2
+    returns)
