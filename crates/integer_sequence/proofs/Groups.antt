@@ -8,11 +8,13 @@ use native.Mathlib.Nat.{mod-lt, mod-eq-of-lt, div-eq-of-lt, zero-mul, lt-of-lt-o
 use native.Mathlib.Decide.{decLe}
 use native.Mathlib.Omega.{arith}
 use lib.Arith.{digits-div, digits-mod, digits-lt}
+use lib.ListN.{getD}
 use lib.Pow.{pow-mono, pow-add}
 use lib.Dec.{T, eqb, eqb→eq}
 use Rattle.laws.specs.Choice.{all}
 use Rattle.laws.specs.Table.{tabFrom, tab, padded}
 use Rattle.laws.proofs.Computed.{each}
+use Rattle.laws.proofs.Filling.{getD-tab}
 use Rattle.bits.specs.Field.{field, stream}
 use Rattle.bits.proofs.Fields.{field-lt, field-none, field-in, stream-ext}
 use Rattle.encoding.specs.declared.Encoding.{Encoding}
@@ -53,9 +55,16 @@ seven-test : T (all seven 256)
 unfolding seven
 seven-test = tt
 
-pub quint-entry : (t : ℕ) → t < 256 → digitsEntry Quints (t % 128) ≡ digitsEntry Quints t
+quint-entry : (t : ℕ) → t < 256 → digitsEntry Quints (t % 128) ≡ digitsEntry Quints t
 unfolding seven
 quint-entry t h = eqb→eq _ _ (each seven 256 seven-test t h)
+
+-- a code looked up in its table
+pub trits-at : {table : List ℕ} → table ≡ tab (digitsEntry Trits) 256 → (t : ℕ) → t < 256 → getD table t 0 ≡ digitsEntry Trits t
+trits-at e t h = rw e (getD-tab (digitsEntry Trits) 256 t 0 h)
+
+pub quints-at : {table : List ℕ} → table ≡ tab (digitsEntry Quints) 128 → (t : ℕ) → t < 256 → getD table (t % 128) 0 ≡ digitsEntry Quints t
+quints-at e t h = rw e (getD-tab (digitsEntry Quints) 128 (t % 128) 0 (omega arith)) ∙ quint-entry t h
 
 -- ---- groups
 

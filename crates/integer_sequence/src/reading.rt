@@ -10,6 +10,7 @@ ghost use Rattle.bits.specs.Field.{field};
 ghost use Rattle.bits.specs.Block.{blockNumber};
 ghost use Rattle.encoding.specs.declared.Encoding.the-variants.{Bits, Trits, Quints};
 ghost use Rattle.encoding.specs.declared.Stored.{Stored};
+ghost use Rattle.integer_sequence.specs.Codes.{digitsEntry};
 ghost use Rattle.integer_sequence.specs.Reading.{codeAt, number, numbers, stored, Narrow};
 
 // The w bits of g from bit p on.
@@ -53,12 +54,13 @@ fn wide(x: u16) -> u64
     x as u64
 }
 
-// The numbers of the first group of g.
-fn trit_group(g: u64, b: u32) -> [u8; 5]
-    requires { ⌜ b ≤ 6 ⌝ }
+// The numbers of the first group of g, by the table of the digits, which a caller of many groups makes once.
+fn trit_group(table: &[u16; 256], g: u64, b: u32) -> [u8; 5]
+    requires { ⌜ (b ≤ 6) × (now table ≡ tab (digitsEntry Trits) 256) ⌝ }
     ensures { λ r. ⌜ r ≡ padded 5 5 (number Trits b g) 0 ⌝ }
 {
-    let x = wide(tables::trits_of(trit_code(g, b)));
+    let code = trit_code(g, b) as usize;
+    let x = wide(table[code]);
     let v0 = number_of(x % 4, g, 0, b);
     let v1 = number_of(x / 4 % 4, g, b + 2, b);
     let v2 = number_of(x / 16 % 4, g, 2 * b + 4, b);
@@ -67,11 +69,12 @@ fn trit_group(g: u64, b: u32) -> [u8; 5]
     [v0, v1, v2, v3, v4]
 }
 
-fn quint_group(g: u64, b: u32) -> [u8; 5]
-    requires { ⌜ b ≤ 5 ⌝ }
+fn quint_group(table: &[u16; 128], g: u64, b: u32) -> [u8; 5]
+    requires { ⌜ (b ≤ 5) × (now table ≡ tab (digitsEntry Quints) 128) ⌝ }
     ensures { λ r. ⌜ r ≡ padded 5 3 (number Quints b g) 0 ⌝ }
 {
-    let x = wide(tables::quints_of(quint_code(g, b)));
+    let code = (quint_code(g, b) % 128) as usize;
+    let x = wide(table[code]);
     let v0 = number_of(x % 8, g, 0, b);
     let v1 = number_of(x / 8 % 8, g, b + 3, b);
     let v2 = number_of(x / 64 % 8, g, 2 * b + 5, b);
@@ -106,12 +109,13 @@ fn read_trits(s: PhysicalBlock, b: u32, n: usize) -> [Stored; 64]
     requires { ⌜ (b ≤ 6) × (n ≤ 64) ⌝ }
     ensures { λ r. ⌜ r ≡ numbers Trits b (blockNumber s) n ⌝ }
 {
+    let table = tables::trits();
     let mut out = no_numbers();
     let mut rest = s;
     let mut i: usize = 0;
     while i < n {
         let word = bits::word_at(rest, 0);
-        let g = trit_group(word, b);
+        let g = trit_group(&table, word, b);
         out[i] = Stored(g[0]);
         if i + 1 < n {
             out[i + 1] = Stored(g[1]);
@@ -135,12 +139,13 @@ fn read_quints(s: PhysicalBlock, b: u32, n: usize) -> [Stored; 64]
     requires { ⌜ (b ≤ 5) × (n ≤ 64) ⌝ }
     ensures { λ r. ⌜ r ≡ numbers Quints b (blockNumber s) n ⌝ }
 {
+    let table = tables::quints();
     let mut out = no_numbers();
     let mut rest = s;
     let mut i: usize = 0;
     while i < n {
         let word = bits::word_at(rest, 0);
-        let g = quint_group(word, b);
+        let g = quint_group(&table, word, b);
         out[i] = Stored(g[0]);
         if i + 1 < n {
             out[i + 1] = Stored(g[1]);
