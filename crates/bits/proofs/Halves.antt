@@ -1,6 +1,6 @@
 -- The four ways in which a word of a block lies in its halves, and the low bits of a word.
 -- Assumes nothing.
-use mathlib.Core.Path.{_≡_, refl, sym, ap, _∙_, subst}
+use mathlib.Core.Path.{_≡_, sym, ap, _∙_}
 use Prim.Native.Nat.{ℕ, _+_, _-_, _*_, _/_, _%_, _^_, _≤_, _<_, min}
 use native.Mathlib.Nat.{mod-eq-of-lt, mod-lt, lt-of-lt-of-le, lt-of-le-of-lt, lt-of-not-le, one-mul, mul-one, zero-mul, mul-assoc, add-mul, add-comm, add-zero, zero-add, mul-mod-left, add-mul-mod-self-right, div-one, min-eq-left, min-eq-right}
 use native.Mathlib.Decide.{decLe}
@@ -11,7 +11,7 @@ use Rattle.bits.specs.Field.{field}
 use Rattle.bits.specs.Block.{blockNumber}
 use Rattle.bits.specs.declared.PhysicalBlock.{PhysicalBlock}
 use Rattle.bits.proofs.Fields.{field-lt, field-past, field-in, field-above, field-below}
-use Rattle.bits.proofs.Blocks.{low-half, spliced, block-lt}
+use Rattle.bits.proofs.Blocks.{spliced, block-lt}
 
 pub one-shl : (w : ℕ) → w < 64 → 1 * 2 ^ w % 2 ^ 64 ≡ 2 ^ w
 one-shl w h = rw one-mul (mod-eq-of-lt (pow-lt {j = 64} h))
@@ -34,13 +34,14 @@ low-field s p w = elim (decLe w 64) [ yes h ↦ narrow h | no h ↦ wide (lt-of-
     wide h = let l : 64 ≤ w = omega arith in rw (min-eq-right l) (sym (low-whole (field s p 64) w (field-lt s p 64) l))
 
 module _ (b : PhysicalBlock) (h : b .hi < 2 ^ 64) (l : b .lo < 2 ^ 64) where
-  pub word-first : (p : ℕ) → p ≡ 0 → b .lo ≡ field (blockNumber b) p 64
+  -- a shift by 64 - p in two steps, so that p may be 0
+  pub word-across : (p : ℕ) → p < 64 → b .hi * 2 ^ (63 - p) % 2 ^ 64 * 2 ^ 1 % 2 ^ 64 + b .lo / 2 ^ p ≡ field (blockNumber b) p 64
   unfolding blockNumber
-  word-first p e = rw e (sym (low-half (b .hi) (b .lo) l))
-
-  pub word-across : (p : ℕ) → p < 64 → b .hi * 2 ^ (64 - p) % 2 ^ 64 + b .lo / 2 ^ p ≡ field (blockNumber b) p 64
-  unfolding blockNumber
-  word-across p m = spliced (b .hi) (b .lo) l p m
+  word-across p m =
+      let d : 64 - p ≡ 63 - p + 1 = omega arith in
+      let e : b .hi * 2 ^ (64 - p) ≡ b .hi * 2 ^ (63 - p) * 2 = rw (d, pow-add 2 (63 - p) 1) (sym (mul-assoc (b .hi) (2 ^ (63 - p)) 2)) in
+      let f : b .hi * 2 ^ (63 - p) % 2 ^ 64 * 2 ^ 1 % 2 ^ 64 ≡ b .hi * 2 ^ (64 - p) % 2 ^ 64 = omega (arith, e) in
+      rw f (spliced (b .hi) (b .lo) l p m)
 
   pub word-high : (p : ℕ) → 64 ≤ p → b .hi / 2 ^ (p - 64) ≡ field (blockNumber b) p 64
   unfolding blockNumber field

@@ -1,12 +1,16 @@
 -- The k low bits of a number in reverse.
 -- Assumes nothing.
-use mathlib.Core.Path.{_≡_, refl, sym, ap, ap₂, _∙_, subst}
-use Prim.Native.Nat.{ℕ, zero, suc, _+_, _-_, _*_, _/_, _%_, _^_, _≤_, _<_}
-use native.Mathlib.Nat.{mod-eq-of-lt, mod-lt, lt-of-not-le, zero-add, add-comm}
+use mathlib.Core.Path.{_≡_, refl, sym, ap, _∙_}
+use mathlib.Core.Bool.{Bool}
+use Prim.Native.Nat.{ℕ, suc, _+_, _-_, _*_, _/_, _%_, _^_, _≤_, _<_}
+use native.Mathlib.Nat.{mod-eq-of-lt, mod-lt, lt-of-not-le, zero-add}
 use native.Mathlib.Decide.{decLe}
 use lib.Arith.{digits-lt}
-use lib.Pow.{high, shr-shr, pow-add, pow-pos, mod-pow-add}
+use lib.Dec.{T, eqb, eqb→eq}
+use lib.Pow.{high, split, shr-shr, pow-add, pow-pos}
 use native.Mathlib.Omega.{arith}
+use Rattle.laws.specs.Choice.{all}
+use Rattle.laws.proofs.Computed.{each}
 use Rattle.bits.specs.Field.{field, stream, reverse}
 use Rattle.bits.proofs.Fields.{field-lt, stream-ext, stream-lt, stream-at, restream, field-in, field-above, field-below}
 
@@ -66,6 +70,18 @@ reverse-join k j hi lo h =
         rw e (field-below hi lo k (k - suc (i - j)) 1 (omega arith) ∙ sym (reverse-bit k lo (i - j) (omega arith))
         ∙ sym (field-above (reverse k lo) (reverse j hi) j (i - j) 1 (reverse-lt j hi)) ∙ ap (λ (n : ℕ). field (reverse k lo * 2 ^ j + reverse j hi) n 1) (sym d))
 
--- four bits more
-pub reverse-four : (x k : ℕ) → reverse (k + 4) (x % 2 ^ (k + 4)) ≡ reverse k (x % 2 ^ k) * 16 + reverse 4 (x / 2 ^ k % 16)
-reverse-four x k = rw (add-comm k 4, mod-pow-add x 4 k, add-comm 4 k) (reverse-join k 4 (x / 2 ^ k % 16) (x % 2 ^ k) (mod-lt x (pow-pos k)))
+-- the reverse of 2 k bits is the reverses of their halves, exchanged
+pub reverse-halves : (k x : ℕ) {lo hi : ℕ} → lo ≡ reverse k (x % 2 ^ k) → hi ≡ reverse k (x / 2 ^ k) → lo * 2 ^ k + hi ≡ reverse (k + k) x
+reverse-halves k x e f = rw (e, f) (sym (reverse-join k k (x / 2 ^ k) (x % 2 ^ k) (mod-lt x (pow-pos k))) ∙ ap (reverse (k + k)) (split x k))
+
+swapped : ℕ → Bool
+unfolding reverse stream field
+swapped x = eqb (x % 2 * 2 + x / 2) (reverse 2 x)
+
+swapped-test : T (all swapped 4)
+unfolding swapped
+swapped-test = tt
+
+pub reverse-two : (x : ℕ) → x < 4 → x % 2 * 2 + x / 2 ≡ reverse 2 x
+unfolding swapped
+reverse-two x h = eqb→eq _ _ (each swapped 4 swapped-test x h)

@@ -53,17 +53,23 @@ fn low_bits(x: u64, w: u32) -> u64
     if w < 64 { x % (1 << w) } else { x }
 }
 
-// The 64 bits of a block from bit p on.
-pub fn word_at(b: PhysicalBlock, p: u32) -> u64
+// The 64 bits of a block from bit p of its low half on.
+fn across(b: PhysicalBlock, p: u32) -> u64
+    requires { ⌜ p < 64 ⌝ }
     ensures { λ r. ⌜ r ≡ field (blockNumber b) p 64 ⌝ }
 {
     let lo = b.lo;
     let hi = b.hi;
-    if p == 0 {
-        return lo;
-    }
+    (hi << (63 - p) << 1) + (lo >> p)
+}
+
+// The 64 bits of a block from bit p on.
+pub fn word_at(b: PhysicalBlock, p: u32) -> u64
+    ensures { λ r. ⌜ r ≡ field (blockNumber b) p 64 ⌝ }
+{
+    let hi = b.hi;
     if p < 64 {
-        return (hi << (64 - p)) + (lo >> p);
+        return across(b, p);
     }
     if p < 128 {
         return hi >> (p - 64);
@@ -86,19 +92,28 @@ fn byte_of(b: PhysicalBlock, k: usize) -> u8
     (word_at(b, (8 * k) as u32) % 256) as u8
 }
 
-// The bits of a block from bit p on.
-fn shifted(b: PhysicalBlock, p: u32) -> PhysicalBlock
+// The bits of a block from bit p of its low half on.
+pub fn later(b: PhysicalBlock, p: u32) -> PhysicalBlock
+    requires { ⌜ p < 64 ⌝ }
     ensures { λ r. ⌜ blockNumber r ≡ blockNumber b / 2 ^ p ⌝ }
 {
     let hi = b.hi;
-    let word = word_at(b, p);
-    if 64 <= p {
-        return PhysicalBlock { lo: word, hi: 0 };
-    }
+    let word = across(b, p);
     PhysicalBlock {
         lo: word,
         hi: hi >> p,
     }
+}
+
+// The bits of a block from bit p on.
+fn shifted(b: PhysicalBlock, p: u32) -> PhysicalBlock
+    ensures { λ r. ⌜ blockNumber r ≡ blockNumber b / 2 ^ p ⌝ }
+{
+    if p < 64 {
+        return later(b, p);
+    }
+    let lo = word_at(b, p);
+    PhysicalBlock { lo, hi: 0 }
 }
 
 // The first w bits of a block.
@@ -171,29 +186,43 @@ pub fn store(b: PhysicalBlock) -> [u8; 16]
     s
 }
 
-// Each four bits in reverse.
-const NIBBLES: [u8; 16] = [0, 8, 4, 12, 2, 10, 6, 14, 1, 9, 5, 13, 3, 11, 7, 15];
-
-fn reverse_nibble(n: usize) -> u64
-    requires { ⌜ n < 16 ⌝ }
-    ensures { λ r. ⌜ r ≡ reverse 4 n ⌝ }
+// Bits in reverse: each half in reverse, and the halves exchanged.
+fn reverse_pair(x: u8) -> u8
+    requires { ⌜ x < 4 ⌝ }
+    ensures { λ r. ⌜ (r ≡ reverse 2 x) × (r < 4) ⌝ }
 {
-    wide(NIBBLES[n])
+    x % 2 * 2 + x / 2
 }
 
-// The 64 bits of a word in reverse.
+fn reverse_nibble(x: u8) -> u8
+    requires { ⌜ x < 16 ⌝ }
+    ensures { λ r. ⌜ (r ≡ reverse 4 x) × (r < 16) ⌝ }
+{
+    reverse_pair(x % 4) * 4 + reverse_pair(x / 4)
+}
+
+fn reverse_byte(x: u8) -> u16
+    ensures { λ r. ⌜ (r ≡ reverse 8 x) × (r < 256) ⌝ }
+{
+    (reverse_nibble(x % 16) * 16 + reverse_nibble(x / 16)) as u16
+}
+
+fn reverse_16(x: u16) -> u32
+    ensures { λ r. ⌜ (r ≡ reverse 16 x) × (r < 65536) ⌝ }
+{
+    (reverse_byte((x % 256) as u8) * 256 + reverse_byte((x / 256) as u8)) as u32
+}
+
+fn reverse_32(x: u32) -> u64
+    ensures { λ r. ⌜ (r ≡ reverse 32 x) × (r < 4294967296) ⌝ }
+{
+    (reverse_16((x % 65536) as u16) * 65536 + reverse_16((x / 65536) as u16)) as u64
+}
+
 fn reverse_word(x: u64) -> u64
     ensures { λ r. ⌜ r ≡ reverse 64 x ⌝ }
 {
-    let mut done: u64 = 0;
-    let mut rest = x;
-    let mut k: usize = 0;
-    while k < 16 {
-        done = done * 16 + reverse_nibble((rest % 16) as usize);
-        rest = rest / 16;
-        k += 1;
-    }
-    done
+    reverse_32((x % 4294967296) as u32) * 4294967296 + reverse_32((x / 4294967296) as u32)
 }
 
 // A block in reverse: its fields upward are those of the block downward from bit 127.

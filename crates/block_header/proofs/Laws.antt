@@ -1,13 +1,16 @@
 -- Bounds of the counts, and the reasons one by one.
 -- Assumes nothing.
-use mathlib.Core.Path.{_≡_, refl}
-use Prim.Native.Nat.{ℕ, _+_, _*_, _/_, _≤_, _<_}
-use native.Mathlib.Nat.{mul-le-mul}
+use mathlib.Core.Path.{_≡_, refl, ap, _∙_}
+use Prim.Native.Nat.{ℕ, zero, suc, _+_, _-_, _*_, _/_, _≤_, _<_}
+use native.Mathlib.Nat.{mul-le-mul, suc-add}
 use native.Mathlib.Omega.{arith}
 use Rattle.encoding.specs.Encoding.{sequenceBits}
 use Rattle.encoding.proofs.Laws.{code-le}
 use Rattle.quantization.specs.Ranges.{encodingAt, bitsAt, rangeBits}
 use Rattle.quantization.proofs.Ranges.{bits-le}
+use lib.ListN.{length, getD, List·getD-eq-default}
+use mathlib.Core.List.{List}
+use Rattle.color_endpoint.specs.Table.{numberCount, startOf}
 use mathlib.Core.Bool.{Bool, true, false}
 use borrow.Author.Tests.{lt-ltb, le-ltb, ltb-false}
 use lib.Dec.{ltb}
@@ -22,6 +25,35 @@ use Rattle.block_header.specs.Reasons.{gridTooLarge, tooManyWeights, wei
 pub range-bits-le : (k n m : ℕ) → n ≤ m → rangeBits k n ≤ m * 8 + 3 * m
 unfolding rangeBits sequenceBits
 range-bits-le k n m h = let p : n * bitsAt k ≤ m * 8 = mul-le-mul h (bits-le k) in omega (arith, code-le (encodingAt k) n)
+
+-- ---- the endpoint numbers without a loop
+
+-- past the modes each partition takes two numbers, as mode 0 does
+start-past : (modes : List ℕ) (n : ℕ) → length modes ≡ 4 → startOf modes (n + 4) ≡ startOf modes 4 + 2 * n
+unfolding startOf numberCount
+start-past modes zero h = omega arith
+start-past modes (suc n) h =
+    let z : getD modes (n + 4) 0 ≡ 0 = List·getD-eq-default modes 0 {n = n + 4} (omega arith) in
+    rw (suc-add, z, start-past modes n h) (omega arith)
+
+-- the numbers of partition p, of n
+abbrev pub countedAt : List ℕ → ℕ → ℕ → ℕ
+countedAt modes n p = pick (ltb p n) (numberCount (getD modes p 0)) 0
+
+pub start-four : (modes : List ℕ) (n : ℕ) → length modes ≡ 4
+    → countedAt modes n 0 + countedAt modes n 1 + countedAt modes n 2 + countedAt modes n 3 + 2 * (n - 4) ≡ startOf modes n
+unfolding startOf
+start-four modes zero h = refl
+start-four modes (suc zero) h = omega arith
+start-four modes (suc (suc zero)) h = omega arith
+start-four modes (suc (suc (suc zero))) h = omega arith
+start-four modes (suc (suc (suc (suc n)))) h = past (suc (suc (suc (suc n)))) (omega arith)
+  where
+    past : (m : ℕ) → 4 ≤ m → countedAt modes m 0 + countedAt modes m 1 + countedAt modes m 2 + countedAt modes m 3 + 2 * (m - 4) ≡ startOf modes m
+    past m l =
+        let e : m ≡ m - 4 + 4 = omega arith in
+        let p : startOf modes m ≡ startOf modes 4 + 2 * (m - 4) = ap (startOf modes) e ∙ start-past modes (m - 4) h in
+        rw (lt-ltb 0 m (omega arith), lt-ltb 1 m (omega arith), lt-ltb 2 m (omega arith), lt-ltb 3 m (omega arith)) (omega (arith, p))
 
 -- ---- 14 to 16, one by one
 

@@ -5,6 +5,7 @@ ghost use Prim.Native.Nat.{_≤_};
 ghost use lib.Dec.{eqb};
 ghost use lib.ListN.{getD};
 ghost use Rattle.laws.specs.Choice.{pick, either};
+ghost use Rattle.color_endpoint.specs.Table.{numberCount};
 ghost use Rattle.block_header.specs.Reasons.{isHdr, someHdr, gridFault, endpointFault};
 ghost use Rattle.block_header.specs.Counts.{weightCount, weightBits, componentBits, indexBits, selectorBits, extraBits, endpointCount, bitsLeft, endpointRangeOf};
 
@@ -76,19 +77,25 @@ fn mode_at(modes: [u8; 4], p: usize) -> u8
     if p < 4 { modes[p] } else { 0 }
 }
 
-// The endpoint numbers of all partitions.
+// The numbers of a mode where its partition is there.
+fn counted(there: bool, mode: u8) -> u32
+    ensures { λ r. ⌜ (r ≡ pick there (numberCount mode) 0) × (r ≤ 128) ⌝ }
+{
+    let n = color_endpoint::number_count(mode);
+    if there { n } else { 0 }
+}
+
+// The endpoint numbers of all partitions; past the fourth a mode is 0, which takes two.
 pub fn endpoint_count(h: Header) -> u32
     ensures { λ r. ⌜ (r ≡ endpointCount h) × (r ≤ 32640) ⌝ }
 {
     let modes = h.modes;
-    let count = h.partitions as usize;
-    let mut n: u32 = 0;
-    let mut p: usize = 0;
-    while p < count {
-        n += color_endpoint::number_count(mode_at(modes, p));
-        p += 1;
-    }
-    n
+    let count = wide(h.partitions);
+    let n0 = counted(0 < count, modes[0]);
+    let n1 = counted(1 < count, modes[1]);
+    let n2 = counted(2 < count, modes[2]);
+    let n3 = counted(3 < count, modes[3]);
+    n0 + n1 + n2 + n3 + 2 * quantization::bits_left(count, 4)
 }
 
 // The bits for endpoint numbers, weights and what lies between.

@@ -1,5 +1,6 @@
 // How a stored number is encoded: b bits, and above them a trit, a quint or nothing. The bits that a sequence takes.
 ghost use mathlib.Core.Path.{_≡_};
+ghost use Rattle.laws.specs.Choice.{pick};
 ghost use Rattle.encoding.specs.Encoding.{groupSize, radix, codeBits, sequenceBits};
 
 // 000, "Integer Sequence Encoding": the three range forms.
@@ -37,16 +38,22 @@ pub fn radix_of(encoding: Encoding) -> u32
     }
 }
 
+// A choice between two numbers that are there already, which takes no branch.
+fn chosen(first: bool, x: u64, y: u64) -> u64
+    ensures { λ r. ⌜ r ≡ pick first x y ⌝ }
+{
+    if first { x } else { y }
+}
+
 // The bits of code that n numbers take.
 pub fn code_bits(encoding: Encoding, n: u32) -> u64
     ensures { λ r. ⌜ r ≡ codeBits encoding n ⌝ }
 {
     let m = n as u64;
-    match encoding {
-        Encoding::Bits => 0,
-        Encoding::Trits => (8 * m + 4) / 5,
-        Encoding::Quints => (7 * m + 2) / 3,
-    }
+    let trits = (8 * m + 4) / 5;
+    let quints = (7 * m + 2) / 3;
+    let radix = radix_of(encoding);
+    chosen(radix == 3, trits, chosen(radix == 5, quints, 0))
 }
 
 // The bits that n numbers with b bits each take.

@@ -1,22 +1,22 @@
 -- A group of a sequence by itself: the word that begins where the group begins has the same code and the same numbers.
 -- Assumes nothing.
-use mathlib.Core.Path.{_≡_, refl, sym, ap, ap₂, _∙_, subst}
+use mathlib.Core.Path.{_≡_, sym, ap, ap₂, _∙_, subst}
 use mathlib.Core.Bool.{Bool}
 use mathlib.Core.List.{List, [], _∷_}
-use Prim.Native.Nat.{ℕ, zero, suc, _+_, _-_, _*_, _/_, _%_, _^_, _≤_, _<_}
-use native.Mathlib.Nat.{mod-lt, mod-eq-of-lt, div-eq-of-lt, zero-mul, zero-add, lt-of-lt-of-le, le-trans, add-mul, mul-add, mul-assoc, mul-le-mul-left, mul-le-mul-right, lt-of-not-le}
-use native.Mathlib.Decide.{decLe, decLt}
+use Prim.Native.Nat.{ℕ, suc, _+_, _*_, _/_, _%_, _^_, _≤_, _<_}
+use native.Mathlib.Nat.{mod-lt, mod-eq-of-lt, div-eq-of-lt, zero-mul, lt-of-lt-of-le, add-mul, mul-le-mul-left, mul-le-mul-right, lt-of-not-le}
+use native.Mathlib.Decide.{decLe}
 use native.Mathlib.Omega.{arith}
 use lib.Arith.{digits-div, digits-mod, digits-lt}
+use lib.ListN.{getD}
 use lib.Pow.{pow-mono, pow-add}
-use lib.Dec.{T, eqb, ltb, eqb→eq}
-use Rattle.laws.specs.Choice.{pick, all}
+use lib.Dec.{T, eqb, eqb→eq}
+use Rattle.laws.specs.Choice.{all}
 use Rattle.laws.specs.Table.{tabFrom, tab, padded}
 use Rattle.laws.proofs.Computed.{each}
-use Rattle.laws.proofs.Filling.{tab-ext}
-use borrow.Author.Tests.{lt-ltb, le-ltb}
+use Rattle.laws.proofs.Filling.{getD-tab}
 use Rattle.bits.specs.Field.{field, stream}
-use Rattle.bits.proofs.Fields.{field-lt, field-none, field-in, stream-ext, stream-at}
+use Rattle.bits.proofs.Fields.{field-lt, field-none, field-in, stream-ext}
 use Rattle.encoding.specs.declared.Encoding.{Encoding}
 use Rattle.encoding.specs.declared.Encoding.the-variants.{Bits, Trits, Quints}
 use Rattle.encoding.specs.Encoding.{groupSize, radix, codeBits, sequenceBits}
@@ -55,9 +55,16 @@ seven-test : T (all seven 256)
 unfolding seven
 seven-test = tt
 
-pub quint-entry : (t : ℕ) → t < 256 → digitsEntry Quints (t % 128) ≡ digitsEntry Quints t
+quint-entry : (t : ℕ) → t < 256 → digitsEntry Quints (t % 128) ≡ digitsEntry Quints t
 unfolding seven
 quint-entry t h = eqb→eq _ _ (each seven 256 seven-test t h)
+
+-- a code looked up in its table
+pub trits-at : {table : List ℕ} → table ≡ tab (digitsEntry Trits) 256 → (t : ℕ) → t < 256 → getD table t 0 ≡ digitsEntry Trits t
+trits-at e t h = rw e (getD-tab (digitsEntry Trits) 256 t 0 h)
+
+pub quints-at : {table : List ℕ} → table ≡ tab (digitsEntry Quints) 128 → (t : ℕ) → t < 256 → getD table (t % 128) 0 ≡ digitsEntry Quints t
+quints-at e t h = rw e (getD-tab (digitsEntry Quints) 128 (t % 128) 0 (omega arith)) ∙ quint-entry t h
 
 -- ---- groups
 
@@ -178,45 +185,8 @@ pub three : (f : ℕ → ℕ) {v0 v1 v2 : ℕ} → v0 ≡ f 0 → v1 ≡ f 1 →
 unfolding padded tab tabFrom
 three f e0 e1 e2 = rw (e0, e1, e2)
 
-pub one : (f : ℕ → ℕ) {v0 : ℕ} → v0 ≡ f 0 → _≡_ {A = List ℕ} (v0 ∷ 0 ∷ 0 ∷ 0 ∷ 0 ∷ []) (padded 5 1 f 0)
-unfolding padded tab tabFrom
-one f e0 = rw e0
+-- ---- numbers with no digit
 
 pub number-bits : (b g : ℕ) {v : ℕ} → v ≡ 0 * 2 ^ b + field g 0 b → v ≡ number Bits b g 0
 unfolding number digit sequenceBits
 number-bits b g e = let z : sequenceBits Bits b 0 ≡ 0 = omega (arith, zero-mul b) in rw (e, z)
-
--- ---- group after group
-
-pub place-times : (κ : Encoding) (b j : ℕ) → sequenceBits κ b (j * groupSize κ) ≡ j * sequenceBits κ b (groupSize κ)
-unfolding sequenceBits
-place-times κ b j =
-    let z : j * groupSize κ ≡ j * groupSize κ + 0 = omega arith in
-    let e : codeBits κ (j * groupSize κ) ≡ codeBits κ 0 + j * codeBits κ (groupSize κ) = ap (codeBits κ) z ∙ bits-group κ j 0 in
-    omega (arith, mul-assoc j (groupSize κ) b, mul-add j (groupSize κ * b) (codeBits κ (groupSize κ)), bits-zero κ)
-
--- a group takes at most 38 bits
-pub group-le : (κ : Encoding) (b : ℕ) → Narrow κ b → sequenceBits κ b (groupSize κ) ≤ 38
-unfolding sequenceBits
-group-le Bits b h = omega (arith, narrow-bits b h)
-group-le Trits b h = omega (arith, narrow-trits b h)
-group-le Quints b h = omega (arith, narrow-quints b h)
-
--- the numbers of group j, from the word where it begins
-pub group-same : (κ : Encoding) (b s j at : ℕ) → Narrow κ b → at ≡ j * sequenceBits κ b (groupSize κ)
-    → padded 5 (groupSize κ) (number κ b (field s at 64)) 0 ≡ padded 5 (groupSize κ) (λ k. number κ b s (j * groupSize κ + k)) 0
-unfolding padded
-group-same κ b s j at h e = rw (e, ← place-times κ b j) (tab-ext (λ k. pick (ltb k (groupSize κ)) (word k) 0) (λ k. pick (ltb k (groupSize κ)) (whole k) 0) 0 5 same)
-  where
-    word : ℕ → ℕ
-    word = number κ b (field s (sequenceBits κ b (j * groupSize κ)) 64)
-
-    whole : ℕ → ℕ
-    whole k = number κ b s (j * groupSize κ + k)
-
-    same : (k : ℕ) → k < 5 → pick (ltb k (groupSize κ)) (word k) 0 ≡ pick (ltb k (groupSize κ)) (whole k) 0
-    same k l =
-        elim (decLt k (groupSize κ)) [
-          | yes m ↦ rw (lt-ltb k (groupSize κ) m) (sym (number-in κ b s j (le-trans (group-le κ b h) (omega arith)) k m))
-          | no m ↦ rw (le-ltb k (groupSize κ) (omega arith))
-        ]

@@ -3,4 +3,5 @@ pub mod Places
 pub mod RoundTrip
 pub mod Search
 pub mod Groups
+pub mod Turns
 pub mod Ranged

@@ -4,13 +4,13 @@ use bits::PhysicalBlock;
 use encoding::Encoding;
 use encoding::Stored;
 ghost use mathlib.Core.Path.{_≡_};
-ghost use Prim.Native.Nat.{ℕ, _+_, _*_, _^_, _≤_, _<_, min};
+ghost use Prim.Native.Nat.{_+_, _*_, _^_, _≤_, _<_};
 ghost use Rattle.laws.specs.Table.{tab, padded};
 ghost use Rattle.bits.specs.Field.{field};
 ghost use Rattle.bits.specs.Block.{blockNumber};
-ghost use Rattle.encoding.specs.Encoding.{groupSize, radix, sequenceBits};
 ghost use Rattle.encoding.specs.declared.Encoding.the-variants.{Bits, Trits, Quints};
 ghost use Rattle.encoding.specs.declared.Stored.{Stored};
+ghost use Rattle.integer_sequence.specs.Codes.{digitsEntry};
 ghost use Rattle.integer_sequence.specs.Reading.{codeAt, number, numbers, stored, Narrow};
 
 // The w bits of g from bit p on.
@@ -54,12 +54,13 @@ fn wide(x: u16) -> u64
     x as u64
 }
 
-// The numbers of the first group of g.
-fn trit_group(g: u64, b: u32) -> [u8; 5]
-    requires { ⌜ b ≤ 6 ⌝ }
+// The numbers of the first group of g, by the table of the digits, which a caller of many groups makes once.
+fn trit_group(table: &[u16; 256], g: u64, b: u32) -> [u8; 5]
+    requires { ⌜ (b ≤ 6) × (now table ≡ tab (digitsEntry Trits) 256) ⌝ }
     ensures { λ r. ⌜ r ≡ padded 5 5 (number Trits b g) 0 ⌝ }
 {
-    let x = wide(tables::trits_of(trit_code(g, b)));
+    let code = trit_code(g, b) as usize;
+    let x = wide(table[code]);
     let v0 = number_of(x % 4, g, 0, b);
     let v1 = number_of(x / 4 % 4, g, b + 2, b);
     let v2 = number_of(x / 16 % 4, g, 2 * b + 4, b);
@@ -68,26 +69,16 @@ fn trit_group(g: u64, b: u32) -> [u8; 5]
     [v0, v1, v2, v3, v4]
 }
 
-fn quint_group(g: u64, b: u32) -> [u8; 5]
-    requires { ⌜ b ≤ 5 ⌝ }
+fn quint_group(table: &[u16; 128], g: u64, b: u32) -> [u8; 5]
+    requires { ⌜ (b ≤ 5) × (now table ≡ tab (digitsEntry Quints) 128) ⌝ }
     ensures { λ r. ⌜ r ≡ padded 5 3 (number Quints b g) 0 ⌝ }
 {
-    let x = wide(tables::quints_of(quint_code(g, b)));
+    let code = (quint_code(g, b) % 128) as usize;
+    let x = wide(table[code]);
     let v0 = number_of(x % 8, g, 0, b);
     let v1 = number_of(x / 8 % 8, g, b + 3, b);
     let v2 = number_of(x / 64 % 8, g, 2 * b + 5, b);
     [v0, v1, v2, 0, 0]
-}
-
-fn group_of(e: Encoding, g: u64, b: u32) -> [u8; 5]
-    requires { ⌜ Narrow e b ⌝ }
-    ensures { λ r. ⌜ r ≡ padded 5 (groupSize e) (number e b g) 0 ⌝ }
-{
-    match e {
-        Encoding::Bits => [number_of(0, g, 0, b), 0, 0, 0, 0],
-        Encoding::Trits => trit_group(g, b),
-        Encoding::Quints => quint_group(g, b),
-    }
 }
 
 fn no_numbers() -> [Stored; 64]
@@ -96,19 +87,76 @@ fn no_numbers() -> [Stored; 64]
     [Stored(0); 64]
 }
 
-fn smaller(a: usize, b: usize) -> usize
-    ensures { λ r. ⌜ r ≡ min a b ⌝ }
+// The first n numbers of the sequence s; rest is what is left of it.
+fn read_bits(s: PhysicalBlock, b: u32, n: usize) -> [Stored; 64]
+    requires { ⌜ (b ≤ 8) × (n ≤ 64) ⌝ }
+    ensures { λ r. ⌜ r ≡ numbers Bits b (blockNumber s) n ⌝ }
 {
-    if a < b { a } else { b }
+    let mut out = no_numbers();
+    let mut rest = s;
+    let mut i: usize = 0;
+    while i < n {
+        let word = bits::word_at(rest, 0);
+        out[i] = Stored(number_of(0, word, 0, b));
+        rest = bits::later(rest, b);
+        i += 1;
+    }
+    out
 }
 
-// Group j of the sequence s.
-fn group_at(s: PhysicalBlock, e: Encoding, b: u8, j: usize) -> [u8; 5]
-    requires { ⌜ Narrow e b × (j ≤ 64) ⌝ }
-    ensures { λ r. ⌜ r ≡ padded 5 (groupSize e) (λ k. number e b (blockNumber s) (j * groupSize e + k)) 0 ⌝ }
+// The same group by group; the last group may be cut.
+fn read_trits(s: PhysicalBlock, b: u32, n: usize) -> [Stored; 64]
+    requires { ⌜ (b ≤ 6) × (n ≤ 64) ⌝ }
+    ensures { λ r. ⌜ r ≡ numbers Trits b (blockNumber s) n ⌝ }
 {
-    let step = encoding::sequence_bits(e, b, encoding::group_size(e)) as usize;
-    group_of(e, bits::word_at(s, (j * step) as u32), b as u32)
+    let table = tables::trits();
+    let mut out = no_numbers();
+    let mut rest = s;
+    let mut i: usize = 0;
+    while i < n {
+        let word = bits::word_at(rest, 0);
+        let g = trit_group(&table, word, b);
+        out[i] = Stored(g[0]);
+        if i + 1 < n {
+            out[i + 1] = Stored(g[1]);
+        }
+        if i + 2 < n {
+            out[i + 2] = Stored(g[2]);
+        }
+        if i + 3 < n {
+            out[i + 3] = Stored(g[3]);
+        }
+        if i + 4 < n {
+            out[i + 4] = Stored(g[4]);
+        }
+        rest = bits::later(rest, 5 * b + 8);
+        i += 5;
+    }
+    out
+}
+
+fn read_quints(s: PhysicalBlock, b: u32, n: usize) -> [Stored; 64]
+    requires { ⌜ (b ≤ 5) × (n ≤ 64) ⌝ }
+    ensures { λ r. ⌜ r ≡ numbers Quints b (blockNumber s) n ⌝ }
+{
+    let table = tables::quints();
+    let mut out = no_numbers();
+    let mut rest = s;
+    let mut i: usize = 0;
+    while i < n {
+        let word = bits::word_at(rest, 0);
+        let g = quint_group(&table, word, b);
+        out[i] = Stored(g[0]);
+        if i + 1 < n {
+            out[i + 1] = Stored(g[1]);
+        }
+        if i + 2 < n {
+            out[i + 2] = Stored(g[2]);
+        }
+        rest = bits::later(rest, 3 * b + 7);
+        i += 3;
+    }
+    out
 }
 
 // The first n numbers of the sequence s.
@@ -116,19 +164,9 @@ pub fn read(s: PhysicalBlock, e: Encoding, b: u8, n: usize) -> [Stored; 64]
     requires { ⌜ Narrow e b × (n ≤ 64) ⌝ }
     ensures { λ r. ⌜ r ≡ numbers e b (blockNumber s) n ⌝ }
 {
-    let size = encoding::group_size(e) as usize;
-    let mut out = no_numbers();
-    let mut j: usize = 0;
-    while j * size < n {
-        let i = j * size;
-        let g = group_at(s, e, b, j);
-        let m = smaller(size, n - i);
-        let mut k: usize = 0;
-        while k < m {
-            out[i + k] = Stored(g[k]);
-            k += 1;
-        }
-        j += 1;
+    match e {
+        Encoding::Bits => read_bits(s, b as u32, n),
+        Encoding::Trits => read_trits(s, b as u32, n),
+        Encoding::Quints => read_quints(s, b as u32, n),
     }
-    out
 }

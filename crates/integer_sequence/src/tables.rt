@@ -1,6 +1,7 @@
 // The meanings of all 256 trit codes and 128 quint codes in constant tables.
 ghost use mathlib.Core.Path.{_≡_};
 ghost use Prim.Native.Nat.{_<_};
+ghost use Rattle.laws.specs.Table.{tab};
 ghost use Rattle.encoding.specs.declared.Encoding.the-variants.{Bits, Trits, Quints};
 ghost use Rattle.integer_sequence.specs.Codes.{digitsEntry};
 
@@ -396,16 +397,32 @@ const QUINTS: [u16; 128] = [
     281,
 ];
 
+// The table of the trits.
+pub fn trits() -> [u16; 256]
+    ensures { λ r. ⌜ r ≡ tab (digitsEntry Trits) 256 ⌝ }
+{
+    TRITS
+}
+
+// The table of the quints.
+pub fn quints() -> [u16; 128]
+    ensures { λ r. ⌜ r ≡ tab (digitsEntry Quints) 128 ⌝ }
+{
+    QUINTS
+}
+
 // The five trits of a code.
 pub fn trits_of(code: u8) -> u16
     ensures { λ r. ⌜ r ≡ digitsEntry Trits code ⌝ }
 {
-    TRITS[code as usize]
+    let table = trits();
+    table[code as usize]
 }
 
 // The three quints of a code, of which bit 7 does not count.
 pub fn quints_of(code: u8) -> u16
     ensures { λ r. ⌜ r ≡ digitsEntry Quints code ⌝ }
 {
-    QUINTS[(code % 128) as usize]
+    let table = quints();
+    table[(code % 128) as usize]
 }

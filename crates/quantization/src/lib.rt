@@ -3,21 +3,18 @@ use encoding::Encoding;
 use encoding::Level;
 use encoding::Stored;
 ghost use mathlib.Core.Path.{_≡_};
-ghost use Prim.Native.Nat.{_-_, _≤_};
+ghost use Prim.Native.Nat.{_+_, _-_, _*_, _/_, _%_, _≤_};
+ghost use lib.Dec.{eqb};
+ghost use Rattle.laws.specs.Choice.{pick};
+ghost use Rattle.encoding.specs.declared.Encoding.the-variants.{Bits, Trits, Quints};
 ghost use Rattle.quantization.specs.Ranges.{encodingAt, bitsAt, mostAt, rangeBits, endpointRange};
 ghost use Rattle.quantization.specs.Unquantise.{unquantEndpoint, unquantWeight};
 ghost use Rattle.quantization.specs.Products.{stepped, byRule, Right};
 
-// What stands above the bits of a number of the range. From range 1 on trits, bits and quints take turns.
-pub fn encoding_at(range: u8) -> Encoding
-    ensures { λ r. ⌜ r ≡ encodingAt range ⌝ }
+// From range 1 on trits, bits and quints take turns.
+fn turn(range: u8) -> Encoding
+    ensures { λ r. ⌜ r ≡ pick (eqb (range % 3) 0) Quints (pick (eqb (range % 3) 1) Trits Bits) ⌝ }
 {
-    if range == 0 {
-        return Encoding::Bits;
-    }
-    if range > 20 {
-        return Encoding::Bits;
-    }
     match range % 3 {
         0 => Encoding::Quints,
         1 => Encoding::Trits,
@@ -25,21 +22,43 @@ pub fn encoding_at(range: u8) -> Encoding
     }
 }
 
+// What stands above the bits of a number of the range.
+pub fn encoding_at(range: u8) -> Encoding
+    ensures { λ r. ⌜ r ≡ encodingAt range ⌝ }
+{
+    let e = turn(range);
+    if range == 0 {
+        return Encoding::Bits;
+    }
+    if range > 20 {
+        return Encoding::Bits;
+    }
+    e
+}
+
+// What a range's turn adds to a third of it, and one more.
+fn turn_bits(range: u8) -> u8
+    ensures { λ r. ⌜ (r ≡ pick (eqb (range % 3) 0) 0 (pick (eqb (range % 3) 1) 1 3)) × (r ≤ 3) × (range ≤ 3 * (range / 3 + r)) ⌝ }
+{
+    match range % 3 {
+        0 => 0,
+        1 => 1,
+        _ => 3,
+    }
+}
+
 // How many bits a number of the range has.
 pub fn bits_at(range: u8) -> u8
     ensures { λ r. ⌜ r ≡ bitsAt range ⌝ }
 {
+    let one_more = range / 3 + turn_bits(range);
     if range == 0 {
         return 1;
     }
     if range > 20 {
         return 0;
     }
-    match range % 3 {
-        0 => range / 3 - 1,
-        1 => range / 3,
-        _ => range / 3 + 2,
-    }
+    one_more - 1
 }
 
 // The largest number of the range.
@@ -149,10 +168,8 @@ fn stepped(level: u32, limit: u32) -> u8
     requires { ⌜ level ≤ 2147483647 ⌝ }
     ensures { λ r. ⌜ r ≡ stepped level limit ⌝ }
 {
-    if limit < level {
-        return ((level + 1) % 256) as u8;
-    }
-    (level % 256) as u8
+    let more: u32 = if limit < level { 1 } else { 0 };
+    ((level + more) % 256) as u8
 }
 
 // 000: "unq = D * C + B; unq = unq ^ A; unq = (A & top) | (unq >> 2);". A & top is (A + 1) / 4.
@@ -160,14 +177,12 @@ pub fn unquantize(rule: Rule, s: Stored) -> Level
     ensures { λ r. ⌜ r .0 ≡ byRule rule (s .0) ⌝ }
 {
     let v = s.0;
-    if rule.0 < v {
-        return Level(0);
-    }
     let a = wide(v % 2) * (rule.5 as u32);
     let b = wide(v & rule.2) * (rule.4 as u32) / 128;
     let d = wide(v) * (rule.1 as u32) / 256;
     let unq = (d * wide(rule.3) + b) ^ a;
-    Level(stepped((a + 1) / 4 + unq / 4, wide(rule.6)))
+    let level = stepped((a + 1) / 4 + unq / 4, wide(rule.6));
+    Level(if rule.0 < v { 0 } else { level })
 }
 
 // The level of a stored endpoint number, 0..255.

@@ -1,20 +1,25 @@
-use mathlib.Core.Path.{_∙_}
-use Rattle.laws.specs.Table.{tab}
-use Rattle.laws.proofs.Filling.{getD-tab}
-use Rattle.bits.specs.Field.{reverse}
+use native.Mathlib.Omega.{arith}
+use Rattle.bits.proofs.Reverse.{reverse-halves}
 use borrow.Author.Needs.{needs}
 use Rattle.bits.proofs.reverse_nibble.Statement.{statement}
 use Rattle.bits.proofs.reverse_nibble.Tie as tie
 
-array-read-wide : tie.Need-array-read-wide
-array-read-wide c = search needs
+reverse-pair-requires : tie.Need-reverse-pair-requires
+reverse-pair-requires c κs = search needs
 
-wide-requires : tie.Need-wide-requires
-wide-requires c κs = search needs
+mul-result : tie.Need-mul-result
+mul-result c = search needs
+
+reverse-pair-requires-2 : tie.Need-reverse-pair-requires-2
+reverse-pair-requires-2 c κs = search needs
+
+add-result : tie.Need-add-result
+add-result c = search needs
 
 returns : tie.Need-returns
-unfolding reverse tab
-returns c = c .wide .ensures ∙ getD-tab (reverse 4) 16 (c .before .args .n) 0 (c .before .pre)
+returns c = (reverse-halves 2 (c .before .before .args .x) (c .before .reverse-pair .ensures .0) (c .reverse-pair2 .ensures .0), omega arith)
 
 pub reverse-nibble-spec : {M : Type 1} → statement M
-reverse-nibble-spec = tie.close (tie.spec array-read-wide wide-requires returns)
+reverse-nibble-spec =
+    tie.close
+    (tie.spec reverse-pair-requires mul-result reverse-pair-requires-2 add-result returns)

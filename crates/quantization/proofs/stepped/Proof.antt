@@ -1,3 +1,6 @@
+use mathlib.Core.Logic.{⊎-elim}
+use native.Mathlib.Nat.{add-zero}
+use native.Mathlib.Omega.{arith}
 use borrow.Author.Tests.{lt-ltb, le-ltb}
 use Rattle.quantization.specs.Products.{stepped}
 use borrow.Author.Needs.{needs}
@@ -5,21 +8,14 @@ use Rattle.quantization.proofs.stepped.Statement.{statement}
 use Rattle.quantization.proofs.stepped.Tie as tie
 
 add-result : tie.Need-add-result
-add-result c = search needs
+add-result c = ⊎-elim (λ w. omega arith) (λ w. omega arith) (c .before .if1 .came)
 
 cast-result : tie.Need-cast-result
 cast-result c = search needs
 
 returns : tie.Need-returns
 unfolding stepped
-returns c = rw (lt-ltb _ _ (c .if1 .taken))
-
-cast-result-2 : tie.Need-cast-result-2
-cast-result-2 c = search needs
-
-returns-2 : tie.Need-returns-2
-unfolding stepped
-returns-2 c = rw (le-ltb _ _ (c .if1 .left))
+returns c = ⊎-elim (λ w. rw (w .1, lt-ltb _ _ (w .0 .taken))) (λ w. rw (w .1, le-ltb _ _ (w .0 .left), add-zero)) (c .before .if1 .came)
 
 pub stepped-spec : {M : Type 1} → statement M
-stepped-spec = tie.close (tie.spec add-result cast-result returns cast-result-2 returns-2)
+stepped-spec = tie.close (tie.spec add-result cast-result returns)

@@ -14,32 +14,28 @@ product x y hx hy = mul-le-mul {n₂ = 255} {m₂ = 65535} hx hy
 
 module _ (c : tie.After-wide4) where
   abbrev a : ℕ
-  a = c .before .before .before .before .before .before .before .wide .result * c .before .before .before .before .before .before .before .before .before .before .args .rule .5
+  a = c .before .before .before .wide .result * c .before .before .before .before .args .rule .5
 
   abbrev b : ℕ
-  b = c .before .before .before .before .wide2 .result * c .before .before .before .before .before .before .before .before .before .before .args .rule .4 / 128
+  b = c .before .before .wide2 .result * c .before .before .before .before .args .rule .4 / 128
 
   abbrev d : ℕ
-  d = c .before .before .wide3 .result * c .before .before .before .before .before .before .before .before .before .before .args .rule .1 / 256
+  d = c .before .wide3 .result * c .before .before .before .before .args .rule .1 / 256
 
   ones : a ≤ 255 * 65535
   ones = product _ _ (omega arith) (omega arith)
 
   low : b ≤ 255 * 65535 / 128
-  low = let p = product (c .before .before .before .before .wide2 .result) (c .before .before .before .before .before .before .before .before .before .before .args .rule .4) (omega arith) (omega arith) in omega arith
+  low = let p = product (c .before .before .wide2 .result) (c .before .before .before .before .args .rule .4) (omega arith) (omega arith) in omega arith
 
   digit : d ≤ 65535
-  digit = let p = product (c .before .before .wide3 .result) (c .before .before .before .before .before .before .before .before .before .before .args .rule .1) (omega arith) (omega arith) in omega arith
+  digit = let p = product (c .before .wide3 .result) (c .before .before .before .before .args .rule .1) (omega arith) (omega arith) in omega arith
 
   high : d * c .wide4 .result ≤ 65535 * 255
   high = mul-le-mul {n₂ = 65535} {m₂ = 255} digit (omega arith)
 
   unq : bitXor (d * c .wide4 .result + b) a < 2 ^ 32
   unq = xor-lt 32 (d * c .wide4 .result + b) a (omega (arith, high, low)) (omega (arith, ones))
-
-returns : tie.Need-returns
-unfolding byRule
-returns c = rw (lt-ltb _ _ (c .if1 .taken))
 
 wide-requires : tie.Need-wide-requires
 wide-requires c κs = search needs
@@ -48,7 +44,7 @@ cast-a : tie.Need-cast-a
 cast-a c = search needs
 
 mul-a : tie.Need-mul-a
-mul-a c = omega (arith, product (c .before .wide .result) (c .before .before .before .before .args .rule .5) (omega arith) (omega arith))
+mul-a c = omega (arith, product (c .wide .result) (c .before .args .rule .5) (omega arith) (omega arith))
 
 wide-requires-2 : tie.Need-wide-requires-2
 wide-requires-2 c κs = search needs
@@ -57,7 +53,7 @@ cast-b : tie.Need-cast-b
 cast-b c = search needs
 
 mul-b : tie.Need-mul-b
-mul-b c = omega (arith, product (c .before .wide2 .result) (c .before .before .before .before .before .before .before .args .rule .4) (omega arith) (omega arith))
+mul-b c = omega (arith, product (c .wide2 .result) (c .before .before .args .rule .4) (omega arith) (omega arith))
 
 wide-requires-3 : tie.Need-wide-requires-3
 wide-requires-3 c κs = search needs
@@ -66,7 +62,7 @@ cast-d : tie.Need-cast-d
 cast-d c = search needs
 
 mul-d : tie.Need-mul-d
-mul-d c = omega (arith, product (c .before .wide3 .result) (c .before .before .before .before .before .before .before .before .before .args .rule .1) (omega arith) (omega arith))
+mul-d c = omega (arith, product (c .wide3 .result) (c .before .before .before .args .rule .1) (omega arith) (omega arith))
 
 wide-requires-4 : tie.Need-wide-requires-4
 wide-requires-4 c κs = search needs
@@ -89,15 +85,18 @@ wide-requires-5 c κs = search needs
 stepped-requires : tie.Need-stepped-requires
 stepped-requires c κs = omega (arith, ones (c .before), unq (c .before))
 
+returns : tie.Need-returns
+unfolding byRule
+returns c = rw (lt-ltb _ _ (c .if1 .taken))
+
 returns-2 : tie.Need-returns-2
 unfolding byRule
-returns-2 c = rw (c .stepped .ensures, le-ltb _ _ (c .before .before .before .before .before .before .before .before .before .before .if1 .left), c .before .wide5 .ensures .0, c .before .before .wide4 .ensures .0, c .before .before .before .before .wide3 .ensures .0, c .before .before .before .before .before .before .wide2 .ensures .0, c .before .before .before .before .before .before .before .before .before .wide .ensures .0)
+returns-2 c = rw (le-ltb _ _ (c .if1 .left), c .before .stepped .ensures, c .before .before .wide5 .ensures .0, c .before .before .before .wide4 .ensures .0, c .before .before .before .before .wide3 .ensures .0, c .before .before .before .before .before .wide2 .ensures .0, c .before .before .before .before .before .before .wide .ensures .0)
 
 pub unquantize-spec : {M : Type 1} → statement M
 unquantize-spec =
     tie.close
     (tie.spec
-    returns
     wide-requires
     cast-a
     mul-a
@@ -114,4 +113,5 @@ unquantize-spec =
     add-stepped-2
     wide-requires-5
     stepped-requires
+    returns
     returns-2)

@@ -3,9 +3,10 @@ use Prim.Native.Nat.{_+_, _*_}
 use native.Mathlib.Omega.{arith}
 use Rattle.bits.specs.Field.{field}
 use Rattle.bits.proofs.Halves.{low-is}
-use Rattle.encoding.specs.declared.Encoding.the-variants.{Bits, Trits, Quints}
+use Rattle.encoding.specs.declared.Encoding.the-variants.{Trits}
 use Rattle.encoding.specs.Encoding.{sequenceBits}
-use Rattle.integer_sequence.proofs.Groups.{digit-fits, number-first, five}
+use Rattle.integer_sequence.specs.Codes.{digitsEntry}
+use Rattle.integer_sequence.proofs.Groups.{trits-at, digit-fits, number-first, five}
 use borrow.Author.Needs.{needs}
 use Rattle.integer_sequence.proofs.reading.trit_group.Statement.{statement}
 use Rattle.integer_sequence.proofs.reading.trit_group.Tie as tie
@@ -13,11 +14,21 @@ use Rattle.integer_sequence.proofs.reading.trit_group.Tie as tie
 trit-code-requires : tie.Need-trit-code-requires
 trit-code-requires c κs = search needs
 
-trits-of-requires : tie.Need-trits-of-requires
-trits-of-requires c κs = search needs
+cast-code : tie.Need-cast-code
+cast-code c = search needs
+
+mul-wide : tie.Need-mul-wide
+mul-wide c = search needs
+
+element-copy-out-wide : tie.Need-element-copy-out-wide
+element-copy-out-wide c = search needs
 
 wide-requires : tie.Need-wide-requires
 wide-requires c κs = search needs
+
+-- the entry of the group's code
+entry : (c : tie.After-wide) → c .wide .result ≡ digitsEntry Trits (c .before .before .trit-code .result)
+entry c = c .wide .ensures ∙ trits-at (c .before .before .before .pre .1) (c .before .before .trit-code .result) (omega arith)
 
 number-of-requires : tie.Need-number-of-requires
 number-of-requires c κs = (omega arith, omega arith, digit-fits _ 2 _ (omega arith) (omega arith))
@@ -61,18 +72,20 @@ returns c =
     let e = c .before .before .before .before .before in
     let b = e .before .before .before .args .b in
     five _
-    (number-first Trits b _ 0 0 (c .before .before .before .before .number-of .ensures) (omega arith) (e .before .before .trit-code .ensures) (e .wide .ensures ∙ e .before .trits-of .ensures) (low-is _ 2) (omega arith))
-    (number-first Trits b _ 1 (b + 2) (c .before .before .before .number-of2 .ensures) (omega arith) (e .before .before .trit-code .ensures) (e .wide .ensures ∙ e .before .trits-of .ensures) (refl) (omega arith))
-    (number-first Trits b _ 2 (2 * b + 4) (c .before .before .number-of3 .ensures) (omega arith) (e .before .before .trit-code .ensures) (e .wide .ensures ∙ e .before .trits-of .ensures) (refl) (omega arith))
-    (number-first Trits b _ 3 (3 * b + 5) (c .before .number-of4 .ensures) (omega arith) (e .before .before .trit-code .ensures) (e .wide .ensures ∙ e .before .trits-of .ensures) (refl) (omega arith))
-    (number-first Trits b _ 4 (4 * b + 7) (c .number-of5 .ensures) (omega arith) (e .before .before .trit-code .ensures) (e .wide .ensures ∙ e .before .trits-of .ensures) (refl) (omega arith))
+    (number-first Trits b _ 0 0 (c .before .before .before .before .number-of .ensures) (omega arith) (e .before .before .trit-code .ensures) (entry e) (low-is _ 2) (omega arith))
+    (number-first Trits b _ 1 (b + 2) (c .before .before .before .number-of2 .ensures) (omega arith) (e .before .before .trit-code .ensures) (entry e) (refl) (omega arith))
+    (number-first Trits b _ 2 (2 * b + 4) (c .before .before .number-of3 .ensures) (omega arith) (e .before .before .trit-code .ensures) (entry e) (refl) (omega arith))
+    (number-first Trits b _ 3 (3 * b + 5) (c .before .number-of4 .ensures) (omega arith) (e .before .before .trit-code .ensures) (entry e) (refl) (omega arith))
+    (number-first Trits b _ 4 (4 * b + 7) (c .number-of5 .ensures) (omega arith) (e .before .before .trit-code .ensures) (entry e) (refl) (omega arith))
 
 pub trit-group-spec : {M : Type 1} → statement M
 trit-group-spec =
     tie.close
     (tie.spec
     trit-code-requires
-    trits-of-requires
+    cast-code
+    mul-wide
+    element-copy-out-wide
     wide-requires
     number-of-requires
     add-number-of

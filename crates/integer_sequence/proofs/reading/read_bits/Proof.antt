@@ -1,0 +1,67 @@
+use mathlib.Core.Path.{refl, _∙_}
+use Prim.Native.Nat.{_-_, _≤_}
+use native.Mathlib.Omega.{arith}
+use Rattle.bits.specs.Block.{blockNumber}
+use Rattle.encoding.specs.declared.Encoding.the-variants.{Bits}
+use Rattle.encoding.specs.Encoding.{sequenceBits}
+use Rattle.integer_sequence.proofs.Groups.{digit-fits, number-bits}
+use Rattle.integer_sequence.proofs.Turns.{Turn, turn-first, turn-number, put, turn-next, turn-last}
+use borrow.Author.Needs.{needs}
+use Rattle.integer_sequence.proofs.reading.read_bits.Statement.{statement}
+use Rattle.integer_sequence.proofs.reading.read_bits.Tie as tie
+
+abbrev Inv-loop : tie.InvT-loop
+Inv-loop b n out₀ s i₀ out rest i = (i ≤ n) × Turn Bits b (blockNumber s) n i out rest
+
+abbrev μ-loop : tie.MeasureT-loop
+μ-loop b n out₀ s i₀ out rest i = n - i
+
+no-numbers-requires : tie.Need-no-numbers-requires Inv-loop μ-loop
+no-numbers-requires c κs = search needs
+
+loop-holds : tie.Need-loop-holds Inv-loop μ-loop
+loop-holds c = (omega arith, turn-first Bits _ _ _ (c .no-numbers .ensures) refl)
+
+word-at-requires : tie.Need-word-at-requires Inv-loop μ-loop
+word-at-requires c κs = search needs
+
+number-of-requires : tie.Need-number-of-requires Inv-loop μ-loop
+number-of-requires c κs = (omega arith, omega arith, digit-fits 0 0 _ (omega arith) (omega arith))
+
+array-set-from-out : tie.Need-array-set-from-out Inv-loop μ-loop
+array-set-from-out c = omega arith
+
+later-requires : tie.Need-later-requires Inv-loop μ-loop
+later-requires c κs = omega arith
+
+add-i : tie.Need-add-i Inv-loop μ-loop
+add-i c = omega arith
+
+loop-less : tie.Need-loop-less Inv-loop μ-loop
+loop-less c = omega arith
+
+loop-again : tie.Need-loop-again Inv-loop μ-loop
+unfolding sequenceBits
+loop-again c =
+    let t = c .before .before .before .before .loop .inv .1 in
+    (omega arith, turn-next Bits _ _ _ t (omega arith) (put Bits _ _ _ (omega arith) (t .done) (number-bits _ _ (c .before .number-of .ensures) ∙ turn-number Bits _ _ _ (omega arith) (c .before .before .word-at .ensures) t 0 (omega arith) (omega arith)) refl (omega arith) refl) (c .later .ensures))
+
+returns : tie.Need-returns Inv-loop μ-loop
+returns c = turn-last Bits _ _ _ (omega arith) (c .before .loop .inv .1)
+
+pub read-bits-spec : {M : Type 1} → statement M
+read-bits-spec =
+    tie.close
+    (tie.spec
+    Inv-loop
+    μ-loop
+    no-numbers-requires
+    loop-holds
+    word-at-requires
+    number-of-requires
+    array-set-from-out
+    later-requires
+    add-i
+    loop-less
+    loop-again
+    returns)
