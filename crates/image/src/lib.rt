@@ -14,7 +14,7 @@ ghost use Rattle.bits.specs.Block.{blockNumber};
 ghost use Rattle.interpolation.specs.declared.Kind.the-variants.{Unorm16, Srgb8};
 ghost use Rattle.image_layout.specs.Numbers.{blockAt, faultAt, imageNumberAt, imageNumbers};
 ghost use Rattle.image_layout.specs.Faulty.{tallyOf};
-ghost use Rattle.image_layout.specs.Call.{imageAnswer, imageOut, imageTold, toldOf};
+ghost use Rattle.image_layout.specs.Call.{checkedOf, imageAnswer, imageOut, imageTold, toldOf};
 ghost use Rattle.image_layout.proofs.Regions.{Pasted, Placed, Cropped, Tile};
 ghost use Rattle.image_layout.proofs.Calls.{Sound};
 ghost use Rattle.image_layout.proofs.Tallies.{noted};
@@ -169,6 +169,26 @@ fn decode_numbers(g: ImageGrid, s: &[u8], out: &mut [u16]) -> Tally
     t
 }
 
+// Kind 0 of an image, once it is checked.
+fn answer_numbers(
+    checked: CheckedImage,
+    footprint: u8,
+    width: u32,
+    height: u32,
+    blocks: &[u8],
+    out: &mut [u16],
+) -> ImageAnswer
+    requires { ⌜ checked ≡ checkedOf footprint width height (length (now blocks)) (length (now out)) ⌝ }
+    ensures answer { λ r. ⌜ r ≡ imageAnswer footprint width height (now (blocks .entry)) (length (now (out .entry))) ⌝ }
+    ensures told { λ r. ⌜ toldOf r ≡ imageTold footprint width height (now (blocks .entry)) (length (now (out .entry))) ⌝ }
+    ensures image { λ _. ⌜ now (out .exit) ≡ imageOut footprint Unorm16 width height (now (blocks .entry)) (now (out .entry)) ⌝ }
+{
+    match checked {
+        CheckedImage::Rejected(e) => ImageAnswer::Refused(e),
+        CheckedImage::Accepted(g) => ImageAnswer::Decoded(decode_numbers(g, blocks, out)),
+    }
+}
+
 // Kind 0: an image to four 16-bit numbers for each texel.
 pub fn decode_image_unorm16(
     footprint: u8,
@@ -182,10 +202,7 @@ pub fn decode_image_unorm16(
     ensures image { λ _. ⌜ now (out .exit) ≡ imageOut footprint Unorm16 width height (now (blocks .entry)) (now (out .entry)) ⌝ }
 {
     let checked = image_layout::check_image(footprint, width, height, blocks.len(), out.len());
-    match checked {
-        CheckedImage::Rejected(e) => ImageAnswer::Refused(e),
-        CheckedImage::Accepted(g) => ImageAnswer::Decoded(decode_numbers(g, blocks, out)),
-    }
+    answer_numbers(checked, footprint, width, height, blocks, out)
 }
 
 // ---- kind 1: bytes
@@ -261,6 +278,26 @@ fn decode_bytes(g: ImageGrid, s: &[u8], out: &mut [u8]) -> Tally
     t
 }
 
+// Kind 1 of an image, once it is checked.
+fn answer_bytes(
+    checked: CheckedImage,
+    footprint: u8,
+    width: u32,
+    height: u32,
+    blocks: &[u8],
+    out: &mut [u8],
+) -> ImageAnswer
+    requires { ⌜ checked ≡ checkedOf footprint width height (length (now blocks)) (length (now out)) ⌝ }
+    ensures answer { λ r. ⌜ r ≡ imageAnswer footprint width height (now (blocks .entry)) (length (now (out .entry))) ⌝ }
+    ensures told { λ r. ⌜ toldOf r ≡ imageTold footprint width height (now (blocks .entry)) (length (now (out .entry))) ⌝ }
+    ensures image { λ _. ⌜ now (out .exit) ≡ imageOut footprint Srgb8 width height (now (blocks .entry)) (now (out .entry)) ⌝ }
+{
+    match checked {
+        CheckedImage::Rejected(e) => ImageAnswer::Refused(e),
+        CheckedImage::Accepted(g) => ImageAnswer::Decoded(decode_bytes(g, blocks, out)),
+    }
+}
+
 // Kind 1: an image to four bytes for each texel, before the sRGB curve.
 pub fn decode_image_srgb8(
     footprint: u8,
@@ -274,8 +311,5 @@ pub fn decode_image_srgb8(
     ensures image { λ _. ⌜ now (out .exit) ≡ imageOut footprint Srgb8 width height (now (blocks .entry)) (now (out .entry)) ⌝ }
 {
     let checked = image_layout::check_image(footprint, width, height, blocks.len(), out.len());
-    match checked {
-        CheckedImage::Rejected(e) => ImageAnswer::Refused(e),
-        CheckedImage::Accepted(g) => ImageAnswer::Decoded(decode_bytes(g, blocks, out)),
-    }
+    answer_bytes(checked, footprint, width, height, blocks, out)
 }

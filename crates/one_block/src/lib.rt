@@ -81,12 +81,12 @@ fn top_byte(x: u16) -> u8
     (x / 256) as u8
 }
 
-// The texels of a block in kind 0: four numbers of 16 bits each.
-pub fn decode_unorm16(fp: u8, block: &[u8], out: &mut [u16]) -> Answer
+// The block in kind 0, once the refusal n is known.
+fn show_words(n: u8, fp: u8, block: &[u8], out: &mut [u16]) -> Answer
+    requires { ⌜ n ≡ blockRefusal fp (length (now block)) (length (now out)) ⌝ }
     ensures { λ r. ⌜ r ≡ blockAnswer fp (now (block .entry)) (length (now (out .entry))) ⌝ }
     ensures { λ r. ⌜ now (out .exit) ≡ blockOut Unorm16 fp (now (block .entry)) (now (out .entry)) ⌝ }
 {
-    let n = refusal(fp, block.len(), out.len());
     if n != 0 {
         return Answer::Refused(n);
     }
@@ -96,12 +96,21 @@ pub fn decode_unorm16(fp: u8, block: &[u8], out: &mut [u16]) -> Answer
     answer_for(fault)
 }
 
-// The texels of a block in kind 1: four bytes each.
-pub fn decode_srgb8(fp: u8, block: &[u8], out: &mut [u8]) -> Answer
+// The texels of a block in kind 0: four numbers of 16 bits each.
+pub fn decode_unorm16(fp: u8, block: &[u8], out: &mut [u16]) -> Answer
+    ensures { λ r. ⌜ r ≡ blockAnswer fp (now (block .entry)) (length (now (out .entry))) ⌝ }
+    ensures { λ r. ⌜ now (out .exit) ≡ blockOut Unorm16 fp (now (block .entry)) (now (out .entry)) ⌝ }
+{
+    let n = refusal(fp, block.len(), out.len());
+    show_words(n, fp, block, out)
+}
+
+// The block in kind 1, once the refusal n is known.
+fn show_bytes(n: u8, fp: u8, block: &[u8], out: &mut [u8]) -> Answer
+    requires { ⌜ n ≡ blockRefusal fp (length (now block)) (length (now out)) ⌝ }
     ensures { λ r. ⌜ r ≡ blockAnswer fp (now (block .entry)) (length (now (out .entry))) ⌝ }
     ensures { λ r. ⌜ now (out .exit) ≡ blockOut Srgb8 fp (now (block .entry)) (now (out .entry)) ⌝ }
 {
-    let n = refusal(fp, block.len(), out.len());
     if n != 0 {
         return Answer::Refused(n);
     }
@@ -109,4 +118,13 @@ pub fn decode_srgb8(fp: u8, block: &[u8], out: &mut [u8]) -> Answer
     let fault = block_core::decode_into(bits::load(block), fp, Kind::Srgb8, &mut buffer);
     copy_bytes(&buffer, out);
     answer_for(fault)
+}
+
+// The texels of a block in kind 1: four bytes each.
+pub fn decode_srgb8(fp: u8, block: &[u8], out: &mut [u8]) -> Answer
+    ensures { λ r. ⌜ r ≡ blockAnswer fp (now (block .entry)) (length (now (out .entry))) ⌝ }
+    ensures { λ r. ⌜ now (out .exit) ≡ blockOut Srgb8 fp (now (block .entry)) (now (out .entry)) ⌝ }
+{
+    let n = refusal(fp, block.len(), out.len());
+    show_bytes(n, fp, block, out)
 }

@@ -10,17 +10,14 @@ use Rattle.one_block.specs.declared.Answer.the-variants.{Refused}
 use Rattle.bits.proofs.Blocks.{Bytes}
 use Rattle.one_block.specs.Calls.{blockRefusal, answerFor}
 use Rattle.one_block.proofs.Laws.{refused, untouched, told, copied, fits-in}
-use Rattle.one_block.proofs.decode_srgb8.Statement.{statement}
-use Rattle.one_block.proofs.decode_srgb8.Tie as tie
-
-refusal-requires : tie.Need-refusal-requires
-refusal-requires c κs = search needs
+use Rattle.one_block.proofs.show_bytes.Statement.{statement}
+use Rattle.one_block.proofs.show_bytes.Tie as tie
 
 returns : tie.Need-returns
 returns c =
-    let st = c .before .before .before .before .args in
-    let h : blockRefusal (st .fp) (length (now (st .block))) (length (now (st .out))) ≡ 0 → ⊥ = λ q. c .if1 .taken (c .before .refusal .ensures ∙ q) in
-    (ap Refused (c .before .refusal .ensures) ∙ refused (st .fp) (now (st .block)) (now (st .out)) h, untouched (st .fp) (now (st .block)) (now (st .out)) h Srgb8)
+    let st = c .before .before .before .args in
+    let h : blockRefusal (st .fp) (length (now (st .block))) (length (now (st .out))) ≡ 0 → ⊥ = λ q. c .if1 .taken (c .before .before .before .pre ∙ q) in
+    (ap Refused (c .before .before .before .pre) ∙ refused (st .fp) (now (st .block)) (now (st .out)) h, untouched (st .fp) (now (st .block)) (now (st .out)) h Srgb8)
 
 load-requires : tie.Need-load-requires
 load-requires c κs = search needs
@@ -28,8 +25,8 @@ load-requires c κs = search needs
 decode-into-requires : tie.Need-decode-into-requires
 decode-into-requires c κs = search needs
 
-none : (c : tie.Else1) → blockRefusal (c .before .before .before .before .args .fp) (length (now (c .before .before .before .before .args .block))) (length (now (c .before .before .before .before .args .out))) ≡ 0
-none c = sym (c .before .refusal .ensures) ∙ c .if1 .left
+none : (c : tie.Else1) → blockRefusal (c .before .before .before .args .fp) (length (now (c .before .before .before .args .block))) (length (now (c .before .before .before .args .out))) ≡ 0
+none c = sym (c .before .before .before .pre) ∙ c .if1 .left
 
 copy-bytes-requires : tie.Need-copy-bytes-requires
 copy-bytes-requires c κs = fits-in _ _ _ (none (c .before .before .before .before .before))
@@ -44,8 +41,8 @@ returns-2 : tie.Need-returns-2
 returns-2 c =
     let d = c .before .before .before .before .before .before in
     let l = d .before .before in
-    let st = l .before .before .before .before .before .args in
-    let bytes : Bytes (now (st .block)) = λ i. l .before .before .before .before .shared-slice-known .given i .fits in
+    let st = l .before .before .before .before .args in
+    let bytes : Bytes (now (st .block)) = λ i. l .before .before .before .shared-slice-known .given i .fits in
     let e = none (l .before) in
     let s = now (st .block) in
     let old = now (st .out) in (
@@ -54,11 +51,10 @@ returns-2 c =
           ∙ copied (st .fp) s old bytes _ (l .load .ensures) e Srgb8 _ (λ x. x / 256) (λ x. refl) (d .decode-into .ensures .1 refl),
     )
 
-pub decode-srgb8-spec : {M : Type 1} → statement M
-decode-srgb8-spec =
+pub show-bytes-spec : {M : Type 1} → statement M
+show-bytes-spec =
     tie.close
     (tie.spec
-    refusal-requires
     returns
     load-requires
     decode-into-requires

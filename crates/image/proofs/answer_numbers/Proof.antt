@@ -4,16 +4,13 @@ use lib.ListN.{length}
 use borrow.Author.Needs.{needs}
 use Rattle.interpolation.specs.declared.Kind.the-variants.{Unorm16}
 use Rattle.image_layout.proofs.Calls.{Passed, accepted, refused, decoded}
-use Rattle.image.proofs.decode_image_unorm16.Statement.{statement}
-use Rattle.image.proofs.decode_image_unorm16.Tie as tie
+use Rattle.image.proofs.answer_numbers.Statement.{statement}
+use Rattle.image.proofs.answer_numbers.Tie as tie
 
 -- what is known of an accepted image
-passed : (c : tie.After-checked2) → let a = c .before .before .before .before .before .args in
+passed : (c : tie.After-checked2) → let a = c .before .before .before .before .args in
     Passed (a .footprint) (a .width) (a .height) (length (now (a .blocks))) (length (now (a .out))) (c .checked2 .given .0 .0)
-passed c = accepted _ _ _ _ _ _ (sym (c .before .before .check-image .ensures) ∙ c .checked2 .given .1)
-
-check-image-requires : tie.Need-check-image-requires
-check-image-requires c κs = search needs
+passed c = accepted _ _ _ _ _ _ (sym (c .before .before .before .before .pre) ∙ c .checked2 .given .1)
 
 enum-known-checked : tie.Need-enum-known-checked
 enum-known-checked c = search needs
@@ -25,9 +22,9 @@ decode-numbers-requires : tie.Need-decode-numbers-requires
 decode-numbers-requires c κs = let o = passed (c .before .before) in (o .is-sound, (o .exact-bytes, o .exact-places))
 
 returns : tie.Need-returns
-returns c = let a = c .before .before .before .before .before .before .args in
-    let k = c .before .before .before in
-    refused (a .footprint) Unorm16 (a .width) (a .height) (now (a .blocks)) (now (a .out)) _ (sym (k .check-image .ensures) ∙ c .before .checked .given .1)
+returns c = let s = c .before .before .before .before .before in
+    let a = s .args in
+    refused (a .footprint) Unorm16 (a .width) (a .height) (now (a .blocks)) (now (a .out)) _ (sym (s .pre) ∙ c .before .checked .given .1)
 
 same-length : tie.Need-same-length
 same-length c = search needs
@@ -35,15 +32,15 @@ same-length c = search needs
 returns-2 : tie.Need-returns-2
 returns-2 c = let k = c .before .before in
     let d = k .before .before .before in
-    let a = d .before .before .before .before .before .args in
-    decoded (a .footprint) Unorm16 (a .width) (a .height) (now (a .blocks)) (now (a .out)) _ _ _ (sym (d .before .before .check-image .ensures) ∙ d .checked2 .given .1)
+    let s = d .before .before .before .before in
+    let a = s .args in
+    decoded (a .footprint) Unorm16 (a .width) (a .height) (now (a .blocks)) (now (a .out)) _ _ _ (sym (s .pre) ∙ d .checked2 .given .1)
     (k .decode-numbers .ensures .0) (k .decode-numbers .ensures .1)
 
-pub decode-image-unorm16-spec : {M : Type 1} → statement M
-decode-image-unorm16-spec =
+pub answer-numbers-spec : {M : Type 1} → statement M
+answer-numbers-spec =
     tie.close
     (tie.spec
-    check-image-requires
     enum-known-checked
     enum-known-checked-2
     decode-numbers-requires
