@@ -207,13 +207,6 @@ pub fn decode_image_unorm16(
 
 // ---- kind 1: bytes
 
-// The byte that kind 1 shows of a 16-bit number.
-fn top_byte(n: u16) -> u8
-    ensures { λ r. ⌜ r ≡ n / 256 ⌝ }
-{
-    (n / 256) as u8
-}
-
 // Copies the top bytes of a run of a block's numbers.
 fn copy_bytes(src: &[u16; 576], r: Run, out: &mut [u8])
     requires { ⌜ RunFits r 576 (length (now out)) ⌝ }
@@ -222,7 +215,7 @@ fn copy_bytes(src: &[u16; 576], r: Run, out: &mut [u8])
     let from = r.from;
     let at = r.at;
     for i in 0..r.n {
-        out[at + i] = top_byte(src[from + i]);
+        out[at + i] = interpolation::top_byte(src[from + i]);
     }
 }
 

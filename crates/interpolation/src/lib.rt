@@ -1,6 +1,6 @@
 // Endpoints expanded to 16 bits and mixed by weights into a texel.
 ghost use mathlib.Core.Path.{_≡_};
-ghost use Prim.Native.Nat.{_-_, _<_, _≤_, _%_};
+ghost use Prim.Native.Nat.{_-_, _/_, _<_, _≤_, _%_};
 ghost use Rattle.interpolation.specs.Expansion.{
   replicated,
   centred,
@@ -10,7 +10,6 @@ ghost use Rattle.interpolation.specs.Expansion.{
   expandedEnd,
   expandedPair,
   expandedTable,
-  shownOf,
 };
 ghost use Rattle.interpolation.specs.Texel.{mixOf, texelOf};
 ghost use lib.Dec.{eqb};
@@ -118,14 +117,11 @@ pub fn expand_table(kind: Kind, t: [EndpointPair; 4]) -> [ExpandedPair; 4]
     ]
 }
 
-// What a kind shows of a 16-bit number.
-pub fn shown(kind: Kind, n: u16) -> u16
-    ensures { λ r. ⌜ r ≡ shownOf kind n ⌝ }
+// What kind 1 shows of a 16-bit number; kind 0 shows all of it.
+pub fn top_byte(n: u16) -> u8
+    ensures { λ r. ⌜ r ≡ n / 256 ⌝ }
 {
-    match kind {
-        Kind::Unorm16 => n,
-        Kind::Srgb8 => n / 256,
-    }
+    (n / 256) as u8
 }
 
 // What is left of 64.

@@ -70,15 +70,9 @@ fn copy_bytes(from: &[u16; 576], out: &mut [u8])
 {
     let mut i: usize = 0;
     while i < out.len() {
-        out[i] = top_byte(from[i]);
+        out[i] = interpolation::top_byte(from[i]);
         i += 1;
     }
-}
-
-fn top_byte(x: u16) -> u8
-    ensures { λ r. ⌜ r ≡ x / 256 ⌝ }
-{
-    (x / 256) as u8
 }
 
 // The block in kind 0, once the refusal n is known.
