@@ -46,9 +46,9 @@ pub encoding-turns : (k : ℕ) → k < 21 → encodingAt k ≡ pick (eqb k 0) Bi
 unfolding tab encodingAt
 encoding-turns = same-below encodingAt (λ k. pick (eqb k 0) Bits (pick (eqb (k % 3) 0) Quints (pick (eqb (k % 3) 1) Trits Bits))) 21 Bits refl
 
-pub bits-turns : (k : ℕ) → k < 21 → bitsAt k ≡ pick (eqb k 0) 1 (k / 3 + pick (eqb (k % 3) 0) 0 (pick (eqb (k % 3) 1) 1 3) - 1)
+pub bits-turns : (k : ℕ) → k < 21 → bitsAt k ≡ pick (eqb k 0) 1 (pick (eqb (k % 3) 0) (k / 3 - 1) (pick (eqb (k % 3) 1) (k / 3) (k / 3 + 2)))
 unfolding tab bitsAt
-bits-turns = same-below bitsAt (λ k. pick (eqb k 0) 1 (k / 3 + pick (eqb (k % 3) 0) 0 (pick (eqb (k % 3) 1) 1 3) - 1)) 21 0 refl
+bits-turns = same-below bitsAt (λ k. pick (eqb k 0) 1 (pick (eqb (k % 3) 0) (k / 3 - 1) (pick (eqb (k % 3) 1) (k / 3) (k / 3 + 2)))) 21 0 refl
 
 -- ---- bounds, for every k
 

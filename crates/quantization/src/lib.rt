@@ -3,18 +3,21 @@ use encoding::Encoding;
 use encoding::Level;
 use encoding::Stored;
 ghost use mathlib.Core.Path.{_≡_};
-ghost use Prim.Native.Nat.{_+_, _-_, _*_, _/_, _%_, _≤_};
-ghost use lib.Dec.{eqb};
-ghost use Rattle.laws.specs.Choice.{pick};
-ghost use Rattle.encoding.specs.declared.Encoding.the-variants.{Bits, Trits, Quints};
+ghost use Prim.Native.Nat.{_-_, _≤_};
 ghost use Rattle.quantization.specs.Ranges.{encodingAt, bitsAt, mostAt, rangeBits, endpointRange};
 ghost use Rattle.quantization.specs.Unquantise.{unquantEndpoint, unquantWeight};
 ghost use Rattle.quantization.specs.Products.{stepped, byRule, Right};
 
-// From range 1 on trits, bits and quints take turns.
-fn turn(range: u8) -> Encoding
-    ensures { λ r. ⌜ r ≡ pick (eqb (range % 3) 0) Quints (pick (eqb (range % 3) 1) Trits Bits) ⌝ }
+// What stands above the bits of a number of the range. From range 1 on trits, bits and quints take turns.
+pub fn encoding_at(range: u8) -> Encoding
+    ensures { λ r. ⌜ r ≡ encodingAt range ⌝ }
 {
+    if range == 0 {
+        return Encoding::Bits;
+    }
+    if range > 20 {
+        return Encoding::Bits;
+    }
     match range % 3 {
         0 => Encoding::Quints,
         1 => Encoding::Trits,
@@ -22,43 +25,21 @@ fn turn(range: u8) -> Encoding
     }
 }
 
-// What stands above the bits of a number of the range.
-pub fn encoding_at(range: u8) -> Encoding
-    ensures { λ r. ⌜ r ≡ encodingAt range ⌝ }
-{
-    let e = turn(range);
-    if range == 0 {
-        return Encoding::Bits;
-    }
-    if range > 20 {
-        return Encoding::Bits;
-    }
-    e
-}
-
-// What a range's turn adds to a third of it, and one more.
-fn turn_bits(range: u8) -> u8
-    ensures { λ r. ⌜ (r ≡ pick (eqb (range % 3) 0) 0 (pick (eqb (range % 3) 1) 1 3)) × (r ≤ 3) × (range ≤ 3 * (range / 3 + r)) ⌝ }
-{
-    match range % 3 {
-        0 => 0,
-        1 => 1,
-        _ => 3,
-    }
-}
-
 // How many bits a number of the range has.
 pub fn bits_at(range: u8) -> u8
     ensures { λ r. ⌜ r ≡ bitsAt range ⌝ }
 {
-    let one_more = range / 3 + turn_bits(range);
     if range == 0 {
         return 1;
     }
     if range > 20 {
         return 0;
     }
-    one_more - 1
+    match range % 3 {
+        0 => range / 3 - 1,
+        1 => range / 3,
+        _ => range / 3 + 2,
+    }
 }
 
 // The largest number of the range.
