@@ -104,7 +104,8 @@ module _ (fp : ℕ) (s : SymbolicBlock) (z : Sized s) (a : Acceptable fp s) wher
     no-fault = ap (faultOf fp) number ∙ demand-3 .written-no-fault fp s z a;
   }
 
-  back : readingOf fp (writingOf fp s .bytes) ≡ done s
+  -- the reader tells what was written
+  pub back : readingOf fp (writingOf fp s .bytes) ≡ done s
   back = sound-read fp _ sound ∙ ap (λ (B : ℕ). done (readBlock B)) number ∙ ap done (demand-3 .written-reads-back fp s z a)
 
   numbers : (kind : Kind) → blockNumbers fp kind (blockOf s) ≡ pictureNumbers fp kind s

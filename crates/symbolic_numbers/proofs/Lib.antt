@@ -1,2 +1,3 @@
 pub mod Clip
 pub mod Laws
+pub mod Back

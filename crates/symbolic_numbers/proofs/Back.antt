@@ -1,0 +1,41 @@
+-- Of lists: what the writer's call takes, the reader's call tells of the block written.
+-- Assumes nothing.
+use mathlib.Core.Path.{_≡_, refl, sym, ap, _∙_}
+use mathlib.Core.List.{List}
+use Prim.Native.Nat.{ℕ}
+use lib.ListN.{length, getD}
+use Rattle.laws.specs.Table.{tab, tabFrom}
+use Rattle.laws.proofs.Filling.{Filled, filled-all}
+use Rattle.one_block.specs.Calls.{numberTold}
+use Rattle.symbolic_block.specs.Refusals.{Acceptable}
+use Rattle.symbolic_calls.proofs.Laws.{told-number}
+use Rattle.symbolic_reader.specs.declared.Reading.{Reading}
+use Rattle.symbolic_reader.specs.Answers.{done, readingOf}
+use Rattle.round_trip.proofs.Laws.{back}
+use Rattle.symbolic_numbers.specs.Numbers.{flatOf, blockOver, blockFrom}
+use Rattle.symbolic_numbers.specs.Calls.{readNumber, readNumbers, writeNumber, writeBlock}
+use Rattle.symbolic_numbers.proofs.Laws.{from-sized, number-read, numbers-read, write-told, block-written}
+
+module _ (numbers : List ℕ) (l : length numbers ≡ 103) where
+  by-place : flatOf (blockFrom numbers) ≡ tab (λ i. getD numbers i 0) 103
+  unfolding flatOf blockOver tab tabFrom
+  by-place = refl
+
+  -- a list's symbolic block has that list
+  pub flat-from : flatOf (blockFrom numbers) ≡ numbers
+  unfolding Filled
+  flat-from = by-place ∙ sym (filled-all (λ i. getD numbers i 0) 0 numbers 103 l (λ i h. refl))
+
+  -- written without a refusal, it is told again, number for number
+  module _ (fp : ℕ) (old told : List ℕ) (sixteen : length old ≡ 16) (room : length told ≡ 103) (taken : writeNumber fp numbers (length old) ≡ 0) where
+    acceptable : Acceptable fp (blockFrom numbers)
+    acceptable = sym (told-number fp (blockFrom numbers)) ∙ write-told fp numbers old sixteen l ∙ taken
+
+    read : readingOf fp (writeBlock fp numbers old) ≡ done (blockFrom numbers)
+    read = ap (readingOf fp) (sym (block-written fp numbers old sixteen l)) ∙ back fp (blockFrom numbers) (from-sized numbers) acceptable
+
+    pub list-back : (readNumber fp (writeBlock fp numbers old) (length told) ≡ 0) × (readNumbers fp (writeBlock fp numbers old) told ≡ numbers)
+    list-back = (
+      sym (number-read fp (writeBlock fp numbers old) told room) ∙ ap (λ (r : Reading). numberTold (r .answer)) read,
+      sym (numbers-read fp (writeBlock fp numbers old) told room) ∙ ap (λ (r : Reading). flatOf (r .block)) read ∙ flat-from,
+    )
