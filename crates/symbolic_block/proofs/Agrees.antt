@@ -34,7 +34,7 @@ use Rattle.texel.specs.Meaning.{endpointLevels, weightLevels, planeWeight, seco
 use Rattle.symbolic_block.specs.declared.SymbolicBlock.{SymbolicBlock}
 use Rattle.symbolic_block.specs.Fields.{gridOf, headerOf, modeIn, endpointIn, weightIn}
 use Rattle.symbolic_block.specs.Picture.{widenedWeight, firstGrid, secondGrid, pointWeight, infillWeight, placeWeight, numbersOf, numbersOfFirst, bitsLeftOver, rangeOfEndpoints, widenedNumbers, pairOfColours, partitionAt, channelGrid, channelAt, mixedPicture}
-use Rattle.symbolic_block.proofs.Pairs.{Bytes, pair-same, pair-bytes}
+use Rattle.color_endpoint.proofs.Pairs.{Bytes, pair-same, pair-bytes}
 
 -- what is needed of a mode sheet
 pub record Counted (s : SymbolicBlock) : Type 0 where

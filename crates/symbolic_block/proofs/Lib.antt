@@ -9,7 +9,6 @@ pub mod Fine
 pub mod Written
 pub mod Void
 pub mod Read
-pub mod Pairs
 pub mod Agrees
 pub mod Shown
 pub mod ReadsAs
