@@ -8,6 +8,7 @@ use mathlib.Core.Bool.{Bool, true, false}
 use native.Mathlib.Omega.{arith}
 use lib.Arith.{digits-div, digits-mod}
 use lib.Dec.{eqb}
+use borrow.Author.Tests.{eqb-true}
 use lib.ListN.{length, getD}
 use Rattle.laws.specs.Choice.{pick}
 use Rattle.encoding.specs.declared.Level.{Level}
@@ -15,8 +16,8 @@ use Rattle.block_mode.specs.declared.WeightGrid.{WeightGrid}
 use Rattle.partition.specs.declared.Seeds.{Seeds}
 use Rattle.partition.specs.Seeds.{selectBy}
 use Rattle.weight_grid.specs.Cell.{level, weightAt}
-use Rattle.weight_grid.specs.Bilinear.{blendOf, readOf}
-use Rattle.weight_grid.proofs.Points.{number-lt}
+use Rattle.weight_grid.specs.Bilinear.{blendOf, stepOf, readOf}
+use Rattle.weight_grid.proofs.Reading.{read-lt}
 use Rattle.block_mode.specs.Back2D.{Limits}
 use Rattle.block_header.specs.Counts.{weightCount}
 use Rattle.interpolation.specs.declared.ExpandedPair.{ExpandedPair}
@@ -101,42 +102,45 @@ laid-shown fp texel l t e w = record { size = w .size; holds = λ k h. w .holds 
 
 -- ---- a texel
 
--- the weight from the four neighbours of number n
+-- the weight from number n and its neighbours so far on
 abbrev pub cornersAt : List Level → ℕ → ℕ → ℕ → ℕ → ℕ → ℕ
-cornersAt levels width planes gs gt n =
+cornersAt levels right below gs gt n =
     blendOf (gs % 16) (gt % 16)
-    (getD levels n (level 0) .0) (getD levels (n + planes) (level 0) .0)
-    (getD levels (n + width * planes) (level 0) .0) (getD levels (n + width * planes + planes) (level 0) .0)
+    (getD levels n (level 0) .0) (getD levels (n + right) (level 0) .0)
+    (getD levels (n + below) (level 0) .0) (getD levels (n + below + right) (level 0) .0)
 
 inner : (t : Bool) (a b : ℕ) → pick t (level a) (level b) ≡ level (pick t a b)
 inner true a b = refl
 inner false a b = refl
 
--- what is read of the levels lies in their room, with two planes too
+-- what is read are weights of the grid
 pub reach : (g : WeightGrid) (gs gt : ℕ) → Limits g → weightCount g ≤ 64 → gs ≤ 16 * (g .width - 1) → gt ≤ 16 * (g .height - 1)
-    → gt / 16 * (g .width * g .planes) + gs / 16 * g .planes + g .width * g .planes + g .planes + 1 < 96
+    → gt / 16 * (g .width * g .planes) + gs / 16 * g .planes + stepOf gt (g .height) (g .width * g .planes) + stepOf gs (g .width) (g .planes) + (g .planes - 1) < 64
 unfolding weightCount
 reach g gs gt l n hs ht =
-    let x = gs / 16 in
-    let y = gt / 16 in
-    let w = l .width-low in
-    let h = l .height-low in
-    let p : 0 < g .planes = l .planes-low in
-    let m = number-lt (g .width) (g .height) (g .planes) 0 x y (omega (arith, w)) (omega (arith, h)) p in
-    let r : g .width * g .planes ≤ 24 = mul-le-mul {n₂ = 12} {m₂ = 2} (l .width-most) (l .planes-most) in
-    omega (arith, m, n, r, l .planes-most, add-mul (y * g .width) x (g .planes), mul-assoc y (g .width) (g .planes))
+    omega (arith, n, read-lt (g .width) (g .height) (g .planes) gs gt (omega (arith, l .width-low)) (omega (arith, l .height-low)) (l .planes-low) hs ht)
 
 -- the texel, step by step
-pub told : (g : WeightGrid) (component : ℕ) (levels : List Level) (table : List ExpandedPair) (seeds : Seeds) (partitions gs gt x y n : ℕ) {first second : Level} {p : ℕ} {t : Texel}
+pub told : (g : WeightGrid) (component : ℕ) (levels : List Level) (table : List ExpandedPair) (seeds : Seeds) (partitions gs gt x y n : ℕ) {right below : ℕ} {first second : Level} {p : ℕ} {t : Texel}
     → n ≡ gt / 16 * (g .width * g .planes) + gs / 16 * g .planes
-    → first ≡ level (cornersAt levels (g .width) (g .planes) gs gt n)
-    → second ≡ pick (eqb (g .planes) 2) (level (cornersAt levels (g .width) (g .planes) gs gt (n + 1))) first
+    → right ≡ stepOf gs (g .width) (g .planes) → below ≡ stepOf gt (g .height) (g .width * g .planes)
+    → first ≡ level (cornersAt levels right below gs gt n)
+    → second ≡ pick (eqb (g .planes) 2) (level (cornersAt levels right below gs gt (n + (g .planes - 1)))) first
     → p ≡ pick (eqb partitions 1) 0 (selectBy seeds x y) → t ≡ texelOf (getD table p noExpanded) first second component
     → t ≡ texelAt g component levels table seeds partitions gs gt x y
 unfolding texelAt readOf weightAt
-told g component levels table seeds partitions gs gt x y n {first} {second} en ef es ep et =
+told g component levels table seeds partitions gs gt x y n {right} {below} {first} {second} en er eb ef es ep et =
     let z : n ≡ n + 0 = omega arith in
-    let a : first ≡ level (readOf levels (g .width) (g .planes) 0 gs gt) = ef ∙ ap (λ (k : ℕ). level (cornersAt levels (g .width) (g .planes) gs gt k)) (z ∙ ap (λ (k : ℕ). k + 0) en) in
-    let b : second ≡ level (pick (eqb (g .planes) 2) (readOf levels (g .width) (g .planes) 1 gs gt) (readOf levels (g .width) (g .planes) 0 gs gt)) =
-    es ∙ rw (a, en) (inner (eqb (g .planes) 2) _ _) in
+    let a : first ≡ level (readOf levels (g .width) (g .height) (g .planes) 0 gs gt) =
+    ef ∙ rw (er, eb) (ap (λ (k : ℕ). level (cornersAt levels (stepOf gs (g .width) (g .planes)) (stepOf gt (g .height) (g .width * g .planes)) gs gt k)) (z ∙ ap (λ (k : ℕ). k + 0) en)) in
+    let b : second ≡ level (pick (eqb (g .planes) 2) (readOf levels (g .width) (g .height) (g .planes) 1 gs gt) (readOf levels (g .width) (g .height) (g .planes) 0 gs gt)) =
+    es ∙ rw a (go (eqb (g .planes) 2) refl) in
     rw (et, a, b, ep)
+  where
+    go : (u : Bool) → eqb (g .planes) 2 ≡ u
+        → pick u (level (cornersAt levels right below gs gt (n + (g .planes - 1)))) (level (readOf levels (g .width) (g .height) (g .planes) 0 gs gt))
+        ≡ level (pick u (readOf levels (g .width) (g .height) (g .planes) 1 gs gt) (readOf levels (g .width) (g .height) (g .planes) 0 gs gt))
+    go true e =
+        let two : g .planes - 1 ≡ 1 = (let q = eqb-true (g .planes) 2 e in omega (arith, q)) in
+        rw (er, eb) (ap (λ (k : ℕ). level (cornersAt levels (stepOf gs (g .width) (g .planes)) (stepOf gt (g .height) (g .width * g .planes)) gs gt k)) (ap (λ (k : ℕ). n + k) two ∙ ap (λ (k : ℕ). k + 1) en))
+    go false e = refl

@@ -17,6 +17,7 @@ use Rattle.quantization.specs.Ranges.{encodingAt, bitsAt}
 use Rattle.footprint.specs.Footprint.{widthOf, heightOf, texelsOf, isSmall}
 use Rattle.weight_grid.specs.Place.{scaleOf, gridPlace}
 use Rattle.weight_grid.specs.Bilinear.{infillOf, readOf}
+use Rattle.weight_grid.proofs.Reading.{read-agrees}
 use Rattle.block_mode.specs.Back2D.{Limits}
 use Rattle.partition.specs.declared.Seeds.{Seeds}
 use Rattle.partition.specs.Select.{partitionOf}
@@ -36,9 +37,9 @@ use Rattle.block_fault.specs.Faults.{faultOf}
 use Rattle.texel.specs.Meaning.{endpointLevels, weightLevels, planeWeight, secondWeight, secondComponent, mixedTexel, texelFrom, solidTexel, magenta, channel}
 use Rattle.texel.specs.BlockTexel.{soundTexel, blockTexel, blockChannel}
 use Rattle.block_core.specs.declared.Frame.{Frame}
-use Rattle.block_core.specs.Prepared.{noExpanded, frameOf, roomyLevels, texelAt, texelIn, Inside}
+use Rattle.block_core.specs.Prepared.{noExpanded, frameOf, texelAt, texelIn, Inside}
 use Rattle.block_core.specs.Held.{numberIn, RowsTo, Shown, Held}
-use Rattle.block_core.proofs.Frames.{inside, read-weight}
+use Rattle.block_core.proofs.Frames.{inside}
 use Rattle.block_core.proofs.Painting.{rows-shown}
 
 -- the pair of a texel's partition
@@ -55,18 +56,20 @@ pair-of kind h ends small x y =
     go false e = refl
 
 module _ (fp : ℕ) (kind : Kind) (h : Header) (ends : List Level) (stored : ℕ → ℕ) (l : Limits (h .grid)) (n : weightCount (h .grid) ≤ 64) where
-  abbrev levels : List Level
-  levels = roomyLevels (h .grid .range) stored
-
   abbrev weights : List Level
   weights = weightLevels (h .grid .range) stored
 
   abbrev places : Inside (h .grid) (frameOf fp)
   places = inside fp (h .grid) l n
 
+  -- the weights read are the weights of the texel
+  read : (plane gs gt : ℕ) → gs ≤ 16 * (h .grid .width - 1) → gt ≤ 16 * (h .grid .height - 1)
+      → readOf weights (h .grid .width) (h .grid .height) (h .grid .planes) plane gs gt ≡ infillOf weights (h .grid .width) (h .grid .height) (h .grid .planes) plane gs gt
+  read plane gs gt hs ht = read-agrees weights (h .grid .width) (h .grid .height) (h .grid .planes) plane gs gt (omega (arith, l .width-low)) (omega (arith, l .height-low)) hs ht
+
   -- what is left to do for a texel gives the texel
   pub prepared : (x y : ℕ) → x < widthOf fp → y < heightOf fp
-      → texelIn (h .grid) (secondComponent fp kind h ends weights x y) levels (expandedTable kind (tableOf (h .modes) (h .partitions) ends))
+      → texelIn (h .grid) (secondComponent fp kind h ends weights x y) weights (expandedTable kind (tableOf (h .modes) (h .partitions) ends))
       (seedsOf (h .index) (h .partitions) (isSmall fp)) (h .partitions) (frameOf fp) x y
       ≡ mixedTexel fp kind h ends weights x y
   unfolding texelIn texelAt frameOf mixedTexel planeWeight secondWeight
@@ -76,14 +79,7 @@ module _ (fp : ℕ) (kind : Kind) (h : Header) (ends : List Level) (stored : ℕ
       let gt = gridPlace (scaleOf (heightOf fp)) y (g .height) in
       let hs : gs ≤ 16 * (g .width - 1) = places .columns x hx in
       let ht : gt ≤ 16 * (g .height - 1) = places .rows y hy in
-      let first = read-weight g l n (g .range) stored 0 gs gt (l .planes-low) hs ht in
-      rw (pair-of kind h ends (isSmall fp) x y, first, second (eqb (g .planes) 2) refl gs gt hs ht)
-    where
-      second : (t : Bool) → eqb (h .grid .planes) 2 ≡ t → (gs gt : ℕ) → gs ≤ 16 * (h .grid .width - 1) → gt ≤ 16 * (h .grid .height - 1)
-          → pick t (readOf levels (h .grid .width) (h .grid .planes) 1 gs gt) (infillOf weights (h .grid .width) (h .grid .height) (h .grid .planes) 0 gs gt)
-          ≡ pick t (infillOf weights (h .grid .width) (h .grid .height) (h .grid .planes) 1 gs gt) (infillOf weights (h .grid .width) (h .grid .height) (h .grid .planes) 0 gs gt)
-      second true e gs gt hs ht = read-weight (h .grid) l n (h .grid .range) stored 1 gs gt (let z = eqb-true (h .grid .planes) 2 e in omega (arith, z)) hs ht
-      second false e gs gt hs ht = refl
+      rw (pair-of kind h ends (isSmall fp) x y, read 0 gs gt hs ht, read 1 gs gt hs ht)
 
 one-of : (a b : ℕ) {k : ℕ} → k < a * b → 0 < a
 one-of a b h = elim (decLt 0 a) [
@@ -125,7 +121,7 @@ pairs-told B h kind {n} {from} {range} en ef er ee et =
 
 pub coded-told : (fp : ℕ) (kind : Kind) (B : ℕ) (h : Header) (l : List ℕ) → Limits (h .grid) → weightCount (h .grid) ≤ 64
     → {levels : List Level} {table : List ExpandedPair} {small : Bool} {seeds : Seeds} {component : ℕ} {f : Frame}
-    → levels ≡ roomyLevels (h .grid .range) (weightAt B h)
+    → levels ≡ weightLevels (h .grid .range) (weightAt B h)
     → table ≡ expandedTable kind (tableOf (h .modes) (h .partitions) (endpointLevels (endpointRangeOf h) (endpointAt B h)))
     → small ≡ isSmall fp → seeds ≡ seedsOf (h .index) (h .partitions) small → component ≡ pick (eqb (h .grid .planes) 2) (h .component) 4 → f ≡ frameOf fp
     → RowsTo (f .width) (texelIn (h .grid) component levels table seeds (h .partitions) f) l (f .height) → Shown fp (texelFrom fp kind h (endpointAt B h) (weightAt B h)) l

@@ -6,13 +6,11 @@ use mathlib.Core.List.{List, []}
 use lib.Dec.{eqb}
 use lib.ListN.{getD}
 use Rattle.laws.specs.Choice.{pick}
-use Rattle.laws.specs.Table.{tab}
 use Rattle.encoding.specs.declared.Level.{Level}
 use Rattle.footprint.specs.Footprint.{widthOf, heightOf}
 use Rattle.block_mode.specs.declared.WeightGrid.{WeightGrid}
 use Rattle.block_mode.specs.Back2D.{Limits}
 use Rattle.block_header.specs.Counts.{weightCount}
-use Rattle.quantization.specs.Unquantise.{unquantWeight}
 use Rattle.partition.specs.declared.Seeds.{Seeds}
 use Rattle.partition.specs.Seeds.{selectBy}
 use Rattle.weight_grid.specs.Place.{scaleOf, gridPlace}
@@ -31,17 +29,12 @@ noExpanded = record { c0 = []; c1 = [] }
 unfoldable pub frameOf : ℕ → Frame
 frameOf fp = record { width = widthOf fp; height = heightOf fp; across = scaleOf (widthOf fp); down = scaleOf (heightOf fp) }
 
--- the unquantised weights, and room past the sixty-four for neighbours outside the grid
-unfoldable pub roomyLevels : ℕ → (ℕ → ℕ) → List Level
-unfolding tab
-roomyLevels range stored = tab (λ i. level (unquantWeight range (stored i))) 96
-
 module _ (g : WeightGrid) (component : ℕ) (levels : List Level) (table : List ExpandedPair) (seeds : Seeds) (partitions : ℕ) where
   -- the texel at x, y, which lies at gs, gt of the grid; `component` takes the second weight, 4 standing for none
   unfoldable pub texelAt : ℕ → ℕ → ℕ → ℕ → Texel
   texelAt gs gt x y =
-      let first = readOf levels (g .width) (g .planes) 0 gs gt in
-      let second = pick (eqb (g .planes) 2) (readOf levels (g .width) (g .planes) 1 gs gt) first in
+      let first = readOf levels (g .width) (g .height) (g .planes) 0 gs gt in
+      let second = pick (eqb (g .planes) 2) (readOf levels (g .width) (g .height) (g .planes) 1 gs gt) first in
       texelOf (getD table (pick (eqb partitions 1) 0 (selectBy seeds x y)) noExpanded) (level first) (level second) component
 
   -- the texel at x, y of a block

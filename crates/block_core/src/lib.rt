@@ -29,10 +29,10 @@ ghost use Rattle.weight_grid.specs.Cell.{level};
 ghost use Rattle.weight_grid.specs.Bilinear.{blendOf};
 ghost use Rattle.block_mode.specs.Back2D.{Limits};
 ghost use Rattle.partition.specs.Seeds.{selectBy};
-ghost use Rattle.texel.specs.Meaning.{endpointLevels, solidTexel, texelFrom};
+ghost use Rattle.texel.specs.Meaning.{endpointLevels, weightLevels, solidTexel, texelFrom};
 ghost use Rattle.block_fault.specs.Bits.{colourAt, endpointsFrom, endpointAt, weightAt};
 ghost use Rattle.block_fault.specs.Faults.{faultOf};
-ghost use Rattle.block_core.specs.Prepared.{frameOf, roomyLevels, texelIn, Inside};
+ghost use Rattle.block_core.specs.Prepared.{frameOf, texelIn, Inside};
 ghost use Rattle.block_core.specs.Held.{RowsTo, Shown, Held};
 
 // A footprint's sides and the scale factors of a weight grid along them, once for each block.
@@ -112,12 +112,12 @@ fn put(out: &mut [u16; 576], i: usize, r: u16, g: u16, b: u16, a: u16)
     out[i + 3] = a;
 }
 
-// Row y of the texels. Its function reads the levels itself: no array is passed for a texel. A neighbour outside the grid is read too, its
-// factor is 0.
+// Row y of the texels. The function reads the levels itself: no array is passed for a texel. Only weights of the grid are read: at the
+// last column or row a point stands for its neighbour outside, whose factor is 0.
 fn paint_row(
     g: WeightGrid,
     component: u8,
-    levels: [Level; 96],
+    levels: [Level; 64],
     table: [ExpandedPair; 4],
     seeds: Seeds,
     partitions: u8,
@@ -133,20 +133,22 @@ fn paint_row(
     let row = (g.width as usize) * planes;
     let gt = weight_grid::grid_place(f.down, y, g.height);
     let from = ((gt / 16) as usize) * row;
+    let below = weight_grid::step(gt, g.height, row);
     let mut x: u8 = 0;
     while x < f.width {
         let gs = weight_grid::grid_place(f.across, x, g.width);
         let n = from + ((gs / 16) as usize) * planes;
+        let right = weight_grid::step(gs, g.width, planes);
         let l00 = levels[n];
-        let l01 = levels[n + planes];
-        let l10 = levels[n + row];
-        let l11 = levels[n + row + planes];
+        let l01 = levels[n + right];
+        let l10 = levels[n + below];
+        let l11 = levels[n + below + right];
         let first = weight_grid::infill(gs, gt, l00, l01, l10, l11);
-        let m = n + 1;
+        let m = n + (planes - 1);
         let k00 = levels[m];
-        let k01 = levels[m + planes];
-        let k10 = levels[m + row];
-        let k11 = levels[m + row + planes];
+        let k01 = levels[m + right];
+        let k10 = levels[m + below];
+        let k11 = levels[m + below + right];
         let second = second_weight(g.planes, first, gs, gt, k00, k01, k10, k11);
         let pair = table[partition_of(seeds, partitions, x, y)];
         let t = interpolation::mix_texel(pair, first, second, component);
@@ -159,7 +161,7 @@ fn paint_row(
 fn paint(
     g: WeightGrid,
     component: u8,
-    levels: [Level; 96],
+    levels: [Level; 64],
     table: [ExpandedPair; 4],
     seeds: Seeds,
     partitions: u8,
@@ -195,13 +197,13 @@ fn level_by(rule: Rule, s: Stored) -> Level
     quantization::unquantize(rule, s)
 }
 
-// The levels of the first n weights, and room past them.
-fn weight_levels(range: u8, xs: [Stored; 64], n: usize) -> [Level; 96]
+// The levels of the first n weights.
+fn weight_levels(range: u8, xs: [Stored; 64], n: usize) -> [Level; 64]
     requires { ⌜ n ≤ 64 ⌝ }
-    ensures { λ r. ⌜ r ≡ padded 96 n (λ i. level (unquantWeight range (getD xs i (stored 0) .0))) (level 0) ⌝ }
+    ensures { λ r. ⌜ r ≡ padded 64 n (λ i. level (unquantWeight range (getD xs i (stored 0) .0))) (level 0) ⌝ }
 {
     let rule = quantization::weight_rule(range);
-    let mut out = [Level(0); 96];
+    let mut out = [Level(0); 64];
     let mut i: usize = 0;
     while i < n {
         out[i] = level_by(rule, xs[i]);
@@ -226,9 +228,9 @@ fn endpoint_levels(range: u8, xs: [Stored; 64], n: usize) -> [Level; 18]
 }
 
 // The unquantised weights of a block.
-fn weights_of(block: PhysicalBlock, g: WeightGrid, n: u8) -> [Level; 96]
+fn weights_of(block: PhysicalBlock, g: WeightGrid, n: u8) -> [Level; 64]
     requires { ⌜ (n ≡ weightCount g) × (n ≤ 64) ⌝ }
-    ensures { λ r. ⌜ r ≡ roomyLevels (g .range) (λ i. pick (ltb i (weightCount g)) (number (encodingAt (g .range)) (bitsAt (g .range)) (sequenceAt (encodingAt (g .range)) (bitsAt (g .range)) (reverse 128 (blockNumber block)) 0 (weightCount g)) i) 0) ⌝ }
+    ensures { λ r. ⌜ r ≡ weightLevels (g .range) (λ i. pick (ltb i (weightCount g)) (number (encodingAt (g .range)) (bitsAt (g .range)) (sequenceAt (encodingAt (g .range)) (bitsAt (g .range)) (reverse 128 (blockNumber block)) 0 (weightCount g)) i) 0) ⌝ }
 {
     weight_levels(
         g.range,

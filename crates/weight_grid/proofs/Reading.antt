@@ -1,4 +1,4 @@
--- Neighbours outside the grid have the factor 0, so that they may be read as whatever stands there.
+-- Neighbours outside the grid have the factor 0, so that the point itself may stand for them: nothing outside the grid is read.
 -- Assumes nothing.
 use mathlib.Core.Path.{_≡_, refl, sym, ap, _∙_}
 use mathlib.Core.List.{List}
@@ -6,11 +6,12 @@ use Prim.Native.Nat.{ℕ, _+_, _-_, _*_, _/_, _%_, _≤_, _<_}
 use native.Mathlib.Nat.{le-trans, mul-le-mul-left, mul-le-mul-right, mul-assoc, mul-zero, zero-mul, add-mul}
 use native.Mathlib.Decide.{decLt}
 use native.Mathlib.Omega.{arith}
-use borrow.Author.Tests.{lt-ltb}
+use borrow.Author.Tests.{lt-ltb, le-ltb}
 use Rattle.encoding.specs.declared.Level.{Level}
 use Rattle.weight_grid.specs.Place.{gridPlace}
 use Rattle.weight_grid.specs.Cell.{weightAt, cellOf}
-use Rattle.weight_grid.specs.Bilinear.{w00, w01, w10, w11, blendOf, infillOf, readOf}
+use Rattle.weight_grid.specs.Bilinear.{w00, w01, w10, w11, blendOf, infillOf, stepOf, readOf}
+use Rattle.weight_grid.proofs.Points.{number-lt}
 
 -- at no fraction across, the right neighbours do not count
 right-none : (ft a b c d b′ d′ : ℕ) → blendOf 0 ft a b c d ≡ blendOf 0 ft a b′ c d′
@@ -45,10 +46,10 @@ module _ (levels : List Level) (width height planes plane : ℕ) where
   across : (x y : ℕ) → number x y + width * planes + planes ≡ number (x + 1) (y + 1)
   across x y = omega (arith, below x y, right x (y + 1))
 
-  -- up to the last column and row, every neighbour may be read
+  -- up to the last column and row
   pub read-agrees : (gs gt : ℕ) → 1 ≤ width → 1 ≤ height → gs ≤ 16 * (width - 1) → gt ≤ 16 * (height - 1)
-      → readOf levels width planes plane gs gt ≡ infillOf levels width height planes plane gs gt
-  unfolding readOf infillOf
+      → readOf levels width height planes plane gs gt ≡ infillOf levels width height planes plane gs gt
+  unfolding readOf stepOf infillOf
   read-agrees gs gt w h hs ht =
       let x = gs / 16 in
       let y = gt / 16 in
@@ -57,12 +58,35 @@ module _ (levels : List Level) (width height planes plane : ℕ) where
       let e00 = here x y hx hy refl in
       elim (decLt (x + 1) width) [
         | yes p ↦ elim (decLt (y + 1) height) [
-          | yes q ↦ rw (e00, here (x + 1) y p hy (right x y), here x (y + 1) hx q (below x y), here (x + 1) (y + 1) p q (across x y))
-          | no q ↦ let z : gt % 16 ≡ 0 = omega arith in rw (z, e00, here (x + 1) y p hy (right x y)) (below-none (gs % 16) _ _ _ _ _ _)
+          | yes q ↦ rw (lt-ltb (x + 1) width p, lt-ltb (y + 1) height q, e00, here (x + 1) y p hy (right x y), here x (y + 1) hx q (below x y), here (x + 1) (y + 1) p q (across x y))
+          | no q ↦ let z : gt % 16 ≡ 0 = omega arith in rw (z, lt-ltb (x + 1) width p, e00, here (x + 1) y p hy (right x y)) (below-none (gs % 16) _ _ _ _ _ _)
         ]
         | no p ↦ let u : gs % 16 ≡ 0 = omega arith in elim (decLt (y + 1) height) [
-          | yes q ↦ rw (u, e00, here x (y + 1) hx q (below x y)) (right-none (gt % 16) _ _ _ _ _ _)
+          | yes q ↦ rw (u, lt-ltb (y + 1) height q, e00, here x (y + 1) hx q (below x y)) (right-none (gt % 16) _ _ _ _ _ _)
           | no q ↦ let z : gt % 16 ≡ 0 = omega arith in rw (u, z, e00) (right-none 0 _ _ _ _ (cellOf levels width height planes plane (x + 1) y) 0 ∙ below-none 0 _ _ _ _ _ _)
+        ]
+      ]
+
+module _ (width height planes : ℕ) where
+  -- what is read is a weight of the grid, in the last plane too
+  pub read-lt : (gs gt : ℕ) → 1 ≤ width → 1 ≤ height → 1 ≤ planes → gs ≤ 16 * (width - 1) → gt ≤ 16 * (height - 1)
+      → gt / 16 * (width * planes) + gs / 16 * planes + stepOf gt height (width * planes) + stepOf gs width planes + (planes - 1) < width * height * planes
+  unfolding stepOf
+  read-lt gs gt w h p hs ht =
+      let x = gs / 16 in
+      let y = gt / 16 in
+      let hx : x < width = omega arith in
+      let hy : y < height = omega arith in
+      let at : (u v : ℕ) → u < width → v < height → v * (width * planes) + u * planes + (planes - 1) < width * height * planes =
+      λ u v hu hv. omega (arith, number-lt width height planes (planes - 1) u v hu hv (omega arith), start width planes (planes - 1) u v) in
+      elim (decLt (x + 1) width) [
+        | yes s ↦ elim (decLt (y + 1) height) [
+          | yes q ↦ rw (lt-ltb (x + 1) width s, lt-ltb (y + 1) height q) (omega (arith, at (x + 1) (y + 1) s q, add-mul x 1 planes, add-mul y 1 (width * planes)))
+          | no q ↦ rw (lt-ltb (x + 1) width s, le-ltb (y + 1) height (omega arith)) (omega (arith, at (x + 1) y s hy, add-mul x 1 planes))
+        ]
+        | no s ↦ elim (decLt (y + 1) height) [
+          | yes q ↦ rw (le-ltb (x + 1) width (omega arith), lt-ltb (y + 1) height q) (omega (arith, at x (y + 1) hx q, add-mul y 1 (width * planes)))
+          | no q ↦ rw (le-ltb (x + 1) width (omega arith), le-ltb (y + 1) height (omega arith)) (omega (arith, at x y hx hy))
         ]
       ]
 

@@ -2,6 +2,8 @@
 -- Assumes nothing.
 use Prim.Native.Nat.{ℕ, _+_, _-_, _*_, _/_, _%_}
 use mathlib.Core.List.{List}
+use lib.Dec.{ltb}
+use Rattle.laws.specs.Choice.{pick}
 use Rattle.encoding.specs.declared.Level.{Level}
 use Rattle.weight_grid.specs.Cell.{weightAt, cellOf}
 
@@ -31,10 +33,15 @@ infillOf levels width height planes plane gs gt =
     (cellOf levels width height planes plane (gs / 16) (gt / 16 + 1))
     (cellOf levels width height planes plane (gs / 16 + 1) (gt / 16 + 1))
 
--- the same with every neighbour read, in the grid or not: a neighbour outside has the factor 0. That both agree at the places of a block
--- is a theorem: proofs/Reading.antt.
-unfoldable pub readOf : List Level → ℕ → ℕ → ℕ → ℕ → ℕ → ℕ
-readOf levels width planes plane gs gt =
-    let row = width * planes in
-    let n = gt / 16 * row + gs / 16 * planes + plane in
-    blendOf (gs % 16) (gt % 16) (weightAt levels n) (weightAt levels (n + planes)) (weightAt levels (n + row)) (weightAt levels (n + row + planes))
+-- how far the next point lies in a list, from a place on an axis of so many points; 0 at the last point, past which nothing is read
+unfoldable pub stepOf : ℕ → ℕ → ℕ → ℕ
+stepOf place points size = pick (ltb (place / 16 + 1) points) size 0
+
+-- the same from the weights of the grid alone: at the last column or row a point stands for its neighbour, whose factor is 0. That both
+-- agree at the places of a block is a theorem: proofs/Reading.antt.
+unfoldable pub readOf : List Level → ℕ → ℕ → ℕ → ℕ → ℕ → ℕ → ℕ
+readOf levels width height planes plane gs gt =
+    let right = stepOf gs width planes in
+    let below = stepOf gt height (width * planes) in
+    let n = gt / 16 * (width * planes) + gs / 16 * planes + plane in
+    blendOf (gs % 16) (gt % 16) (weightAt levels n) (weightAt levels (n + right)) (weightAt levels (n + below)) (weightAt levels (n + below + right))

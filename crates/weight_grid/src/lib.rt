@@ -3,7 +3,7 @@ ghost use mathlib.Core.Path.{_≡_};
 ghost use Prim.Native.Nat.{_-_, _%_, _<_};
 ghost use Rattle.weight_grid.specs.Place.{scaleOf, gridPlace};
 ghost use Rattle.weight_grid.specs.Cell.{level};
-ghost use Rattle.weight_grid.specs.Bilinear.{blendOf};
+ghost use Rattle.weight_grid.specs.Bilinear.{blendOf, stepOf};
 use encoding::Level;
 
 fn less_one(n: u8) -> u32
@@ -28,6 +28,17 @@ pub fn grid_place(scale: u16, i: u8, points: u8) -> u32
     ensures { λ r. ⌜ r ≡ gridPlace scale i points ⌝ }
 {
     ((scale as u32) * (i as u32) * less_one(points) + 32) / 64
+}
+
+// How far the next point lies, from a place on an axis of so many points; 0 at the last one, whose neighbour is not read.
+pub fn step(place: u32, points: u8, size: usize) -> usize
+    ensures { λ r. ⌜ r ≡ stepOf place points size ⌝ }
+{
+    if place / 16 + 1 < (points as u32) {
+        size
+    } else {
+        0
+    }
 }
 
 // The factors of four neighbours, and their sum in sixteenths.

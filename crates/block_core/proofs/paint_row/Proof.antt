@@ -10,11 +10,11 @@ use Rattle.block_core.proofs.paint_row.Statement.{statement}
 use Rattle.block_core.proofs.paint_row.Tie as tie
 
 abbrev Inv-loop : tie.InvT-loop
-Inv-loop g component seeds partitions f y out₀ levels table planes row gt from x₀ out x =
+Inv-loop g component seeds partitions f y out₀ levels table planes row gt from below x₀ out x =
     (x ≤ f .width) × (RowsTo (f .width) (texelIn g component levels table seeds partitions f) out₀ y → Laid (f .width) (texelIn g component levels table seeds partitions f) out (4 * (y * f .width + x)))
 
 abbrev μ-loop : tie.MeasureT-loop
-μ-loop g component seeds partitions f y out₀ levels table planes row gt from x₀ out x = f .width - x
+μ-loop g component seeds partitions f y out₀ levels table planes row gt from below x₀ out x = f .width - x
 
 -- ---- where the row lies
 
@@ -31,26 +31,32 @@ from-le c =
 
 -- ---- where the texel lies
 
-across-le : (c : tie.After-grid-place2 Inv-loop μ-loop) → let a = c .before .before .before .before .before .before .before .args in c .grid-place2 .result ≤ 16 * (a .g .width - 1)
+across-le : (c : tie.After-grid-place2 Inv-loop μ-loop) → let a = c .before .before .before .before .before .before .before .before .args in c .grid-place2 .result ≤ 16 * (a .g .width - 1)
 across-le c =
-    let s = c .before .before .before .before .before .before .before in
+    let s = c .before .before .before .before .before .before .before .before in
     rw (c .grid-place2 .ensures) (s .pre .0 .columns (c .before .before .before .loop .x) (c .before .if1 .taken))
 
-room : (c : tie.After-grid-place2 Inv-loop μ-loop) → let a = c .before .before .before .before .before .before .before .args in
-    c .before .before .before .before .grid-place .result / 16 * (a .g .width * a .g .planes) + c .grid-place2 .result / 16 * a .g .planes + a .g .width * a .g .planes + a .g .planes + 1 < 96
+begins : (c : tie.After-grid-place2 Inv-loop μ-loop) → let a = c .before .before .before .before .before .before .before .before .args in
+    c .before .before .before .before .before .grid-place .result / 16 * (a .g .width * a .g .planes) + c .grid-place2 .result / 16 * a .g .planes < 64
+begins c =
+    let s = c .before .before .before .before .before .before .before .before in
+    omega (arith, reach (s .args .g) _ _ (s .pre .0 .limits) (s .pre .0 .count) (across-le c) (down-le (c .before .before .before .before .before)))
+
+room : (c : tie.After-step2 Inv-loop μ-loop) → let a = c .before .before .before .before .before .before .before .before .before .args in
+    c .before .before .before .before .before .before .grid-place .result / 16 * (a .g .width * a .g .planes) + c .before .grid-place2 .result / 16 * a .g .planes + c .before .before .before .before .before .step .result + c .step2 .result + (a .g .planes - 1) < 64
 room c =
-    let s = c .before .before .before .before .before .before .before in
-    reach (s .args .g) _ _ (s .pre .0 .limits) (s .pre .0 .count) (across-le c) (down-le (c .before .before .before .before))
+    let s = c .before .before .before .before .before .before .before .before .before in
+    rw (c .step2 .ensures, c .before .before .before .before .before .step .ensures) (reach (s .args .g) _ _ (s .pre .0 .limits) (s .pre .0 .count) (across-le (c .before)) (down-le (c .before .before .before .before .before .before)))
 
 -- the texel at the place
-shown : (c : tie.After-place Inv-loop μ-loop) → let a = c .before .before .before .before .before .before .before .before .before .before .before .before .before .before .before .before .before .before .before .before .before .before .args in
-    c .before .before .mix-texel .result ≡ texelIn (a .g) (a .component) (a .t3) (a .t4) (a .seeds) (a .partitions) (a .f) (c .before .before .before .before .before .before .before .before .before .before .before .before .before .before .before .before .before .before .loop .x) (a .y)
+shown : (c : tie.After-place Inv-loop μ-loop) → let a = c .before .before .before .before .before .before .before .before .before .before .before .before .before .before .before .before .before .before .before .before .before .before .before .before .args in
+    c .before .before .mix-texel .result ≡ texelIn (a .g) (a .component) (a .t3) (a .t4) (a .seeds) (a .partitions) (a .f) (c .before .before .before .before .before .before .before .before .before .before .before .before .before .before .before .before .before .before .before .loop .x) (a .y)
 unfolding texelIn
 shown c =
-    let a = c .before .before .before .before .before .before .before .before .before .before .before .before .before .before .before .before .before .before .before .before .before .before .args in
-    told (a .g) (a .component) (a .t3) (a .t4) (a .seeds) (a .partitions) _ _ (c .before .before .before .before .before .before .before .before .before .before .before .before .before .before .before .before .before .before .loop .x) (a .y) _ refl
+    let a = c .before .before .before .before .before .before .before .before .before .before .before .before .before .before .before .before .before .before .before .before .before .before .before .before .args in
+    told (a .g) (a .component) (a .t3) (a .t4) (a .seeds) (a .partitions) _ _ (c .before .before .before .before .before .before .before .before .before .before .before .before .before .before .before .before .before .before .before .loop .x) (a .y) _ refl (c .before .before .before .before .before .before .before .before .before .before .before .before .before .before .before .step2 .ensures) (c .before .before .before .before .before .before .before .before .before .before .before .before .before .before .before .before .before .before .before .before .step .ensures)
     (c .before .before .before .before .before .before .before .before .before .before .infill .ensures) (c .before .before .before .before .before .second-weight .ensures) (c .before .before .before .before .partition-of .ensures .0) (c .before .before .mix-texel .ensures)
-    ∙ rw (c .before .before .before .before .before .before .before .before .before .before .before .before .before .before .before .grid-place2 .ensures, c .before .before .before .before .before .before .before .before .before .before .before .before .before .before .before .before .before .before .before .grid-place .ensures)
+    ∙ rw (c .before .before .before .before .before .before .before .before .before .before .before .before .before .before .before .before .grid-place2 .ensures, c .before .before .before .before .before .before .before .before .before .before .before .before .before .before .before .before .before .before .before .before .before .grid-place .ensures)
 
 cast-planes : tie.Need-cast-planes Inv-loop μ-loop
 cast-planes c = search needs
@@ -70,6 +76,9 @@ cast-from c = search needs
 mul-from : tie.Need-mul-from Inv-loop μ-loop
 mul-from c = omega (arith, from-le c)
 
+step-requires : tie.Need-step-requires Inv-loop μ-loop
+step-requires c κs = search needs
+
 loop-holds : tie.Need-loop-holds Inv-loop μ-loop
 loop-holds c = (omega arith, rows-laid _ _ _ _)
 
@@ -80,10 +89,13 @@ cast-n : tie.Need-cast-n Inv-loop μ-loop
 cast-n c = search needs
 
 mul-n : tie.Need-mul-n Inv-loop μ-loop
-mul-n c = omega (arith, room c)
+mul-n c = omega (arith, begins c)
 
 add-n : tie.Need-add-n Inv-loop μ-loop
-add-n c = omega (arith, room c)
+add-n c = omega (arith, begins c)
+
+step-requires-2 : tie.Need-step-requires-2 Inv-loop μ-loop
+step-requires-2 c κs = search needs
 
 array-copy-out-l00 : tie.Need-array-copy-out-l00 Inv-loop μ-loop
 array-copy-out-l00 c = omega (arith, room c)
@@ -111,6 +123,9 @@ array-copy-out-l11 c = omega (arith, room (c .before .before .before))
 
 infill-requires : tie.Need-infill-requires Inv-loop μ-loop
 infill-requires c κs = search needs
+
+sub-m : tie.Need-sub-m Inv-loop μ-loop
+sub-m c = c .before .before .before .before .before .before .before .before .before .before .before .before .before .before .pre .0 .limits .planes-low
 
 add-m : tie.Need-add-m Inv-loop μ-loop
 add-m c = omega (arith, room (c .before .before .before .before .before))
@@ -159,22 +174,22 @@ place-requires c κs = search needs
 
 put-requires : tie.Need-put-requires Inv-loop μ-loop
 put-requires c κs =
-    let s = c .before .before .before .before .before .before .before .before .before .before .before .before .before .before .before .before .before .before .before .before .before .before in
-    rw (c .place .ensures) (place-fits (s .args .f .width) (s .args .f .height) _ (s .args .y) (s .pre .0 .width-most) (s .pre .0 .height-most) (c .before .before .before .before .before .before .before .before .before .before .before .before .before .before .before .before .if1 .taken) (s .pre .1))
+    let s = c .before .before .before .before .before .before .before .before .before .before .before .before .before .before .before .before .before .before .before .before .before .before .before .before in
+    rw (c .place .ensures) (place-fits (s .args .f .width) (s .args .f .height) _ (s .args .y) (s .pre .0 .width-most) (s .pre .0 .height-most) (c .before .before .before .before .before .before .before .before .before .before .before .before .before .before .before .before .before .if1 .taken) (s .pre .1))
 
 add-x : tie.Need-add-x Inv-loop μ-loop
-add-x c = omega (arith, c .before .before .before .before .before .before .before .before .before .before .before .before .before .before .before .before .before .if1 .taken, c .before .before .before .before .before .before .before .before .before .before .before .before .before .before .before .before .before .before .before .before .before .before .before .pre .0 .width-most)
+add-x c = omega (arith, c .before .before .before .before .before .before .before .before .before .before .before .before .before .before .before .before .before .before .if1 .taken, c .before .before .before .before .before .before .before .before .before .before .before .before .before .before .before .before .before .before .before .before .before .before .before .before .before .pre .0 .width-most)
 
 loop-less : tie.Need-loop-less Inv-loop μ-loop
-loop-less c = omega (arith, c .before .before .before .before .before .before .before .before .before .before .before .before .before .before .before .before .before .if1 .taken)
+loop-less c = omega (arith, c .before .before .before .before .before .before .before .before .before .before .before .before .before .before .before .before .before .before .if1 .taken)
 
 loop-again : tie.Need-loop-again Inv-loop μ-loop
 loop-again c =
     let d = c .before in
-    let s = d .before .before .before .before .before .before .before .before .before .before .before .before .before .before .before .before .before .before .before .before .before .before in
+    let s = d .before .before .before .before .before .before .before .before .before .before .before .before .before .before .before .before .before .before .before .before .before .before .before .before in
     let a = s .args in
-    let l = d .before .before .before .before .before .before .before .before .before .before .before .before .before .before .before .before .before .before .loop in
-    let t = d .before .before .before .before .before .before .before .before .before .before .before .before .before .before .before .before .if1 .taken in (
+    let l = d .before .before .before .before .before .before .before .before .before .before .before .before .before .before .before .before .before .before .before .loop in
+    let t = d .before .before .before .before .before .before .before .before .before .before .before .before .before .before .before .before .before .if1 .taken in (
       omega (arith, t),
       λ r. rw (c .put .ensures)
           (laid-texel (a .f .width) (texelIn (a .g) (a .component) (a .t3) (a .t4) (a .seeds) (a .partitions) (a .f)) (l .out) (l .x) (a .y) t
@@ -184,7 +199,7 @@ loop-again c =
 returns : tie.Need-returns Inv-loop μ-loop
 returns c =
     let l = c .before .before .loop in
-    let s = c .before .before .before .before .before .before in
+    let s = c .before .before .before .before .before .before .before in
     λ r. laid-rows (s .args .f .width) _ _ (l .x) (s .args .y) (omega (arith, c .if1 .left, l .inv .0)) (l .inv .1 r)
 
 pub paint-row-spec : {M : Type 1} → statement M
@@ -199,11 +214,13 @@ paint-row-spec =
     grid-place-requires
     cast-from
     mul-from
+    step-requires
     loop-holds
     grid-place-requires-2
     cast-n
     mul-n
     add-n
+    step-requires-2
     array-copy-out-l00
     add-l01
     array-copy-out-l01
@@ -213,6 +230,7 @@ paint-row-spec =
     add-l11-2
     array-copy-out-l11
     infill-requires
+    sub-m
     add-m
     array-copy-out-k00
     add-k01

@@ -8,7 +8,7 @@ use Rattle.block_core.proofs.weight_levels.Statement.{statement}
 use Rattle.block_core.proofs.weight_levels.Tie as tie
 
 abbrev Inv-loop : tie.InvT-loop
-Inv-loop range n xs rule out₀ i₀ out i = (i ≤ n) × SoFar 96 rule xs out i
+Inv-loop range n xs rule out₀ i₀ out i = (i ≤ n) × SoFar 64 rule xs out i
 
 abbrev μ-loop : tie.MeasureT-loop
 μ-loop range n xs rule out₀ i₀ out i = n - i
@@ -18,7 +18,7 @@ weight-rule-requires c κs = tt
 
 loop-holds : tie.Need-loop-holds Inv-loop μ-loop
 unfolding tab
-loop-holds c = (omega arith, so-far-start 96 _ _ _ refl)
+loop-holds c = (omega arith, so-far-start 64 _ _ _ refl)
 
 array-copy-out-level-by : tie.Need-array-copy-out-level-by Inv-loop μ-loop
 array-copy-out-level-by c = omega arith
@@ -36,10 +36,10 @@ loop-less : tie.Need-loop-less Inv-loop μ-loop
 loop-less c = omega arith
 
 loop-again : tie.Need-loop-again Inv-loop μ-loop
-loop-again c = (omega arith, so-far-next 96 _ _ (c .before .before .before .loop .out) (c .before .before .before .loop .i) (omega arith) refl (c .level-by .ensures .1) (c .level-by .ensures .0) (c .before .before .before .loop .inv .1))
+loop-again c = (omega arith, so-far-next 64 _ _ (c .before .before .before .loop .out) (c .before .before .before .loop .i) (omega arith) refl (c .level-by .ensures .1) (c .level-by .ensures .0) (c .before .before .before .loop .inv .1))
 
 returns : tie.Need-returns Inv-loop μ-loop
-returns c = so-far-done 96 _ _ (unquantWeight (c .before .before .before .args .range)) _ (c .before .loop .i) (c .before .before .before .args .n) (omega arith) (c .before .before .weight-rule .ensures) (c .before .loop .inv .1)
+returns c = so-far-done 64 _ _ (unquantWeight (c .before .before .before .args .range)) _ (c .before .loop .i) (c .before .before .before .args .n) (omega arith) (c .before .before .weight-rule .ensures) (c .before .loop .inv .1)
 
 pub weight-levels-spec : {M : Type 1} → statement M
 weight-levels-spec =
