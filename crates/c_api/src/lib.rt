@@ -73,7 +73,7 @@ fn put_tally(t: Tally, tally: &mut [u64])
 }
 
 // An image in kind 0: 0 or the refusal's number with `out` as it was. `tally` gets the count of faulty blocks and the raster index and
-// fault of the first one, zeros on a refusal; where it is not of 3 numbers the call answers 5 and writes nothing.
+// fault of the first one, zeros on a refusal; where it is not of 3 numbers the call is refused by 1, 3, 4 or else 5, and writes nothing.
 #[no_mangle]
 pub extern "C" fn astc_decode_image_unorm16(
     footprint: u8,
@@ -96,7 +96,7 @@ pub extern "C" fn astc_decode_image_unorm16(
 }
 
 // An image in kind 1: 0 or the refusal's number with `out` as it was. `tally` gets the count of faulty blocks and the raster index and
-// fault of the first one, zeros on a refusal; where it is not of 3 numbers the call answers 5 and writes nothing.
+// fault of the first one, zeros on a refusal; where it is not of 3 numbers the call is refused by 1, 3, 4 or else 5, and writes nothing.
 #[no_mangle]
 pub extern "C" fn astc_decode_image_srgb8(
     footprint: u8,
