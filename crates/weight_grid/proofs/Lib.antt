@@ -1,4 +1,4 @@
-pub mod Bounds
 pub mod Factors
+pub mod Planes
 pub mod Points
 pub mod Reading

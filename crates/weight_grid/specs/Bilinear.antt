@@ -33,6 +33,15 @@ infillOf levels width height planes plane gs gt =
     (cellOf levels width height planes plane (gs / 16) (gt / 16 + 1))
     (cellOf levels width height planes plane (gs / 16 + 1) (gt / 16 + 1))
 
+-- the weights of both planes at a point in one number: the first plane's in the low 16 bits, the second's above
+abbrev pub packed : ℕ → ℕ → ℕ
+packed a b = a + 65536 * b
+
+-- the blends of both planes in one sum, from the packed weights of the four corners; 524296 is packed 8 8, the rounding of each plane.
+-- That each plane of it is that plane's blend is a theorem: proofs/Planes.antt.
+unfoldable pub bothOf : ℕ → ℕ → ℕ → ℕ → ℕ → ℕ → ℕ
+bothOf fs ft p00 p01 p10 p11 = (p00 * w00 fs ft + p01 * w01 fs ft + p10 * w10 fs ft + p11 * w11 fs ft + 524296) / 16
+
 -- how far the next point lies in a list, from a place on an axis of so many points; 0 at the last point, past which nothing is read
 unfoldable pub stepOf : ℕ → ℕ → ℕ → ℕ
 stepOf place points size = pick (ltb (place / 16 + 1) points) size 0

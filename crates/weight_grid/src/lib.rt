@@ -1,10 +1,8 @@
 // The weight of a texel, from the weights of a grid that may be smaller than the block.
 ghost use mathlib.Core.Path.{_≡_};
-ghost use Prim.Native.Nat.{_-_, _%_, _<_};
+ghost use Prim.Native.Nat.{_-_, _%_, _≤_, _<_};
 ghost use Rattle.weight_grid.specs.Place.{scaleOf, gridPlace};
-ghost use Rattle.weight_grid.specs.Cell.{level};
-ghost use Rattle.weight_grid.specs.Bilinear.{blendOf, stepOf};
-use encoding::Level;
+ghost use Rattle.weight_grid.specs.Bilinear.{bothOf, stepOf};
 
 fn less_one(n: u8) -> u32
     ensures { λ r. ⌜ r ≡ n - 1 ⌝ }
@@ -41,22 +39,23 @@ pub fn step(place: u32, points: u8, size: usize) -> usize
     }
 }
 
-// The factors of four neighbours, and their sum in sixteenths.
-fn blend(fs: u32, ft: u32, p00: u8, p01: u8, p10: u8, p11: u8) -> u8
+// The factors of four neighbours, and the sum of their packed weights in sixteenths: both planes at once. 16711935 is 255 in each.
+fn blend_both(fs: u32, ft: u32, p00: u32, p01: u32, p10: u32, p11: u32) -> u32
     requires { ⌜ (fs < 16) × (ft < 16) ⌝ }
-    ensures { λ r. ⌜ r ≡ blendOf fs ft p00 p01 p10 p11 ⌝ }
+    requires { ⌜ (p00 ≤ 16711935) × (p01 ≤ 16711935) × (p10 ≤ 16711935) × (p11 ≤ 16711935) ⌝ }
+    ensures { λ r. ⌜ r ≡ bothOf fs ft p00 p01 p10 p11 ⌝ }
 {
     let w11 = (fs * ft + 8) / 16;
     let w10 = ft - w11;
     let w01 = fs - w11;
     let w00 = 16 + w11 - fs - ft;
-    (((p00 as u32) * w00 + (p01 as u32) * w01 + (p10 as u32) * w10 + (p11 as u32) * w11 + 8)
-        / 16) as u8
+    (p00 * w00 + p01 * w01 + p10 * w10 + p11 * w11 + 524296) / 16
 }
 
-// The weight at gs, gt of a grid, from the weights of its four neighbours there.
-pub fn infill(gs: u32, gt: u32, l00: Level, l01: Level, l10: Level, l11: Level) -> Level
-    ensures { λ r. ⌜ r ≡ level (blendOf (gs % 16) (gt % 16) (l00 .0) (l01 .0) (l10 .0) (l11 .0)) ⌝ }
+// The weights of both planes at gs, gt of a grid, packed, from those of its four neighbours there.
+pub fn infill_both(gs: u32, gt: u32, p00: u32, p01: u32, p10: u32, p11: u32) -> u32
+    requires { ⌜ (p00 ≤ 16711935) × (p01 ≤ 16711935) × (p10 ≤ 16711935) × (p11 ≤ 16711935) ⌝ }
+    ensures { λ r. ⌜ r ≡ bothOf (gs % 16) (gt % 16) p00 p01 p10 p11 ⌝ }
 {
-    Level(blend(gs % 16, gt % 16, l00.0, l01.0, l10.0, l11.0))
+    blend_both(gs % 16, gt % 16, p00, p01, p10, p11)
 }
