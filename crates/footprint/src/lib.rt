@@ -16,7 +16,7 @@ pub enum MaybeFootprint {
     Unknown,
 }
 
-// 01, "What is covered": the sides of footprints 0 to 13, four bits each, footprint 0 lowest.
+// 01, "What is covered": the widths of footprints 0 to 13, four bits each, footprint 0 lowest; then the heights.
 const WIDTHS: u64 = 0xCCAAAA88866554;
 
 const HEIGHTS: u64 = 0xCAA86586565544;
