@@ -1,5 +1,8 @@
 // The fourteen footprints: how many texels a block covers.
 ghost use mathlib.Core.Path.{_≡_};
+ghost use Prim.Native.Nat.{_*_, _/_, _%_, _^_};
+ghost use lib.Dec.{ltb};
+ghost use Rattle.laws.specs.Choice.{pick};
 ghost use Rattle.footprint.specs.Footprint.{footprintOf, sidesOf, widthOf, heightOf, texelsOf, isSmall};
 
 // A block's sides in texels.
@@ -13,39 +16,29 @@ pub enum MaybeFootprint {
     Unknown,
 }
 
-// 01, "What is covered": width and height of footprints 0 to 13.
-const SIDES: [[u8; 2]; 14] = [
-    [4, 4],
-    [5, 4],
-    [5, 5],
-    [6, 5],
-    [6, 6],
-    [8, 5],
-    [8, 6],
-    [8, 8],
-    [10, 5],
-    [10, 6],
-    [10, 8],
-    [10, 10],
-    [12, 10],
-    [12, 12],
-];
+// 01, "What is covered": the widths of footprints 0 to 13, four bits each, footprint 0 lowest; then the heights.
+const WIDTHS: u64 = 0xCCAAAA88866554;
+
+const HEIGHTS: u64 = 0xCAA86586565544;
+
+// The footprint's four bits of all; 0 where there is no such footprint.
+fn side_in(all: u64, fp: u8) -> u8
+    ensures { λ r. ⌜ r ≡ pick (ltb fp 14) (all / 2 ^ (4 * fp) % 16) 0 ⌝ }
+{
+    if fp < 14 {
+        ((all >> (4 * (fp as u32))) % 16) as u8
+    } else {
+        0
+    }
+}
 
 // The sides of a footprint; both 0 where there is no such footprint.
 pub fn sides_of(fp: u8) -> Footprint
     ensures { λ r. ⌜ r ≡ sidesOf fp ⌝ }
 {
-    let i = fp as usize;
-    if i < 14 {
-        Footprint {
-            width: SIDES[i][0],
-            height: SIDES[i][1],
-        }
-    } else {
-        Footprint {
-            width: 0,
-            height: 0,
-        }
+    Footprint {
+        width: side_in(WIDTHS, fp),
+        height: side_in(HEIGHTS, fp),
     }
 }
 

@@ -1,6 +1,6 @@
 // Which partition a texel belongs to: the seeds are made once for a block, the pattern is asked at each texel.
 ghost use mathlib.Core.Path.{_≡_};
-ghost use Prim.Native.Nat.{_-_, _<_, _≤_, max};
+ghost use Prim.Native.Nat.{_<_, _≤_, max};
 ghost use Rattle.laws.specs.Choice.{pick};
 ghost use Rattle.partition.specs.Hash.{hashOf};
 ghost use Rattle.partition.specs.Select.{bitShift, countShift, sh1, sh2, seedOf, firstLargest, doubled};
@@ -155,17 +155,24 @@ fn seeds_from(small: bool, rnum: u32, sh1: u32, sh2: u32, count: u8) -> Seeds
     Seeds { a, b, c, d }
 }
 
-fn less_one(count: u8) -> u32
-    ensures { λ r. ⌜ r ≡ count - 1 ⌝ }
-{
-    if count == 0 { 0 } else { (count as u32) - 1 }
-}
-
-// The seeds of a block with this partition index and so many partitions.
+// The seeds of a block with this partition index and so many partitions: with one there is nothing to choose, and no hash is made.
 pub fn partition_seeds(index: u16, count: u8, small: bool) -> Seeds
     ensures { λ r. ⌜ r ≡ seedsOf index count small ⌝ }
 {
-    let seed = (index as u32) + less_one(count) * 1024;
+    if count < 2 {
+        let none = Lane {
+            x: 0,
+            y: 0,
+            offset: 0,
+        };
+        return Seeds {
+            a: none,
+            b: none,
+            c: none,
+            d: none,
+        };
+    }
+    let seed = (index as u32) + ((count as u32) - 1) * 1024;
     let sh = shifts(seed, count);
     seeds_from(small, hash52(seed), sh.one, sh.two, count)
 }
