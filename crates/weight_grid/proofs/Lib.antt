@@ -1,4 +1,3 @@
 pub mod Factors
 pub mod Planes
-pub mod Points
 pub mod Reading
