@@ -6,19 +6,21 @@ use mathlib.Core.List.{List, [], _∷_}
 use Prim.Native.Nat.{ℕ, zero, suc, _+_, _*_, _/_, _≤_, _<_}
 use native.Mathlib.Nat.{mul-le-mul}
 use native.Mathlib.Omega.{arith}
-use lib.Dec.{eqb, leb}
+use lib.Dec.{eqb, leb, ltb}
 use lib.IntN.{ℤ, pos, _+ℤ_}
 use lib.ListN.{getD}
 use lib.Signed.{ltZ}
 use borrow.Author.Tests.{eqb-true}
 use Rattle.laws.specs.Choice.{pick}
+use Rattle.laws.proofs.Filling.{tab-all}
 use Rattle.encoding.specs.declared.Level.{Level}
 use Rattle.endpoint_arithmetic.specs.declared.BaseOffset.{BaseOffset}
 use Rattle.endpoint_arithmetic.specs.declared.EndpointPair.{EndpointPair}
 use Rattle.endpoint_arithmetic.specs.Signed.{bitTransfer, plainEnd, blueEnd}
 use Rattle.endpoint_arithmetic.specs.Pair.{zeroPair, luminancePair, scaledPair, rgbSum, blueOf, directPair, raisedPair, contractedPair, offsetPair}
 use Rattle.endpoint_arithmetic.proofs.Laws.{clamped-le}
-use Rattle.color_endpoint.specs.Modes.{level, lowLuminance, highLuminance, opaque, mode0, mode1, mode4, mode5, mode6, mode8, mode9, mode10, mode12, mode13, pairOf}
+use Rattle.color_endpoint.specs.Modes.{level, noLevel, lowLuminance, highLuminance, opaque, mode0, mode1, mode4, mode5, mode6, mode8, mode9, mode10, mode12, mode13, pairOf}
+use Rattle.color_endpoint.specs.Table.{startOf, numbersFrom, entryOf, tableOf}
 
 -- ---- the numbers that a mode takes
 
@@ -160,3 +162,21 @@ module _ (v : List Level) (l : (i : ℕ) → level v i ≤ 255) where
       (pick-bytes (eqb mode 12) (mode12 v) _ (direct-bytes _ _ (four _ _ _ _ (l 0) (l 2) (l 4) (l 6)) (four _ _ _ _ (l 1) (l 3) (l 5) (l 7)))
       (pick-bytes (eqb mode 13) (mode13 v) _ (offset-bytes _ _ _ _)
       zero-bytes)))))))))
+
+-- the pairs of a table, from levels up to 255
+module _ (modes : List ℕ) (count : ℕ) (levels : List Level) (l : (i : ℕ) → level levels i ≤ 255) where
+  numbers-le : (start i : ℕ) → level (numbersFrom levels start) i ≤ 255
+  unfolding numbersFrom
+  numbers-le start i = tab-all (λ x. x .0 ≤ 255) (λ k. getD levels (start + k) noLevel) noLevel (λ k. l (start + k)) (omega arith) 8 i
+
+  entry-bytes : (p : ℕ) → Bytes (entryOf modes count levels p)
+  unfolding entryOf
+  entry-bytes p = pick-bytes (ltb p count) (pairOf (getD modes p 0) (numbersFrom levels (startOf modes p))) zeroPair (pair-bytes (numbersFrom levels (startOf modes p)) (numbers-le (startOf modes p)) (getD modes p 0)) zero-bytes
+
+  pub table-bytes : (p : ℕ) (d : EndpointPair) → p < 4 → Bytes (getD (tableOf modes count levels) p d)
+  unfolding tableOf
+  table-bytes zero d h = entry-bytes 0
+  table-bytes (suc zero) d h = entry-bytes 1
+  table-bytes (suc (suc zero)) d h = entry-bytes 2
+  table-bytes (suc (suc (suc zero))) d h = entry-bytes 3
+  table-bytes (suc (suc (suc (suc p)))) d h = absurd (omega arith)

@@ -174,7 +174,7 @@ fn numbers_from(levels: [Level; 18], start: u32) -> [Level; 8]
 }
 
 // How many partitions of the table are filled.
-fn filled(count: u8) -> usize
+pub fn filled(count: u8) -> usize
     ensures { λ r. ⌜ r ≡ min count 4 ⌝ }
 {
     if count < 4 { count as usize } else { 4 }

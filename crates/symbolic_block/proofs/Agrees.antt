@@ -7,11 +7,11 @@ use Prim.Native.Nat.{ℕ, zero, suc, _+_, _-_, _*_, _/_, _%_, _≤_, _<_}
 use native.Mathlib.Decide.{decLt}
 use native.Mathlib.Omega.{arith}
 use lib.Dec.{eqb, ltb}
-use lib.ListN.{length, getD, List·getD-eq-default}
+use lib.ListN.{getD}
 use borrow.Author.Tests.{eqb-true, eqb-false, eq-eqb, ne-eqb, ltb-true}
 use Rattle.laws.specs.Choice.{pick, both}
 use Rattle.laws.specs.Table.{tab}
-use Rattle.laws.proofs.Filling.{getD-tab, length-tab}
+use Rattle.laws.proofs.Filling.{getD-tab, tab-all}
 use Rattle.encoding.specs.declared.Level.{Level}
 use Rattle.quantization.specs.Ranges.{endpointRange}
 use Rattle.quantization.specs.Unquantise.{unquantEndpoint, unquantWeight}
@@ -47,17 +47,7 @@ pub record Counted (s : SymbolicBlock) : Type 0 where
 
 -- numbers in a list of levels up to 255
 levels-le : (g : ℕ → ℕ) → ((i : ℕ) → g i ≤ 255) → (n k : ℕ) → modes.level (tab (λ i. level (g i)) n) k ≤ 255
-levels-le g h n k =
-    elim (decLt k n) [
-      | yes l ↦
-          let e : modes.level (tab (λ i. level (g i)) n) k ≡ g k = ap (λ (x : Level). x .0) (getD-tab (λ i. level (g i)) n k modes.noLevel l) in
-          omega (arith, e, h k)
-      | no l ↦
-          let m : length (tab (λ i. level (g i)) n) ≡ n = length-tab (λ i. level (g i)) n in
-          let past = List·getD-eq-default (tab (λ i. level (g i)) n) modes.noLevel {n = k} (omega (arith, m)) in
-          let e : modes.level (tab (λ i. level (g i)) n) k ≡ 0 = ap (λ (x : Level). x .0) past in
-          omega (arith, e)
-    ]
+levels-le g h n k = tab-all (λ x. x .0 ≤ 255) (λ i. level (g i)) modes.noLevel h (omega arith) n k
 
 -- ---- mixing
 

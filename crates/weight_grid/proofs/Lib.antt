@@ -1,3 +1,4 @@
 pub mod Factors
 pub mod Planes
+pub mod Points
 pub mod Reading

@@ -4,7 +4,7 @@ use mathlib.Core.Path.{_≡_, refl, sym, ap, _∙_}
 use mathlib.Core.Bool.{Bool, true, false}
 use mathlib.Core.List.{List}
 use Prim.Native.Nat.{ℕ, _+_, _-_, _*_, _/_, _%_, _≤_, _<_}
-use native.Mathlib.Nat.{le-trans, mul-le-mul-left, mul-le-mul-right, mul-comm, mul-zero, zero-mul, add-mul, suc-mul}
+use native.Mathlib.Nat.{le-trans, mul-le-mul-left, mul-le-mul-right, mul-zero, zero-mul, add-mul}
 use native.Mathlib.Decide.{decLt}
 use native.Mathlib.Omega.{arith}
 use lib.Dec.{eqb}
@@ -18,6 +18,7 @@ use Rattle.weight_grid.specs.Cell.{weightAt, cellOf}
 use Rattle.weight_grid.specs.Bilinear.{w00, w01, w10, w11, blendOf, infillOf, packed, bothOf, stepOf, readOf, pointOf, pointsOf}
 use Rattle.weight_grid.proofs.Factors.{blend-le}
 use Rattle.weight_grid.proofs.Planes.{first-plane, second-plane}
+use Rattle.weight_grid.proofs.Points.{point-lt}
 
 -- at no fraction across, the right neighbours do not count
 right-none : (ft a b c d b′ d′ : ℕ) → blendOf 0 ft a b c d ≡ blendOf 0 ft a b′ c d′
@@ -28,10 +29,6 @@ right-none ft a b c d b′ d′ = rw (zero-mul ft) (omega arith)
 below-none : (fs a b c d c′ d′ : ℕ) → blendOf fs 0 a b c d ≡ blendOf fs 0 a b c′ d′
 unfolding blendOf w00 w01 w10 w11
 below-none fs a b c d c′ d′ = rw (mul-zero fs) (omega arith)
-
--- the point at x, y is one of the grid's
-pub point-lt : (width height x y : ℕ) → x < width → y < height → y * width + x < width * height
-point-lt width height x y hx hy = omega (arith, mul-le-mul-right width hy, suc-mul y width, mul-comm width height)
 
 module _ (width height gs gt : ℕ) (w : 1 ≤ width) (h : 1 ≤ height) (hs : gs ≤ 16 * (width - 1)) (ht : gt ≤ 16 * (height - 1)) where
   -- what is read is a point of the grid
