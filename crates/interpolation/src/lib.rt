@@ -1,21 +1,20 @@
-// Endpoints expanded to 16 bits and mixed by weights into a texel.
+// Endpoints mixed by weights into a texel of 16-bit numbers.
 ghost use mathlib.Core.Path.{_≡_};
-ghost use Prim.Native.Nat.{_-_, _/_, _<_, _≤_, _%_};
-ghost use Rattle.interpolation.specs.Expansion.{
-  replicated,
-  centred,
-  colourOf,
-  alphaOf,
-  expandOf,
-  expandedEnd,
-  expandedPair,
-  expandedTable,
+ghost use Prim.Native.Nat.{_*_, _/_};
+ghost use Rattle.interpolation.specs.Line.{
+  times,
+  minus,
+  onLine,
+  lowOf,
+  addOf,
+  lineOf,
+  lineTexel,
 };
-ghost use Rattle.interpolation.specs.Texel.{mixOf, texelOf};
 ghost use lib.Dec.{eqb};
 ghost use Rattle.laws.specs.Choice.{pick};
-use encoding::Level;
 use endpoint_arithmetic::EndpointPair;
+use std::num::wrapping_add_u16;
+use std::num::wrapping_sub_u16;
 
 // What a texel's numbers are: 01's kind 0, 16-bit numbers, and kind 1, sRGB bytes before the sRGB curve.
 pub enum Kind {
@@ -23,7 +22,7 @@ pub enum Kind {
     Srgb8,
 }
 
-// An endpoint pair in 16 bits, each R, G, B, A.
+// An endpoint pair in 16 bits, each R, G, B, A. Only definitions speak of it (`texelOf`): the code mixes on lines.
 pub struct ExpandedPair {
     pub c0: [u16; 4],
     pub c1: [u16; 4],
@@ -37,86 +36,6 @@ pub struct Texel {
     pub a: u16,
 }
 
-// The byte twice.
-fn replicate(c: u8) -> u16
-    ensures { λ r. ⌜ r ≡ replicated c ⌝ }
-{
-    257 * (c as u16)
-}
-
-// The byte, and 0x80 below it.
-fn centre(c: u8) -> u16
-    ensures { λ r. ⌜ r ≡ centred c ⌝ }
-{
-    256 * (c as u16) + 128
-}
-
-// R, G or B.
-fn expand_colour(kind: Kind, c: u8) -> u16
-    ensures { λ r. ⌜ r ≡ colourOf kind c ⌝ }
-{
-    match kind {
-        Kind::Unorm16 => replicate(c),
-        Kind::Srgb8 => centre(c),
-    }
-}
-
-// A.
-fn expand_alpha(kind: Kind, c: u8) -> u16
-    ensures { λ r. ⌜ r ≡ alphaOf kind c ⌝ }
-{
-    match kind {
-        Kind::Unorm16 => replicate(c),
-        Kind::Srgb8 => replicate(c),
-    }
-}
-
-// A channel of an endpoint (01: widen), by its place in R, G, B, A.
-pub fn expand(kind: Kind, channel: u8, c: u8) -> u16
-    ensures { λ r. ⌜ r ≡ expandOf kind channel c ⌝ }
-{
-    if channel == 3 {
-        expand_alpha(kind, c)
-    } else {
-        expand_colour(kind, c)
-    }
-}
-
-// An endpoint, expanded.
-fn expand_end(kind: Kind, e: [u8; 4]) -> [u16; 4]
-    ensures { λ r. ⌜ r ≡ expandedEnd kind e ⌝ }
-{
-    [
-        expand(kind, 0, e[0]),
-        expand(kind, 1, e[1]),
-        expand(kind, 2, e[2]),
-        expand(kind, 3, e[3]),
-    ]
-}
-
-// An endpoint pair, expanded.
-pub fn expand_pair(kind: Kind, p: EndpointPair) -> ExpandedPair
-    ensures { λ r. ⌜ r ≡ expandedPair kind p ⌝ }
-{
-    let e0 = p.e0;
-    let e1 = p.e1;
-    let c0 = expand_end(kind, e0);
-    let c1 = expand_end(kind, e1);
-    ExpandedPair { c0, c1 }
-}
-
-// The table of four partitions, once for each block.
-pub fn expand_table(kind: Kind, t: [EndpointPair; 4]) -> [ExpandedPair; 4]
-    ensures { λ r. ⌜ r ≡ expandedTable kind t ⌝ }
-{
-    [
-        expand_pair(kind, t[0]),
-        expand_pair(kind, t[1]),
-        expand_pair(kind, t[2]),
-        expand_pair(kind, t[3]),
-    ]
-}
-
 // What kind 1 shows of a 16-bit number; kind 0 shows all of it.
 pub fn top_byte(n: u16) -> u8
     ensures { λ r. ⌜ r ≡ n / 256 ⌝ }
@@ -124,47 +43,111 @@ pub fn top_byte(n: u16) -> u8
     (n / 256) as u8
 }
 
-// What is left of 64.
-fn rest(i: u16) -> u16
-    ensures { λ r. ⌜ (r ≡ 64 - i) × (r ≤ 64) ⌝ }
+// The product modulo 65536.
+fn times(a: u16, b: u16) -> u16
+    ensures { λ r. ⌜ r ≡ times a b ⌝ }
 {
-    if i < 64 { 64 - i } else { 0 }
+    (((a as u32) * (b as u32)) % 65536) as u16
 }
 
-// Two expanded channels mixed by a weight.
-fn mix(c0: u16, c1: u16, i: u16) -> u32
-    requires { ⌜ i ≤ 255 ⌝ }
-    ensures { λ r. ⌜ r ≡ mixOf c0 c1 i ⌝ }
+// A channel's mixed number at a weight, from its line.
+fn on_line(start: u16, step: u16, k: u16, add: u16, i: u16) -> u16
+    ensures { λ r. ⌜ r ≡ onLine start step k add i ⌝ }
 {
-    ((c0 as u32) * (rest(i) as u32) + (c1 as u32) * (i as u32) + 32) / 64
-}
-
-// The same as 16 bits.
-fn mix_channel(c0: u16, c1: u16, i: u16) -> u16
-    requires { ⌜ i ≤ 255 ⌝ }
-    ensures { λ r. ⌜ r ≡ mixOf c0 c1 i % 65536 ⌝ }
-{
-    (mix(c0, c1, i) % 65536) as u16
+    let t = wrapping_add_u16(start, times(step, i));
+    wrapping_add_u16(times(t, 4), wrapping_add_u16(times(t, k), add) / 64)
 }
 
 // The weight of a channel. Sixteen bits each, as the channels are, so that four are chosen and mixed at once.
 fn weight(component: u8, first: u16, second: u16, channel: u8) -> u16
-    requires { ⌜ (first ≤ 255) × (second ≤ 255) ⌝ }
-    ensures { λ r. ⌜ (r ≡ pick (eqb channel component) second first) × (r ≤ 255) ⌝ }
+    ensures { λ r. ⌜ r ≡ pick (eqb channel component) second first ⌝ }
 {
     if channel == component { second } else { first }
 }
 
-// A texel; the component that the component selector names (01: plane channel) takes the second weight, 4 or more standing for none.
-pub fn mix_texel(p: ExpandedPair, first: Level, second: Level, component: u8) -> Texel
-    ensures { λ r. ⌜ r ≡ texelOf p first second component ⌝ }
+// A texel on the lines of its pair; the component that the component selector names (01: plane channel) takes the second weight, 4 or
+// more standing for none.
+pub fn mix_line(l: [u16; 16], first: u16, second: u16, component: u8) -> Texel
+    ensures { λ r. ⌜ r ≡ lineTexel l first second component ⌝ }
 {
-    let i = first.0 as u16;
-    let j = second.0 as u16;
     Texel {
-        r: mix_channel(p.c0[0], p.c1[0], weight(component, i, j, 0)),
-        g: mix_channel(p.c0[1], p.c1[1], weight(component, i, j, 1)),
-        b: mix_channel(p.c0[2], p.c1[2], weight(component, i, j, 2)),
-        a: mix_channel(p.c0[3], p.c1[3], weight(component, i, j, 3)),
+        r: on_line(l[0], l[4], l[8], l[12], weight(component, first, second, 0)),
+        g: on_line(l[1], l[5], l[9], l[13], weight(component, first, second, 1)),
+        b: on_line(
+            l[2],
+            l[6],
+            l[10],
+            l[14],
+            weight(component, first, second, 2),
+        ),
+        a: on_line(
+            l[3],
+            l[7],
+            l[11],
+            l[15],
+            weight(component, first, second, 3),
+        ),
     }
+}
+
+// Where a channel's line starts: the first endpoint in sixty-fourths.
+fn start(e0: u8) -> u16
+    ensures { λ r. ⌜ r ≡ 64 * e0 ⌝ }
+{
+    64 * (e0 as u16)
+}
+
+// How far it goes for each sixty-fourth of weight.
+fn slope(e0: u8, e1: u8) -> u16
+    ensures { λ r. ⌜ r ≡ minus e1 e0 ⌝ }
+{
+    wrapping_sub_u16(e1 as u16, e0 as u16)
+}
+
+// How often R, G and B add the mixed byte below itself.
+fn low(kind: Kind) -> u16
+    ensures { λ r. ⌜ r ≡ lowOf kind ⌝ }
+{
+    match kind {
+        Kind::Unorm16 => 1,
+        Kind::Srgb8 => 0,
+    }
+}
+
+// What they add there besides, in sixty-fourths.
+fn added(kind: Kind) -> u16
+    ensures { λ r. ⌜ r ≡ addOf kind ⌝ }
+{
+    match kind {
+        Kind::Unorm16 => 32,
+        Kind::Srgb8 => 8192,
+    }
+}
+
+// The lines of an endpoint pair: four starts, four steps, and what the four add below the mixed byte: how often itself, and what besides.
+pub fn line_of(kind: Kind, p: EndpointPair) -> [u16; 16]
+    ensures { λ r. ⌜ r ≡ lineOf kind p ⌝ }
+{
+    let x = p.e0;
+    let y = p.e1;
+    let k = low(kind);
+    let n = added(kind);
+    [
+        start(x[0]),
+        start(x[1]),
+        start(x[2]),
+        start(x[3]),
+        slope(x[0], y[0]),
+        slope(x[1], y[1]),
+        slope(x[2], y[2]),
+        slope(x[3], y[3]),
+        k,
+        k,
+        k,
+        1,
+        n,
+        n,
+        n,
+        32,
+    ]
 }

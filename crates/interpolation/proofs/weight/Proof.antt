@@ -4,10 +4,10 @@ use Rattle.interpolation.proofs.weight.Statement.{statement}
 use Rattle.interpolation.proofs.weight.Tie as tie
 
 returns : tie.Need-returns
-returns c = (rw (eq-eqb _ _ (c .if1 .taken)), c .before .pre .1)
+returns c = rw (eq-eqb _ _ (c .if1 .taken))
 
 returns-2 : tie.Need-returns-2
-returns-2 c = (rw (ne-eqb _ _ (c .if1 .left)), c .before .pre .0)
+returns-2 c = rw (ne-eqb _ _ (c .if1 .left))
 
 pub weight-spec : {M : Type 1} → statement M
 weight-spec = tie.close (tie.spec returns returns-2)
