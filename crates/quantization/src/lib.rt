@@ -4,6 +4,7 @@ use encoding::Level;
 use encoding::Stored;
 ghost use mathlib.Core.Path.{_≡_};
 ghost use Prim.Native.Nat.{_-_, _≤_};
+ghost use Rattle.laws.specs.Choice.{pick};
 ghost use Rattle.quantization.specs.Ranges.{encodingAt, bitsAt, mostAt, rangeBits, endpointRange};
 ghost use Rattle.quantization.specs.Unquantise.{unquantEndpoint, unquantWeight};
 ghost use Rattle.quantization.specs.Products.{stepped, byRule, Right};
@@ -68,20 +69,35 @@ pub fn bits_left(available: u32, used: u32) -> u32
     available - used
 }
 
+// A choice between two numbers that are there already, which takes no branch.
+fn chosen(first: bool, x: u8, y: u8) -> u8
+    ensures { λ r. ⌜ r ≡ pick first x y ⌝ }
+{
+    if first { x } else { y }
+}
+
+// Ranges 3k + 1, 3k + 2 and 3k + 3 have k bits and a trit, k + 2 bits, and k bits and a quint, and take more bits in this order.
 // The largest endpoint range of which count numbers fit into the bits left, by their rounded total.
 pub fn endpoint_range(count: u32, left: u32) -> u8
     ensures { λ r. ⌜ r ≡ endpointRange count left ⌝ }
 {
     let most = left as u64;
-    let mut i: u8 = 16;
+    let n = count as u64;
+    let trits = encoding::code_bits(Encoding::Trits, count);
+    let quints = encoding::code_bits(Encoding::Quints, count);
+    let mut k: u8 = 6;
     loop {
-        if i == 0 {
+        if k == 0 {
             break 4;
         }
-        if range_bits(4 + i, count) <= most {
-            break 4 + i;
+        let low = n * (k as u64);
+        if low + trits <= most {
+            let before = 3 * k;
+            let second = chosen(low + 2 * n <= most, before + 2, before + 1);
+            let third = chosen(low + quints <= most, before + 3, second);
+            break chosen(k < 6, third, second);
         }
-        i -= 1;
+        k -= 1;
     }
 }
 
