@@ -1,11 +1,13 @@
--- The levels: their bounds, and the rules by which the code reckons them.
+-- The levels: their bounds, and the rules and the words by which the code has them.
 -- Assumes nothing.
-use mathlib.Core.Path.{_≡_, refl}
+use mathlib.Core.Path.{_≡_, refl, sym}
 use mathlib.Core.Bool.{Bool, true, false}
+use mathlib.Core.List.{List, [], _∷_}
 use Prim.Native.Nat.{ℕ, _≤_, _<_}
+use native.Mathlib.Decide.{decLt}
 use native.Mathlib.Omega.{arith}
 use lib.Dec.{T, leb, leb→le}
-use borrow.Author.Tests.{lt-leb}
+use borrow.Author.Tests.{lt-leb, le-ltb}
 use Rattle.laws.specs.Choice.{both, all}
 use Rattle.laws.specs.Table.{tab}
 use Rattle.laws.proofs.Computed.{both-left, both-right, each}
@@ -13,7 +15,8 @@ use Rattle.quantization.specs.declared.Rule.{Rule}
 use Rattle.quantization.specs.Ranges.{mostAt}
 use Rattle.quantization.specs.Unquantise.{isEndpoint, isWeight, unquantEndpoint, unquantWeight}
 use Rattle.quantization.specs.Products.{byRule, Right}
-use Rattle.quantization.proofs.Ranges.{same-below, most-le}
+use Rattle.quantization.specs.Words.{byWords, RightWords}
+use Rattle.quantization.proofs.Ranges.{same-below, most-le, weight-most-le}
 
 endpoint-test : T (all (λ k. all (λ v. leb (unquantEndpoint k v) 255) 256) 21)
 unfolding unquantEndpoint
@@ -57,7 +60,7 @@ right level r e = same-below (byRule r) level 256 0 e
 
 -- the rule of no range
 abbrev pub none : Rule
-none = record { 0 = 0; 1 = 0; 2 = 0; 3 = 0; 4 = 0; 5 = 0; 6 = 0 }
+none = record { 0 = 0; 1 = 0; 2 = 0; 3 = 0; 4 = 0; 5 = 0 }
 
 by-none : (v : ℕ) → v < 256 → byRule none v ≡ 0
 unfolding byRule tab
@@ -75,6 +78,20 @@ pub no-endpoint-high : (k : ℕ) → 20 < k → Right (unquantEndpoint k) none
 unfolding Right unquantEndpoint
 no-endpoint-high k h v hv = rw (lt-leb k 20 h, both-no (leb 4 k)) (by-none v hv)
 
-pub no-weight : (k : ℕ) → 11 < k → Right (unquantWeight k) none
-unfolding Right unquantWeight
-no-weight k h v hv = rw (lt-leb k 11 h) (by-none v hv)
+-- ---- words are right where they give the table of the range's 32 levels, which antt computes
+
+words : (level : ℕ → ℕ) (ws : List ℕ) → tab (byWords ws) 32 ≡ tab level 32 → ((v : ℕ) → 32 ≤ v → level v ≡ 0) → RightWords level ws
+unfolding RightWords byWords
+words level ws t none v =
+    elim (decLt v 32) [
+      | yes p ↦ same-below (byWords ws) level 32 0 t v p
+      | no p ↦ rw (le-ltb v 32 (omega arith)) (sym (none v (omega arith)))
+    ]
+
+pub right-words : (k : ℕ) (ws : List ℕ) → k ≤ 11 → tab (byWords ws) 32 ≡ tab (unquantWeight k) 32 → RightWords (unquantWeight k) ws
+unfolding unquantWeight
+right-words k ws h t = words (unquantWeight k) ws t (λ v l. rw (lt-leb v (mostAt k) (omega (arith, weight-most-le k h)), both-no (leb k 11)))
+
+pub no-words : (k : ℕ) → 11 < k → RightWords (unquantWeight k) (0 ∷ 0 ∷ 0 ∷ 0 ∷ [])
+unfolding RightWords unquantWeight tab byWords
+no-words k h v = rw (lt-leb k 11 h) (words (λ v. 0) (0 ∷ 0 ∷ 0 ∷ 0 ∷ []) refl (λ v l. refl) v)

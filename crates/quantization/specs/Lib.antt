@@ -1,3 +1,4 @@
 pub mod Ranges
 pub mod Unquantise
 pub mod Products
+pub mod Words

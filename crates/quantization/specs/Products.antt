@@ -7,16 +7,11 @@ use lib.Dec.{ltb}
 use Rattle.laws.specs.Choice.{pick}
 use Rattle.quantization.specs.declared.Rule.{Rule}
 
--- one more above the limit, as a byte
-unfoldable pub stepped : ℕ → ℕ → ℕ
-stepped level limit = pick (ltb limit level) (level + 1) level % 256
-
 -- A is v % 2 * r .5, B and D are products of the stored number; 0 above the range
 unfoldable pub byRule : Rule → ℕ → ℕ
-unfolding stepped
 byRule r v =
     pick (ltb (r .0) v) 0
-    (stepped ((v % 2 * r .5 + 1) / 4 + bitXor (v * r .1 / 256 * r .3 + bitAnd v (r .2) * r .4 / 128) (v % 2 * r .5) / 4) (r .6))
+    (((v % 2 * r .5 + 1) / 4 + bitXor (v * r .1 / 256 * r .3 + bitAnd v (r .2) * r .4 / 128) (v % 2 * r .5) / 4) % 256)
 
 -- the rule gives each stored number its level
 unfoldable pub Right : (ℕ → ℕ) → Rule → Type 0

@@ -4,9 +4,11 @@ use encoding::Level;
 use encoding::Stored;
 ghost use mathlib.Core.Path.{_≡_};
 ghost use Prim.Native.Nat.{_-_, _≤_};
+ghost use Rattle.laws.specs.Choice.{pick};
 ghost use Rattle.quantization.specs.Ranges.{encodingAt, bitsAt, mostAt, rangeBits, endpointRange};
 ghost use Rattle.quantization.specs.Unquantise.{unquantEndpoint, unquantWeight};
-ghost use Rattle.quantization.specs.Products.{stepped, byRule, Right};
+ghost use Rattle.quantization.specs.Products.{byRule, Right};
+ghost use Rattle.quantization.specs.Words.{byWords, RightWords};
 
 // What stands above the bits of a number of the range. From range 1 on trits, bits and quints take turns.
 pub fn encoding_at(range: u8) -> Encoding
@@ -68,73 +70,66 @@ pub fn bits_left(available: u32, used: u32) -> u32
     available - used
 }
 
+// A choice between two numbers that are there already, which takes no branch.
+fn chosen(first: bool, x: u8, y: u8) -> u8
+    ensures { λ r. ⌜ r ≡ pick first x y ⌝ }
+{
+    if first { x } else { y }
+}
+
+// Ranges 3k + 1, 3k + 2 and 3k + 3 have k bits and a trit, k + 2 bits, and k bits and a quint, and take more bits in this order.
 // The largest endpoint range of which count numbers fit into the bits left, by their rounded total.
 pub fn endpoint_range(count: u32, left: u32) -> u8
     ensures { λ r. ⌜ r ≡ endpointRange count left ⌝ }
 {
     let most = left as u64;
-    let mut i: u8 = 16;
+    let n = count as u64;
+    let trits = encoding::code_bits(Encoding::Trits, count);
+    let quints = encoding::code_bits(Encoding::Quints, count);
+    let mut k: u8 = 6;
     loop {
-        if i == 0 {
+        if k == 0 {
             break 4;
         }
-        if range_bits(4 + i, count) <= most {
-            break 4 + i;
+        let low = n * (k as u64);
+        if low + trits <= most {
+            let before = 3 * k;
+            let second = chosen(low + 2 * n <= most, before + 2, before + 1);
+            let third = chosen(low + quints <= most, before + 3, second);
+            break chosen(k < 6, third, second);
         }
-        i -= 1;
+        k -= 1;
     }
 }
 
-// How the numbers of a range are unquantised, by products: the largest number; 256 / 2^bits, which takes off the digit (0: none);
-// the bits of B in place; C; 128 times the factor that copies the bits to their places in B; A where a is 1; and the level
-// above which it is one more. A number with no digit is B / 4.
-// A caller that unquantises many numbers of one range takes the rule once.
-pub struct Rule(u8, u16, u8, u8, u16, u16, u8);
+// How the numbers of an endpoint range are unquantised, by products: the largest number; 256 / 2^bits, which takes off the digit
+// (0: none); the bits of B in place; C; 128 times the factor that copies the bits to their places in B; and A where a is 1.
+// A number with no digit is B / 4. A caller that unquantises many numbers of one range takes the rule once.
+pub struct Rule(u8, u16, u8, u8, u16, u16);
 
 // The rule of an endpoint range.
 pub fn endpoint_rule(range: u8) -> Rule
     ensures { λ r. ⌜ Right (unquantEndpoint range) r ⌝ }
 {
     match range {
-        4 => Rule(5, 128, 0, 204, 0, 511, 255),
-        5 => Rule(7, 0, 255, 0, 18688, 0, 255),
-        6 => Rule(9, 128, 0, 113, 0, 511, 255),
-        7 => Rule(11, 64, 2, 93, 17792, 511, 255),
-        8 => Rule(15, 0, 255, 0, 8704, 0, 255),
-        9 => Rule(19, 64, 2, 54, 17152, 511, 255),
-        10 => Rule(23, 32, 6, 44, 8512, 511, 255),
-        11 => Rule(31, 0, 255, 0, 4224, 0, 255),
-        12 => Rule(39, 32, 6, 26, 8352, 511, 255),
-        13 => Rule(47, 16, 14, 22, 4160, 511, 255),
-        14 => Rule(63, 0, 255, 0, 2080, 0, 255),
-        15 => Rule(79, 16, 14, 13, 4128, 511, 255),
-        16 => Rule(95, 8, 30, 11, 2064, 511, 255),
-        17 => Rule(127, 0, 255, 0, 1032, 0, 255),
-        18 => Rule(159, 8, 30, 6, 2056, 511, 255),
-        19 => Rule(191, 4, 62, 5, 1028, 511, 255),
-        20 => Rule(255, 0, 255, 0, 512, 0, 255),
-        _ => Rule(0, 0, 0, 0, 0, 0, 0),
-    }
-}
-
-// The rule of a weight range. With a digit alone the levels are 0, 32, 64 and 0, 16, 32, 48, 64.
-pub fn weight_rule(range: u8) -> Rule
-    ensures { λ r. ⌜ Right (unquantWeight range) r ⌝ }
-{
-    match range {
-        0 => Rule(1, 0, 255, 0, 32256, 0, 32),
-        1 => Rule(2, 256, 0, 128, 0, 0, 64),
-        2 => Rule(3, 0, 255, 0, 10752, 0, 32),
-        3 => Rule(4, 256, 0, 64, 0, 0, 64),
-        4 => Rule(5, 128, 0, 50, 0, 127, 32),
-        5 => Rule(7, 0, 255, 0, 4608, 0, 32),
-        6 => Rule(9, 128, 0, 28, 0, 127, 32),
-        7 => Rule(11, 64, 2, 23, 4416, 127, 32),
-        8 => Rule(15, 0, 255, 0, 2176, 0, 32),
-        9 => Rule(19, 64, 2, 13, 4224, 127, 32),
-        10 => Rule(23, 32, 6, 11, 2112, 127, 32),
-        11 => Rule(31, 0, 255, 0, 1056, 0, 32),
-        _ => Rule(0, 0, 0, 0, 0, 0, 0),
+        4 => Rule(5, 128, 0, 204, 0, 511),
+        5 => Rule(7, 0, 255, 0, 18688, 0),
+        6 => Rule(9, 128, 0, 113, 0, 511),
+        7 => Rule(11, 64, 2, 93, 17792, 511),
+        8 => Rule(15, 0, 255, 0, 8704, 0),
+        9 => Rule(19, 64, 2, 54, 17152, 511),
+        10 => Rule(23, 32, 6, 44, 8512, 511),
+        11 => Rule(31, 0, 255, 0, 4224, 0),
+        12 => Rule(39, 32, 6, 26, 8352, 511),
+        13 => Rule(47, 16, 14, 22, 4160, 511),
+        14 => Rule(63, 0, 255, 0, 2080, 0),
+        15 => Rule(79, 16, 14, 13, 4128, 511),
+        16 => Rule(95, 8, 30, 11, 2064, 511),
+        17 => Rule(127, 0, 255, 0, 1032, 0),
+        18 => Rule(159, 8, 30, 6, 2056, 511),
+        19 => Rule(191, 4, 62, 5, 1028, 511),
+        20 => Rule(255, 0, 255, 0, 512, 0),
+        _ => Rule(0, 0, 0, 0, 0, 0),
     }
 }
 
@@ -142,15 +137,6 @@ fn wide(x: u8) -> u32
     ensures { λ r. ⌜ (r ≡ x) × (r ≤ 255) ⌝ }
 {
     x as u32
-}
-
-// One more above the limit.
-fn stepped(level: u32, limit: u32) -> u8
-    requires { ⌜ level ≤ 2147483647 ⌝ }
-    ensures { λ r. ⌜ r ≡ stepped level limit ⌝ }
-{
-    let more: u32 = if limit < level { 1 } else { 0 };
-    ((level + more) % 256) as u8
 }
 
 // 000: "unq = D * C + B; unq = unq ^ A; unq = (A & top) | (unq >> 2);". A & top is (A + 1) / 4.
@@ -162,7 +148,7 @@ pub fn unquantize(rule: Rule, s: Stored) -> Level
     let b = wide(v & rule.2) * (rule.4 as u32) / 128;
     let d = wide(v) * (rule.1 as u32) / 256;
     let unq = (d * wide(rule.3) + b) ^ a;
-    let level = stepped((a + 1) / 4 + unq / 4, wide(rule.6));
+    let level = (((a + 1) / 4 + unq / 4) % 256) as u8;
     Level(if rule.0 < v { 0 } else { level })
 }
 
@@ -173,9 +159,52 @@ pub fn unquantize_endpoint(range: u8, s: Stored) -> Level
     unquantize(endpoint_rule(range), s)
 }
 
+// The levels of a weight range's numbers, one byte each, eight to a word, the first lowest; 0 past its largest number.
+// A caller that unquantises many weights of one range takes the words once.
+pub fn weight_words(range: u8) -> [u64; 4]
+    ensures { λ r. ⌜ RightWords (unquantWeight range) r ⌝ }
+{
+    match range {
+        0 => [0x4000, 0, 0, 0],
+        1 => [0x402000, 0, 0, 0],
+        2 => [0x402B1500, 0, 0, 0],
+        3 => [0x4030201000, 0, 0, 0],
+        4 => [0x2719340C4000, 0, 0, 0],
+        5 => [0x40372E251B120900, 0, 0, 0],
+        6 => [0x2B15320E39074000, 0x241C, 0, 0],
+        7 => [0x29173B052F114000, 0x241C350B, 0, 0],
+        8 => [0x1D1915110C080400, 0x403C38342F2B2723, 0, 0],
+        9 => [0x2D133D0330104000, 0x261A370929173A06, 0x231D330D, 0],
+        10 => [
+            0x2818301038084000,
+            0x251B2D13350B3E02,
+            0x221E2A16330D3B05,
+            0,
+        ],
+        11 => [
+            0x0E0C0A0806040200,
+            0x1E1C1A1816141210,
+            0x302E2C2A28262422,
+            0x403E3C3A38363432,
+        ],
+        _ => [0, 0, 0, 0],
+    }
+}
+
+// The level of a stored weight by its range's words.
+pub fn weight_by(words: &[u64; 4], s: Stored) -> Level
+    ensures { λ r. ⌜ r .0 ≡ byWords (now (words .entry)) (s .0) ⌝ }
+{
+    let v = s.0;
+    let k = (v / 8 % 4) as usize;
+    let level = ((words[k] >> (8 * ((v % 8) as u32))) % 256) as u8;
+    Level(chosen(v < 32, level, 0))
+}
+
 // The level of a stored weight, 0..64.
 pub fn unquantize_weight(range: u8, s: Stored) -> Level
     ensures { λ r. ⌜ r .0 ≡ unquantWeight range (s .0) ⌝ }
 {
-    unquantize(weight_rule(range), s)
+    let words = weight_words(range);
+    weight_by(&words, s)
 }

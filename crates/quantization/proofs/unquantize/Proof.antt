@@ -73,17 +73,14 @@ mul-unq c = omega (arith, high c)
 add-unq : tie.Need-add-unq
 add-unq c = omega (arith, high c, low c)
 
-add-stepped : tie.Need-add-stepped
-add-stepped c = omega (arith, ones c)
+add-level : tie.Need-add-level
+add-level c = omega (arith, ones c)
 
-add-stepped-2 : tie.Need-add-stepped-2
-add-stepped-2 c = omega (arith, ones c, unq c)
+add-level-2 : tie.Need-add-level-2
+add-level-2 c = omega (arith, ones c, unq c)
 
-wide-requires-5 : tie.Need-wide-requires-5
-wide-requires-5 c κs = search needs
-
-stepped-requires : tie.Need-stepped-requires
-stepped-requires c κs = omega (arith, ones (c .before), unq (c .before))
+cast-level : tie.Need-cast-level
+cast-level c = search needs
 
 returns : tie.Need-returns
 unfolding byRule
@@ -91,7 +88,7 @@ returns c = rw (lt-ltb _ _ (c .if1 .taken))
 
 returns-2 : tie.Need-returns-2
 unfolding byRule
-returns-2 c = rw (le-ltb _ _ (c .if1 .left), c .before .stepped .ensures, c .before .before .wide5 .ensures .0, c .before .before .before .wide4 .ensures .0, c .before .before .before .before .wide3 .ensures .0, c .before .before .before .before .before .wide2 .ensures .0, c .before .before .before .before .before .before .wide .ensures .0)
+returns-2 c = rw (le-ltb _ _ (c .if1 .left), c .before .wide4 .ensures .0, c .before .before .wide3 .ensures .0, c .before .before .before .wide2 .ensures .0, c .before .before .before .before .wide .ensures .0)
 
 pub unquantize-spec : {M : Type 1} → statement M
 unquantize-spec =
@@ -109,9 +106,8 @@ unquantize-spec =
     wide-requires-4
     mul-unq
     add-unq
-    add-stepped
-    add-stepped-2
-    wide-requires-5
-    stepped-requires
+    add-level
+    add-level-2
+    cast-level
     returns
     returns-2)

@@ -1,18 +1,18 @@
 use mathlib.Core.Path.{_∙_}
-use Rattle.quantization.specs.Products.{Right}
+use Rattle.quantization.specs.Words.{RightWords}
 use borrow.Author.Needs.{needs}
 use Rattle.quantization.proofs.unquantize_weight.Statement.{statement}
 use Rattle.quantization.proofs.unquantize_weight.Tie as tie
 
-weight-rule-requires : tie.Need-weight-rule-requires
-weight-rule-requires c κs = search needs
+weight-words-requires : tie.Need-weight-words-requires
+weight-words-requires c κs = search needs
 
-unquantize-requires : tie.Need-unquantize-requires
-unquantize-requires c κs = search needs
+weight-by-requires : tie.Need-weight-by-requires
+weight-by-requires c κs = search needs
 
 returns : tie.Need-returns
-unfolding Right
-returns c = c .unquantize .ensures ∙ c .before .weight-rule .ensures (c .before .before .args .s .0) (search needs)
+unfolding RightWords
+returns c = c .weight-by .ensures ∙ c .before .before .weight-words .ensures (c .before .before .before .args .s .0)
 
 pub unquantize-weight-spec : {M : Type 1} → statement M
-unquantize-weight-spec = tie.close (tie.spec weight-rule-requires unquantize-requires returns)
+unquantize-weight-spec = tie.close (tie.spec weight-words-requires weight-by-requires returns)
