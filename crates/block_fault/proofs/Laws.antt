@@ -107,3 +107,7 @@ pub made : (B : ℕ) (g : WeightGrid) (partitions selector : ℕ) {xw cw iw sw w
     → _≡_ {A = Header} (record { grid = g; component = component; partitions = partitions; index = index; selector = selector; modes = modes }) (headerWith B g partitions selector)
 unfolding headerWith indexAt baseAt extraAt componentAt
 made B g partitions selector ex ec ei es ew e1 e2 e3 e4 e5 = rw (e5, e1, e2, e3, e4, ew, ex, ec, ei, es)
+
+pub made-grid : (B : ℕ) (g : WeightGrid) (partitions selector : ℕ) {h : Header} → h ≡ headerWith B g partitions selector → h .grid ≡ g
+unfolding headerWith
+made-grid B g partitions selector e = ap (λ (h : Header). h .grid) e

@@ -12,7 +12,8 @@ use Rattle.block_mode.specs.declared.WeightGrid.{WeightGrid}
 use Rattle.block_mode.specs.declared.BlockMode.{BlockMode}
 use Rattle.block_mode.specs.declared.BlockMode.the-variants.{VoidExtent, Reserved, Grid}
 use Rattle.block_header.specs.declared.Header.{Header}
-use Rattle.block_header.specs.Counts.{weightBits}
+use Rattle.quantization.specs.Ranges.{endpointRange}
+use Rattle.block_header.specs.Counts.{endpointCount, bitsLeft, endpointRangeOf}
 use Rattle.block_header.specs.Reasons.{Reason, when, firstOf, gridTooLarge, tooManyWeights, weightBitsOutside, fourWithTwoPlanes, tooManyEndpoints, tooFewEndpointBits, someHdr, gridFault, endpointFault, gridReasons, endpointReasons}
 use Rattle.block_fault.specs.declared.Stage.{Stage}
 use Rattle.block_fault.specs.declared.Stage.the-variants.{Passed, Stopped}
@@ -21,6 +22,7 @@ use Rattle.block_fault.specs.declared.Verdict.the-variants as verdict
 use Rattle.block_fault.specs.declared.Settings.{Settings}
 use Rattle.block_fault.specs.Bits.{modeAt, isVoid, isReserved, gridIn, partitionsAt, selectorAt, headerWith, headerAt}
 use Rattle.block_fault.specs.Faults.{voidReasons, modeReasons, faultOf}
+use Rattle.block_fault.proofs.Laws.{made-grid}
 use Rattle.block_fault.specs.Settings.{stageOf, verdictFrom, verdictOf, bareOf, withHeader, voidSettings, settingsOf}
 
 -- ---- a stage
@@ -39,6 +41,13 @@ stage-stopped n m e = go (eqb n 0) refl e where
   go true q r = absurd (let z : _≡_ {A = ℕ} 0 1 = cc in omega arith)
   go false q r = (cc, eqb-false n 0 q)
 
+-- ---- what the settings of a coded block carry
+
+pub carried : {h : Header} {n left k : ℕ} → n ≡ endpointCount h → left ≡ bitsLeft h → k ≡ endpointRange n left
+    → _≡_ {A = Settings} (record { verdict = verdict.Coded; header = h; numbers = n; range = k }) (withHeader verdict.Coded h)
+unfolding endpointRangeOf
+carried en el ek = rw (ek, el, en)
+
 -- ---- the fault of a coded block
 
 -- the reasons before and after 17, as the stages take them
@@ -55,8 +64,7 @@ module _ (fp B : ℕ) (g : WeightGrid) (m : modeAt B ≡ Grid g) where
   header-is = rw m
 
   header-grid : headerAt B .grid ≡ g
-  unfolding headerWith
-  header-grid = ap (λ (h : Header). h .grid) header-is
+  header-grid = made-grid B g _ _ header-is
 
   fault-first : faultOf fp B
       ≡ pick (eqb (gridFault fp (headerAt B .grid)) 0) (pick (fourWithTwoPlanes (headerAt B)) 17 (endpointFault (headerAt B))) (gridFault fp (headerAt B .grid))
@@ -79,7 +87,7 @@ module _ (fp B : ℕ) (g : WeightGrid) (m : modeAt B ≡ Grid g) where
   unfolding settingsOf verdictOf
   settled-fault n e h = rw (e, ne-eqb n 0 h)
 
-  pub settled-coded : faultOf fp B ≡ 0 → _≡_ {A = Settings} (record { verdict = verdict.Coded; header = headerAt B }) (settingsOf fp B)
+  pub settled-coded : faultOf fp B ≡ 0 → withHeader verdict.Coded (headerAt B) ≡ settingsOf fp B
   unfolding settingsOf verdictOf
   settled-coded e = rw (e, m)
 
@@ -121,7 +129,7 @@ module _ (fp B : ℕ) (g : WeightGrid) (m : modeAt B ≡ Grid g) where
           rw (er, ev, et) (settled-fault k (ends-fault ∙ ap endpointFault (sym (header-read eh)) ∙ sym ef ∙ q .0) (λ z. q .1 (q .0 ∙ z)))
 
       pub pass-ends : {h : Header} {f : ℕ} {st : Stage} → h ≡ headerWith B g p (selectorAt B p) → f ≡ endpointFault h
-          → st ≡ stageOf f → st ≡ Passed → _≡_ {A = Settings} (record { verdict = verdict.Coded; header = h }) (settingsOf fp B)
+          → st ≡ stageOf f → st ≡ Passed → withHeader verdict.Coded h ≡ settingsOf fp B
       pass-ends {h} {f} eh ef es et =
           rw (header-read eh) (settled-coded (ends-fault ∙ ap endpointFault (sym (header-read eh)) ∙ sym ef ∙ stage-passed f (sym es ∙ et)))
 

@@ -14,7 +14,7 @@ use Rattle.block_mode.specs.declared.BlockMode.the-variants.{VoidExtent, Reserv
 use Rattle.block_mode.specs.Back2D.{Limits}
 use Rattle.block_mode.proofs.Modes.{any-limits}
 use Rattle.block_header.specs.declared.Header.{Header}
-use Rattle.block_header.specs.Counts.{weightCount, endpointCount}
+use Rattle.block_header.specs.Counts.{weightCount, endpointCount, endpointRangeOf}
 use Rattle.block_header.specs.Reasons.{firstOf, gridTooLarge, tooManyWeights, weightBitsOutside, fourWithTwoPlanes, tooManyEndpoints, tooFewEndpointBits, someHdr}
 use Rattle.block_fault.specs.declared.Verdict.{Verdict}
 use Rattle.block_fault.specs.declared.Verdict.the-variants as verdict
@@ -65,6 +65,12 @@ module _ (fp B : ℕ) where
   pub coded-header : verdictOf fp B ≡ verdict.Coded → settingsOf fp B .header ≡ headerAt B
   unfolding settingsOf
   coded-header e = rw e
+
+  -- the numbers that the settings of a coded block carry
+  pub coded-numbers : settingsOf fp B .verdict ≡ verdict.Coded
+      → (settingsOf fp B .numbers ≡ endpointCount (settingsOf fp B .header)) × (settingsOf fp B .range ≡ endpointRangeOf (settingsOf fp B .header))
+  unfolding settingsOf
+  coded-numbers e = rw (sym settings-verdict ∙ e) (refl, refl)
 
   -- a reason that is not told does not hold, and neither does any later one
   passed : (t : Bool) (n rest : ℕ) → (n ≡ 0 → ⊥) → pick t n rest ≡ 0 → (t ≡ false) × (rest ≡ 0)

@@ -6,6 +6,7 @@ use mathlib.Core.List.{List, [], _∷_}
 use lib.Dec.{eqb}
 use Rattle.laws.specs.Choice.{pick, both}
 use Rattle.block_header.specs.declared.Header.{Header}
+use Rattle.block_header.specs.Counts.{endpointCount, endpointRangeOf}
 use Rattle.block_header.specs.Reasons.{firstOf}
 use Rattle.block_fault.specs.declared.Verdict.{Verdict}
 use Rattle.block_fault.specs.declared.Verdict.the-variants.{Coded, VoidExtent, Fault}
@@ -45,14 +46,14 @@ zeroHeader = record {
 
 -- a verdict without settings
 abbrev pub bareOf : Verdict → Settings
-bareOf v = record { verdict = v; header = zeroHeader }
+bareOf v = record { verdict = v; header = zeroHeader; numbers = 0; range = 0 }
 
 -- what a void extent comes to
 unfoldable pub voidSettings : ℕ → Settings
 voidSettings B = bareOf (pick (eqb (firstOf (voidReasons B)) 0) VoidExtent (Fault (firstOf (voidReasons B))))
 
 abbrev pub withHeader : Verdict → Header → Settings
-withHeader Coded h = record { verdict = Coded; header = h }
+withHeader Coded h = record { verdict = Coded; header = h; numbers = endpointCount h; range = endpointRangeOf h }
 withHeader VoidExtent h = bareOf VoidExtent
 withHeader (Fault n) h = bareOf (Fault n)
 

@@ -33,10 +33,12 @@ pub enum Verdict {
     Fault(u8),
 }
 
-// The settings of a coded block without fault, all 0 for any other.
+// The settings of a coded block without fault, how many endpoint numbers it has and their quantisation range; all 0 for any other.
 pub struct Settings {
     pub verdict: Verdict,
     pub header: Header,
+    pub numbers: u8,
+    pub range: u8,
 }
 
 fn stage_for(fault: u8) -> Stage
@@ -66,7 +68,12 @@ fn bare(verdict: Verdict) -> Settings
         selector: 0,
         modes: [0u8; 4],
     };
-    Settings { verdict, header }
+    Settings {
+        verdict,
+        header,
+        numbers: 0,
+        range: 0,
+    }
 }
 
 fn both(a: bool, b: bool) -> bool
@@ -156,16 +163,22 @@ pub fn endpoints_from(partitions: u8) -> u8
     if partitions == 1 { 17 } else { 29 }
 }
 
-// The settings, once the grid, the partitions and the selector are known.
-fn header_with(b: PhysicalBlock, g: WeightGrid, partitions: u8, selector: u8) -> Header
-    requires { ⌜ (partitions ≤ 4) × (selector ≤ 3) × (g .planes ≤ 2) × (weightBits g ≤ 96) ⌝ }
+// The settings, once the grid, its weight bits, the partitions and the selector are known.
+fn header_with(
+    b: PhysicalBlock,
+    g: WeightGrid,
+    weights: u32,
+    partitions: u8,
+    selector: u8,
+) -> Header
+    requires { ⌜ (partitions ≤ 4) × (selector ≤ 3) × (g .planes ≤ 2) × (weights ≡ weightBits g) × (weights ≤ 96) ⌝ }
     ensures { λ r. ⌜ r ≡ headerWith (blockNumber b) g partitions selector ⌝ }
 {
     let extra_width = block_header::extra_bits(partitions, selector);
     let component_width = block_header::component_bits(g.planes);
     let index_width = block_header::index_bits(partitions);
     let selector_width = block_header::selector_bits(partitions);
-    let extra_from = 128 - block_header::weight_bits(g) - extra_width;
+    let extra_from = 128 - weights - extra_width;
     let extra = bits::field_at(b, extra_from, extra_width) as u32;
     let base = bits::field_at(b, 13 + index_width + selector_width, 4) as u32;
     let component = bits::field_at(b, extra_from - component_width, component_width) as u8;
@@ -203,13 +216,13 @@ fn planes_fault(planes: u8, partitions: u8) -> u8
 }
 
 // The header of a block whose mode is the grid g.
-fn header_at(b: PhysicalBlock, g: WeightGrid, partitions: u8) -> Header
-    requires { ⌜ (partitions ≤ 4) × (g .planes ≤ 2) × (weightBits g ≤ 96) ⌝ }
+fn header_at(b: PhysicalBlock, g: WeightGrid, weights: u32, partitions: u8) -> Header
+    requires { ⌜ (partitions ≤ 4) × (g .planes ≤ 2) × (weights ≡ weightBits g) × (weights ≤ 96) ⌝ }
     ensures { λ r. ⌜ r ≡ headerWith (blockNumber b) g partitions (selectorAt (blockNumber b) partitions) ⌝ }
 {
     let from = 13 + block_header::index_bits(partitions);
     let selector = bits::field_at(b, from, block_header::selector_bits(partitions)) as u8;
-    header_with(b, g, partitions, selector)
+    header_with(b, g, weights, partitions, selector)
 }
 
 // The settings of a block whose mode is the grid g: each stage's fault is told at once.
@@ -217,7 +230,8 @@ fn coded(b: PhysicalBlock, fp: u8, g: WeightGrid) -> Settings
     requires { ⌜ modeAt (blockNumber b) ≡ Grid g ⌝ }
     ensures { λ r. ⌜ r ≡ settingsOf fp (blockNumber b) ⌝ }
 {
-    let grid = stage_for(block_header::grid_fault(fp, g));
+    let weights = block_header::weight_bits(g);
+    let grid = stage_for(block_header::grid_fault_with(fp, g, weights));
     let Stage::Passed = grid else {
         return bare(verdict_of(grid));
     };
@@ -226,14 +240,20 @@ fn coded(b: PhysicalBlock, fp: u8, g: WeightGrid) -> Settings
     let Stage::Passed = planes else {
         return bare(verdict_of(planes));
     };
-    let h = header_at(b, g, partitions);
-    let ends = stage_for(block_header::endpoint_fault(h));
+    let h = header_at(b, g, weights, partitions);
+    let count = block_header::endpoint_count(h);
+    let left = block_header::bits_left_with(h, weights);
+    let ends = stage_for(block_header::endpoint_fault_with(h, count, left));
     let Stage::Passed = ends else {
         return bare(verdict_of(ends));
     };
+    let numbers = count as u8;
+    let range = quantization::endpoint_range(count, left);
     Settings {
         verdict: Verdict::Coded,
         header: h,
+        numbers,
+        range,
     }
 }
 

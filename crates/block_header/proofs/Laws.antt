@@ -1,6 +1,6 @@
 -- Bounds of the counts, and the reasons one by one.
 -- Assumes nothing.
-use mathlib.Core.Path.{_≡_, refl, ap, _∙_}
+use mathlib.Core.Path.{_≡_, refl, sym, ap, _∙_}
 use Prim.Native.Nat.{ℕ, zero, suc, _+_, _-_, _*_, _/_, _≤_, _<_}
 use native.Mathlib.Nat.{mul-le-mul, suc-add}
 use native.Mathlib.Omega.{arith}
@@ -11,7 +11,7 @@ use Rattle.quantization.proofs.Ranges.{bits-le}
 use lib.ListN.{length, getD, List·getD-eq-default}
 use mathlib.Core.List.{List}
 use Rattle.color_endpoint.specs.Table.{numberCount, startOf}
-use mathlib.Core.Bool.{Bool, true, false}
+use mathlib.Core.Bool.{Bool, true, false, _&&_, _||_}
 use borrow.Author.Tests.{lt-ltb, le-ltb, ltb-false}
 use lib.Dec.{ltb}
 use Rattle.laws.specs.Choice.{pick, either}
@@ -19,7 +19,7 @@ use Rattle.footprint.specs.Footprint.{widthOf, heightOf}
 use Rattle.block_mode.specs.declared.WeightGrid.{WeightGrid}
 use Rattle.block_header.specs.declared.Header.{Header}
 use Rattle.block_header.specs.Counts.{weightCount, weightBits, endpointCount, bitsLeft}
-use Rattle.block_header.specs.Reasons.{gridTooLarge, tooManyWeights, weightBitsOutside, tooManyEndpoints, tooFewEndpointBits, someHdr, gridFault, endpointFault}
+use Rattle.block_header.specs.Reasons.{gridTooLarge, tooManyWeights, weightBitsOutside, tooManyEndpoints, tooFewEndpointBits, isHdr, some, someHdr, gridFault, endpointFault}
 
 -- a number takes at most eleven bits
 pub range-bits-le : (k n m : ℕ) → n ≤ m → rangeBits k n ≤ m * 8 + 3 * m
@@ -54,6 +54,44 @@ start-four modes (suc (suc (suc (suc n)))) h = past (suc (suc (suc (suc n)))) (o
         let e : m ≡ m - 4 + 4 = omega arith in
         let p : startOf modes m ≡ startOf modes 4 + 2 * (m - 4) = ap (startOf modes) e ∙ start-past modes (m - 4) h in
         rw (lt-ltb 0 m (omega arith), lt-ltb 1 m (omega arith), lt-ltb 2 m (omega arith), lt-ltb 3 m (omega arith)) (omega (arith, p))
+
+-- ---- some HDR mode without a loop
+
+four : (a b c d : Bool) → (a || (b || (c || d))) ≡ either a (either b (either c (either d false)))
+four true b c d = refl
+four false true c d = refl
+four false false true d = refl
+four false false false true = refl
+four false false false false = refl
+
+-- a test that fails from 4 on
+module _ (f : ℕ → Bool) (none : (k : ℕ) → f (k + 4) ≡ false) where
+  some-past : (n : ℕ) → some f (n + 4) ≡ some f 4
+  some-past zero = refl
+  some-past (suc n) = rw (suc-add, none n) (some-past n)
+
+  some-four : (n : ℕ) → (ltb 3 n && f 3 || (ltb 2 n && f 2 || (ltb 1 n && f 1 || ltb 0 n && f 0))) ≡ some f n
+  some-four zero = refl
+  some-four (suc zero) = four false false false (f 0)
+  some-four (suc (suc zero)) = four false false (f 1) (f 0)
+  some-four (suc (suc (suc zero))) = four false (f 2) (f 1) (f 0)
+  some-four (suc (suc (suc (suc n)))) = past (suc (suc (suc (suc n)))) (omega arith)
+    where
+      past : (m : ℕ) → 4 ≤ m → (ltb 3 m && f 3 || (ltb 2 m && f 2 || (ltb 1 m && f 1 || ltb 0 m && f 0))) ≡ some f m
+      past m l =
+          let e : m ≡ m - 4 + 4 = omega arith in
+          rw (lt-ltb 0 m (omega arith), lt-ltb 1 m (omega arith), lt-ltb 2 m (omega arith), lt-ltb 3 m (omega arith))
+          (four (f 3) (f 2) (f 1) (f 0) ∙ sym (ap (some f) e ∙ some-past (m - 4)))
+
+-- whether partition p, of n, is HDR
+abbrev hdrAt : List ℕ → ℕ → ℕ → Bool
+hdrAt modes n p = ltb p n && isHdr (getD modes p 0)
+
+-- past the modes none is HDR, as mode 0 is not
+pub hdr-four : (modes : List ℕ) (n : ℕ) → length modes ≡ 4
+    → (hdrAt modes n 3 || (hdrAt modes n 2 || (hdrAt modes n 1 || hdrAt modes n 0))) ≡ some (λ p. isHdr (getD modes p 0)) n
+unfolding isHdr
+hdr-four modes n h = some-four (λ p. isHdr (getD modes p 0)) (λ k. rw (List·getD-eq-default modes 0 {n = k + 4} (omega arith))) n
 
 -- ---- 14 to 16, one by one
 
@@ -116,3 +154,11 @@ module _ (h : Header) where
       pub ends-sound : someHdr h ≡ false → 0 ≡ endpointFault h
       unfolding endpointFault tooManyEndpoints tooFewEndpointBits
       ends-sound e = rw (le-ltb _ _ n, le-ltb _ _ m, e)
+
+-- a header without fault has at most 18 endpoint numbers
+pub ends-count : (h : Header) → endpointFault h ≡ 0 → endpointCount h ≤ 18
+unfolding endpointFault tooManyEndpoints
+ends-count h e = go (ltb 18 (endpointCount h)) (tooFewEndpointBits h) (someHdr h) refl e where
+  go : (a b c : Bool) → ltb 18 (endpointCount h) ≡ a → _≡_ {A = ℕ} (pick a 18 (pick b 19 (pick c 20 0))) 0 → endpointCount h ≤ 18
+  go true b c q r = absurd (omega arith)
+  go false b c q r = ltb-false 18 (endpointCount h) q

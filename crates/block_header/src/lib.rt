@@ -3,8 +3,7 @@ use block_mode::WeightGrid;
 ghost use mathlib.Core.Path.{_≡_};
 ghost use Prim.Native.Nat.{_≤_};
 ghost use lib.Dec.{eqb};
-ghost use lib.ListN.{getD};
-ghost use Rattle.laws.specs.Choice.{pick, either};
+ghost use Rattle.laws.specs.Choice.{pick};
 ghost use Rattle.color_endpoint.specs.Table.{numberCount};
 ghost use Rattle.block_header.specs.Reasons.{isHdr, someHdr, gridFault, endpointFault};
 ghost use Rattle.block_header.specs.Counts.{weightCount, weightBits, componentBits, indexBits, selectorBits, extraBits, endpointCount, bitsLeft, endpointRangeOf};
@@ -70,13 +69,6 @@ pub fn extra_bits(partitions: u8, selector: u8) -> u32
     quantization::bits_left(3 * wide(partitions), 4)
 }
 
-// The mode of partition p, 0 past the fourth.
-fn mode_at(modes: [u8; 4], p: usize) -> u8
-    ensures { λ r. ⌜ r ≡ getD modes p 0 ⌝ }
-{
-    if p < 4 { modes[p] } else { 0 }
-}
-
 // The numbers of a mode where its partition is there.
 fn counted(there: bool, mode: u8) -> u32
     ensures { λ r. ⌜ (r ≡ pick there (numberCount mode) 0) × (r ≤ 128) ⌝ }
@@ -105,14 +97,22 @@ fn room(partitions: u8) -> u32
     if partitions == 1 { 111 } else { 99 }
 }
 
-// The bits left for the endpoint numbers.
-pub fn bits_left(h: Header) -> u32
+// The bits left for the endpoint numbers, once the weight bits are known.
+pub fn bits_left_with(h: Header, weights: u32) -> u32
+    requires { ⌜ (weights ≡ weightBits (h .grid)) × (weights ≤ 182395125) ⌝ }
     ensures { λ r. ⌜ (r ≡ bitsLeft h) × (r ≤ 111) ⌝ }
 {
     let g = h.grid;
     let all = room(h.partitions);
-    let used = weight_bits(g) + component_bits(g.planes) + extra_bits(h.partitions, h.selector);
+    let used = weights + component_bits(g.planes) + extra_bits(h.partitions, h.selector);
     quantization::bits_left(all, used)
+}
+
+// The bits left for the endpoint numbers.
+pub fn bits_left(h: Header) -> u32
+    ensures { λ r. ⌜ (r ≡ bitsLeft h) × (r ≤ 111) ⌝ }
+{
+    bits_left_with(h, weight_bits(h.grid))
 }
 
 // The quantisation range of the endpoint numbers.
@@ -122,8 +122,9 @@ pub fn endpoint_range_of(h: Header) -> u8
     quantization::endpoint_range(endpoint_count(h), bits_left(h))
 }
 
-// The first of 14 to 16 that holds, 0 where none does.
-pub fn grid_fault(fp: u8, g: WeightGrid) -> u8
+// The first of 14 to 16 that holds, 0 where none does, once the weight bits are known.
+pub fn grid_fault_with(fp: u8, g: WeightGrid, weights: u32) -> u8
+    requires { ⌜ weights ≡ weightBits g ⌝ }
     ensures { λ r. ⌜ r ≡ gridFault fp g ⌝ }
 {
     if footprint::width(fp) < g.width {
@@ -135,64 +136,63 @@ pub fn grid_fault(fp: u8, g: WeightGrid) -> u8
     if 64 < weight_count(g) {
         return 15;
     }
-    let bits = weight_bits(g);
-    if bits < 24 {
+    if weights < 24 {
         return 16;
     }
-    if 96 < bits {
+    if 96 < weights {
         return 16;
     }
     0
 }
 
+// The first of 14 to 16 that holds, 0 where none does.
+pub fn grid_fault(fp: u8, g: WeightGrid) -> u8
+    ensures { λ r. ⌜ r ≡ gridFault fp g ⌝ }
+{
+    grid_fault_with(fp, g, weight_bits(g))
+}
+
+// Bit m of 51340 is 1 for the HDR modes: 2, 3, 7, 11, 14 and 15.
 pub fn is_hdr(mode: u8) -> bool
     ensures { λ r. ⌜ r ≡ isHdr mode ⌝ }
 {
-    match mode {
-        2 => true,
-        3 => true,
-        7 => true,
-        11 => true,
-        14 => true,
-        15 => true,
-        _ => false,
-    }
+    (mode < 16) & ((51340u32 >> (mode % 16)) % 2 == 1)
 }
 
-fn either(a: bool, b: bool) -> bool
-    ensures { λ r. ⌜ r ≡ either a b ⌝ }
-{
-    if a { true } else { b }
-}
-
-// Whether some partition has an HDR mode.
+// Whether some partition has an HDR mode; past the fourth a mode is 0, which is none.
 pub fn some_hdr(h: Header) -> bool
     ensures { λ r. ⌜ r ≡ someHdr h ⌝ }
 {
     let modes = h.modes;
-    let count = h.partitions as usize;
-    let mut hdr = false;
-    let mut p: usize = 0;
-    while p < count {
-        hdr = either(is_hdr(mode_at(modes, p)), hdr);
-        p += 1;
-    }
-    hdr
+    let count = h.partitions;
+    let h0 = (0 < count) & is_hdr(modes[0]);
+    let h1 = (1 < count) & is_hdr(modes[1]);
+    let h2 = (2 < count) & is_hdr(modes[2]);
+    let h3 = (3 < count) & is_hdr(modes[3]);
+    h3 | (h2 | (h1 | h0))
 }
 
-// The first of 18 to 20 that holds, 0 where none does: 19 before 20, whatever partition is HDR.
-pub fn endpoint_fault(h: Header) -> u8
+// The first of 18 to 20 that holds, 0 where none does, once the endpoint numbers and the bits left for them are known:
+// 19 before 20, whatever partition is HDR.
+pub fn endpoint_fault_with(h: Header, count: u32, left: u32) -> u8
+    requires { ⌜ (count ≡ endpointCount h) × (count ≤ 32640) × (left ≡ bitsLeft h) ⌝ }
     ensures { λ r. ⌜ r ≡ endpointFault h ⌝ }
 {
-    let n = endpoint_count(h);
-    if 18 < n {
+    if 18 < count {
         return 18;
     }
-    if bits_left(h) < (13 * n + 4) / 5 {
+    if left < (13 * count + 4) / 5 {
         return 19;
     }
     if some_hdr(h) {
         return 20;
     }
     0
+}
+
+// The first of 18 to 20 that holds, 0 where none does.
+pub fn endpoint_fault(h: Header) -> u8
+    ensures { λ r. ⌜ r ≡ endpointFault h ⌝ }
+{
+    endpoint_fault_with(h, endpoint_count(h), bits_left(h))
 }

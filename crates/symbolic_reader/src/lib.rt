@@ -13,7 +13,7 @@ ghost use Rattle.laws.specs.Table.{tab};
 ghost use Rattle.bits.specs.Field.{field};
 ghost use Rattle.bits.specs.Block.{blockNumber};
 ghost use Rattle.integer_sequence.specs.Reading.{stored};
-ghost use Rattle.block_header.specs.Counts.{weightCount, endpointCount};
+ghost use Rattle.block_header.specs.Counts.{weightCount, endpointCount, endpointRangeOf};
 ghost use Rattle.block_fault.specs.Settings.{stageOf};
 ghost use Rattle.block_fault.specs.Bits.{endpointAt, weightAt, colourAt, extentAt, endpointsFrom};
 ghost use Rattle.symbolic_block.specs.Reading.{modeBlock, voidBlock, zeroBlock};
@@ -144,17 +144,15 @@ fn first_18(xs: [Stored; 64]) -> [Stored; 18]
     out
 }
 
-fn endpoints(b: PhysicalBlock, h: Header) -> [Stored; 18]
-    requires { ⌜ endpointCount h ≤ 18 ⌝ }
+fn endpoints(b: PhysicalBlock, h: Header, numbers: u8, range: u8) -> [Stored; 18]
+    requires { ⌜ (endpointCount h ≤ 18) × (numbers ≡ endpointCount h) × (range ≡ endpointRangeOf h) ⌝ }
     ensures { λ r. ⌜ r ≡ tab (λ i. stored (endpointAt (blockNumber b) h i)) 18 ⌝ }
 {
-    let n = block_header::endpoint_count(h) as u8;
-    let range = block_header::endpoint_range_of(h);
     first_18(integer_sequence::read_sequence(
         b,
         block_fault::endpoints_from(h.partitions),
         range,
-        n,
+        numbers,
     ))
 }
 
@@ -167,13 +165,13 @@ fn weights(b: PhysicalBlock, h: Header) -> [Stored; 64]
     integer_sequence::read_sequence(bits::reversed(b), 0, g.range, n)
 }
 
-fn mode_block(b: PhysicalBlock, h: Header) -> SymbolicBlock
-    requires { ⌜ (weightCount (h .grid) ≤ 64) × (endpointCount h ≤ 18) ⌝ }
+fn mode_block(b: PhysicalBlock, h: Header, numbers: u8, range: u8) -> SymbolicBlock
+    requires { ⌜ (weightCount (h .grid) ≤ 64) × (endpointCount h ≤ 18) × (numbers ≡ endpointCount h) × (range ≡ endpointRangeOf h) ⌝ }
     ensures { λ r. ⌜ r ≡ modeBlock h (endpointAt (blockNumber b) h) (weightAt (blockNumber b) h) ⌝ }
 {
     let g = h.grid;
     let modes = h.modes;
-    let endpoints = endpoints(b, h);
+    let endpoints = endpoints(b, h, numbers, range);
     let weights = weights(b, h);
     SymbolicBlock {
         mark: 0,
@@ -207,5 +205,5 @@ pub fn read_symbolic(fp: u8, block: &[u8]) -> Reading
     let Verdict::Coded = v else {
         return uncoded(b, v);
     };
-    read(mode_block(b, s.header))
+    read(mode_block(b, s.header, s.numbers, s.range))
 }

@@ -10,15 +10,6 @@ use borrow.Author.Needs.{needs}
 use Rattle.symbolic_reader.proofs.endpoints.Statement.{statement}
 use Rattle.symbolic_reader.proofs.endpoints.Tie as tie
 
-endpoint-count-requires : tie.Need-endpoint-count-requires
-endpoint-count-requires c κs = search needs
-
-cast-n : tie.Need-cast-n
-cast-n c = search needs
-
-endpoint-range-of-requires : tie.Need-endpoint-range-of-requires
-endpoint-range-of-requires c κs = search needs
-
 endpoints-from-requires : tie.Need-endpoints-from-requires
 endpoints-from-requires c κs = search needs
 
@@ -34,15 +25,12 @@ returns c =
     c .first-18 .ensures
     ∙ ap (λ (xs : List Stored). tab (λ i. getD xs i (stored 0)) 18) (c .before .read-sequence .ensures)
     ∙ first-numbers _ _ _ _
-    ∙ rw (c .before .before .endpoints-from .ensures, c .before .before .before .endpoint-range-of .ensures, c .before .before .before .before .endpoint-count .ensures .0)
+    ∙ rw (c .before .before .endpoints-from .ensures, c .before .before .before .pre .1, c .before .before .before .pre .2)
 
 pub endpoints-spec : {M : Type 1} → statement M
 endpoints-spec =
     tie.close
     (tie.spec
-    endpoint-count-requires
-    cast-n
-    endpoint-range-of-requires
     endpoints-from-requires
     read-sequence-requires
     first-18-requires

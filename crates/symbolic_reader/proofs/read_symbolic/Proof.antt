@@ -6,6 +6,7 @@ use types.Run.{OneOf, miss}
 use denote.Enum.Declared.{tagOf}
 use Rattle.bits.specs.Block.{numberOf, blockNumber}
 use Rattle.bits.proofs.Blocks.{Bytes}
+use Rattle.block_header.specs.Counts.{endpointCount, endpointRangeOf}
 use Rattle.block_fault.specs.declared.Settings.{Settings}
 use Rattle.block_fault.specs.declared.Stage.the-variants.{Passed}
 use Rattle.block_fault.specs.declared.Verdict.{Verdict}
@@ -13,7 +14,7 @@ use Rattle.block_fault.proofs.Verdict.{the-type}
 use Rattle.block_fault.specs.declared.Verdict.the-variants as verdict
 use Rattle.block_fault.specs.Bits.{headerAt}
 use Rattle.block_fault.specs.Settings.{stageOf, verdictOf}
-use Rattle.block_fault.proofs.Verdicts.{settings-verdict, told-coded, coded-header, coded-counts}
+use Rattle.block_fault.proofs.Verdicts.{settings-verdict, told-coded, coded-header, coded-counts, coded-numbers}
 use Rattle.one_block.proofs.Laws.{loaded}
 use Rattle.symbolic_reader.specs.Answers.{readRefusal, nothing, done, stopped, readingIn, readingOf}
 use Rattle.symbolic_reader.proofs.Laws.{coded-reading, uncoded-reading, stopped-reading, passed-reading, sixteen}
@@ -39,6 +40,11 @@ verdict-is r = sym (ap (λ (s : Settings). s .verdict) (r .read-settings .ensure
 header-is : (r : tie.After-read-settings) → verdictOf (r .before .before .before .before .before .before .args .fp) (blockNumber (r .before .load .result)) ≡ verdict.Coded
     → r .read-settings .result .header ≡ headerAt (blockNumber (r .before .load .result))
 header-is r e = ap (λ (s : Settings). s .header) (r .read-settings .ensures) ∙ coded-header _ _ e
+
+-- the settings carry how many endpoint numbers there are, and their range
+carried : (r : tie.After-read-settings) → r .read-settings .result .verdict ≡ verdict.Coded
+    → (r .read-settings .result .numbers ≡ endpointCount (r .read-settings .result .header)) × (r .read-settings .result .range ≡ endpointRangeOf (r .read-settings .result .header))
+carried r e = rw (r .read-settings .ensures) (coded-numbers _ _ (ap (λ (s : Settings). s .verdict) (sym (r .read-settings .ensures)) ∙ e))
 
 check-requires : tie.Need-check-requires
 check-requires c κs = search needs
@@ -86,7 +92,9 @@ mode-block-requires c κs =
     let r = c .before .before in
     let v = verdict-is r ∙ c .enum-told3 .given .1 in
     let k = told-coded _ _ v in
-    rw (header-is r v) (coded-counts _ _ (k .0) (k .1))
+    let n = coded-counts _ _ (k .0) (k .1) in
+    let m = carried r (c .enum-told3 .given .1) in
+    (rw (header-is r v) (n .0), rw (header-is r v) (n .1), m .0, m .1)
 
 read-requires : tie.Need-read-requires
 read-requires c κs = search needs
