@@ -9,9 +9,10 @@ use native.Mathlib.Omega.{arith}
 use native.Mathlib.Nat.{add-zero}
 use lib.ListN.{getD, set}
 use Rattle.laws.specs.Table.{tabFrom, tab}
-use borrow.Author.Tests.{lt-ltb}
+use borrow.Author.Tests.{lt-ltb, le-ltb}
 use Rattle.encoding.specs.declared.Level.{Level}
 use Rattle.endpoint_arithmetic.specs.declared.EndpointPair.{EndpointPair}
+use Rattle.endpoint_arithmetic.specs.Pair.{zeroPair}
 use Rattle.color_endpoint.specs.Modes.{noLevel, pairOf}
 use Rattle.color_endpoint.specs.Table.{numberCount, startOf, numbersFrom, entryOf, tableOf}
 
@@ -55,6 +56,11 @@ module _ (modes : List ℕ) (levels : List Level) where
   pub entry-used : (n p : ℕ) → p < n → entryOf modes n levels p ≡ pairOf (getD modes p 0) (numbersFrom levels (startOf modes p))
   unfolding entryOf
   entry-used n p h = rw (lt-ltb p n h)
+
+  -- past the count the pair of zeros
+  pub entry-past : (n p : ℕ) → n ≤ p → entryOf modes n levels p ≡ zeroPair
+  unfolding entryOf
+  entry-past n p h = rw (le-ltb p n h)
 
 pub start-next : (modes : List ℕ) (p : ℕ) → startOf modes p + numberCount (getD modes p 0) ≡ startOf modes (p + 1)
 unfolding startOf

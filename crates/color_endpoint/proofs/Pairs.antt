@@ -1,6 +1,6 @@
 -- The pair of colours of a mode: it follows from the numbers that the mode takes, and its channels are bytes.
 -- Assumes nothing.
-use mathlib.Core.Path.{_≡_, refl}
+use mathlib.Core.Path.{_≡_, refl, sym, subst}
 use mathlib.Core.Bool.{Bool, true, false}
 use mathlib.Core.List.{List, [], _∷_}
 use Prim.Native.Nat.{ℕ, zero, suc, _+_, _*_, _/_, _≤_, _<_}
@@ -21,6 +21,7 @@ use Rattle.endpoint_arithmetic.specs.Pair.{zeroPair, luminancePair, scaledPair,
 use Rattle.endpoint_arithmetic.proofs.Laws.{clamped-le}
 use Rattle.color_endpoint.specs.Modes.{level, noLevel, lowLuminance, highLuminance, opaque, mode0, mode1, mode4, mode5, mode6, mode8, mode9, mode10, mode12, mode13, pairOf}
 use Rattle.color_endpoint.specs.Table.{startOf, numbersFrom, entryOf, tableOf}
+use Rattle.color_endpoint.proofs.Laws.{table-at}
 
 -- ---- the numbers that a mode takes
 
@@ -174,9 +175,4 @@ module _ (modes : List ℕ) (count : ℕ) (levels : List Level) (l : (i : ℕ) �
   entry-bytes p = pick-bytes (ltb p count) (pairOf (getD modes p 0) (numbersFrom levels (startOf modes p))) zeroPair (pair-bytes (numbersFrom levels (startOf modes p)) (numbers-le (startOf modes p)) (getD modes p 0)) zero-bytes
 
   pub table-bytes : (p : ℕ) (d : EndpointPair) → p < 4 → Bytes (getD (tableOf modes count levels) p d)
-  unfolding tableOf
-  table-bytes zero d h = entry-bytes 0
-  table-bytes (suc zero) d h = entry-bytes 1
-  table-bytes (suc (suc zero)) d h = entry-bytes 2
-  table-bytes (suc (suc (suc zero))) d h = entry-bytes 3
-  table-bytes (suc (suc (suc (suc p)))) d h = absurd (omega arith)
+  table-bytes p d h = subst Bytes (sym (table-at modes levels count p d h)) (entry-bytes p)
