@@ -3,7 +3,7 @@
 use mathlib.Core.Path.{_≡_, refl, sym, ap, _∙_, subst}
 use mathlib.Core.Bool.{Bool, true, false}
 use mathlib.Core.List.{List, [], _∷_}
-use Prim.Native.Nat.{ℕ, zero, suc, _+_, _-_, _*_, _/_, _%_, _^_, _≤_, _<_, min}
+use Prim.Native.Nat.{ℕ, zero, suc, _+_, _-_, _*_, _/_, _^_, _≤_, _<_, min}
 use native.Mathlib.Nat.{mul-add}
 use native.Mathlib.Decide.{decLt}
 use native.Mathlib.Omega.{arith}
@@ -40,15 +40,20 @@ pub bits-past : (k : ℕ) → 20 < k → bitsAt k ≡ 0
 unfolding bitsAt
 bits-past k h = List·getD-eq-default bitCounts 0 {n = k} h
 
--- ---- from range 1 on trits, bits and quints take turns
+-- no range past the table differs from the first
+pub encoding-capped : (k : ℕ) → encodingAt (min k 21) ≡ encodingAt k
+encoding-capped k =
+    elim (decLt k 21) [
+      | yes p ↦ let e : min k 21 ≡ k = omega arith in rw e
+      | no p ↦ encoding-past (min k 21) (omega arith) ∙ sym (encoding-past k (omega arith))
+    ]
 
-pub encoding-turns : (k : ℕ) → k < 21 → encodingAt k ≡ pick (eqb k 0) Bits (pick (eqb (k % 3) 0) Quints (pick (eqb (k % 3) 1) Trits Bits))
-unfolding tab encodingAt
-encoding-turns = same-below encodingAt (λ k. pick (eqb k 0) Bits (pick (eqb (k % 3) 0) Quints (pick (eqb (k % 3) 1) Trits Bits))) 21 Bits refl
-
-pub bits-turns : (k : ℕ) → k < 21 → bitsAt k ≡ pick (eqb k 0) 1 (pick (eqb (k % 3) 0) (k / 3 - 1) (pick (eqb (k % 3) 1) (k / 3) (k / 3 + 2)))
-unfolding tab bitsAt
-bits-turns = same-below bitsAt (λ k. pick (eqb k 0) 1 (pick (eqb (k % 3) 0) (k / 3 - 1) (pick (eqb (k % 3) 1) (k / 3) (k / 3 + 2)))) 21 0 refl
+pub bits-capped : (k : ℕ) → bitsAt (min k 21) ≡ bitsAt k
+bits-capped k =
+    elim (decLt k 21) [
+      | yes p ↦ let e : min k 21 ≡ k = omega arith in rw e
+      | no p ↦ bits-past (min k 21) (omega arith) ∙ sym (bits-past k (omega arith))
+    ]
 
 -- ---- bounds, for every k
 

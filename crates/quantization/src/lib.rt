@@ -3,45 +3,63 @@ use encoding::Encoding;
 use encoding::Level;
 use encoding::Stored;
 ghost use mathlib.Core.Path.{_≡_};
-ghost use Prim.Native.Nat.{_-_, _≤_};
+ghost use Prim.Native.Nat.{_-_, _≤_, min};
+ghost use lib.Dec.{eqb};
 ghost use Rattle.laws.specs.Choice.{pick};
+ghost use Rattle.encoding.specs.declared.Encoding.the-variants.{Bits, Trits, Quints};
 ghost use Rattle.quantization.specs.Ranges.{encodingAt, bitsAt, mostAt, rangeBits, endpointRange};
 ghost use Rattle.quantization.specs.Unquantise.{unquantEndpoint, unquantWeight};
 ghost use Rattle.quantization.specs.Products.{byRule, Right};
 ghost use Rattle.quantization.specs.Words.{byWords, RightWords};
 
-// What stands above the bits of a number of the range. From range 1 on trits, bits and quints take turns.
+// A choice between two numbers that are there already, which takes no branch.
+fn chosen(first: bool, x: u8, y: u8) -> u8
+    ensures { λ r. ⌜ r ≡ pick first x y ⌝ }
+{
+    if first { x } else { y }
+}
+
+// The range's place in a packed table of the twenty-one, whose entry past the last is 0.
+fn place_of(range: u8) -> u32
+    ensures { λ r. ⌜ r ≡ min range 21 ⌝ }
+{
+    if range < 21 { range as u32 } else { 21 }
+}
+
+fn encoding_told(n: u64) -> Encoding
+    ensures { λ r. ⌜ r ≡ pick (eqb n 0) Bits (pick (eqb n 1) Trits Quints) ⌝ }
+{
+    match n {
+        0 => Encoding::Bits,
+        1 => Encoding::Trits,
+        _ => Encoding::Quints,
+    }
+}
+
+// Two bits for each range, range 0 lowest: 0 for bits alone, 1 for a trit, 2 for a quint.
+const ENCODINGS: u64 = 0x6186186184;
+
+// What stands above the bits of a number of the range.
 pub fn encoding_at(range: u8) -> Encoding
     ensures { λ r. ⌜ r ≡ encodingAt range ⌝ }
 {
-    if range == 0 {
-        return Encoding::Bits;
-    }
-    if range > 20 {
-        return Encoding::Bits;
-    }
-    match range % 3 {
-        0 => Encoding::Quints,
-        1 => Encoding::Trits,
-        _ => Encoding::Bits,
-    }
+    encoding_told((ENCODINGS >> (2 * place_of(range))) % 4)
 }
+
+// How many bits the numbers have, four bits for each range: of ranges 0 to 15, and of those from 16 on.
+const BITS_LOW: u64 = 0x4643532421310201;
+
+const BITS_HIGH: u64 = 0x86575;
 
 // How many bits a number of the range has.
 pub fn bits_at(range: u8) -> u8
     ensures { λ r. ⌜ r ≡ bitsAt range ⌝ }
 {
-    if range == 0 {
-        return 1;
-    }
-    if range > 20 {
-        return 0;
-    }
-    match range % 3 {
-        0 => range / 3 - 1,
-        1 => range / 3,
-        _ => range / 3 + 2,
-    }
+    let place = place_of(range);
+    let from = 4 * (place % 16);
+    let low = ((BITS_LOW >> from) % 16) as u8;
+    let high = ((BITS_HIGH >> from) % 16) as u8;
+    chosen(place < 16, low, high)
 }
 
 // The largest number of the range.
@@ -68,13 +86,6 @@ pub fn bits_left(available: u32, used: u32) -> u32
         return 0;
     }
     available - used
-}
-
-// A choice between two numbers that are there already, which takes no branch.
-fn chosen(first: bool, x: u8, y: u8) -> u8
-    ensures { λ r. ⌜ r ≡ pick first x y ⌝ }
-{
-    if first { x } else { y }
 }
 
 // Ranges 3k + 1, 3k + 2 and 3k + 3 have k bits and a trit, k + 2 bits, and k bits and a quint, and take more bits in this order.

@@ -1,35 +1,64 @@
-use mathlib.Core.Path.{sym}
+use mathlib.Core.Path.{_≡_, refl, _∙_}
+use Prim.Native.Nat.{ℕ, _*_, _/_, _%_, _^_, min}
 use native.Mathlib.Omega.{arith}
-use Prim.Native.Nat.{_<_}
-use borrow.Author.Tests.{eq-eqb, ne-eqb}
+use lib.Dec.{ltb}
+use Rattle.laws.specs.Choice.{pick}
+use Rattle.laws.specs.Table.{tab}
 use Rattle.quantization.specs.Ranges.{bitsAt}
-use Rattle.quantization.proofs.Ranges.{bits-past, bits-turns}
+use Rattle.quantization.proofs.Ranges.{same-below, bits-capped}
 use borrow.Author.Needs.{needs}
 use Rattle.quantization.proofs.bits_at.Statement.{statement}
 use Rattle.quantization.proofs.bits_at.Tie as tie
 
+-- four bits of the first word, and past it of the second
+abbrev told : ℕ → ℕ → ℕ → ℕ
+told x y k = pick (ltb k 16) (x / 2 ^ (4 * (k % 16)) % 16) (y / 2 ^ (4 * (k % 16)) % 16)
+
+packed : (x y : ℕ) → tab (told x y) 22 ≡ tab bitsAt 22 → (k : ℕ) → told x y (min k 21) ≡ bitsAt k
+packed x y e k = same-below (told x y) bitsAt 22 0 e (min k 21) (omega arith) ∙ bits-capped k
+
+place-of-requires : tie.Need-place-of-requires
+place-of-requires c κs = search needs
+
+mul-from : tie.Need-mul-from
+mul-from c = search needs
+
+cast-low : tie.Need-cast-low
+cast-low c = search needs
+
+shr-low : tie.Need-shr-low
+shr-low c = search needs
+
+cast-low-2 : tie.Need-cast-low-2
+cast-low-2 c = search needs
+
+cast-high : tie.Need-cast-high
+cast-high c = search needs
+
+shr-high : tie.Need-shr-high
+shr-high c = search needs
+
+cast-high-2 : tie.Need-cast-high-2
+cast-high-2 c = search needs
+
+chosen-requires : tie.Need-chosen-requires
+chosen-requires c κs = search needs
+
 returns : tie.Need-returns
-unfolding bitsAt
-returns c = rw (c .if1 .taken)
-
-returns-2 : tie.Need-returns-2
-returns-2 c = sym (bits-past _ (omega arith))
-
-sub-result : tie.Need-sub-result
-sub-result c = search needs
-
-add-result : tie.Need-add-result
-add-result c = search needs
-
-returns-3 : tie.Need-returns-3
-returns-3 c = let h : c .before .before .before .args .range < 21 = omega arith in rw (bits-turns (c .before .before .before .args .range) h, ne-eqb _ _ (c .before .before .if1 .left), eq-eqb _ _ (c .match .keys1))
-
-returns-4 : tie.Need-returns-4
-returns-4 c = let h : c .before .before .before .args .range < 21 = omega arith in rw (bits-turns (c .before .before .before .args .range) h, ne-eqb _ _ (c .before .before .if1 .left), c .match .keys2)
-
-returns-5 : tie.Need-returns-5
-returns-5 c = let h : c .before .before .before .args .range < 21 = omega arith in rw (bits-turns (c .before .before .before .args .range) h, ne-eqb _ _ (c .before .before .if1 .left), ne-eqb _ _ (c .match .rest .0 .1), ne-eqb _ _ (c .match .rest .1))
+unfolding tab bitsAt
+returns c = rw (c .chosen .ensures, c .before .place-of .ensures) (packed _ _ refl (c .before .before .args .range))
 
 pub bits-at-spec : {M : Type 1} → statement M
 bits-at-spec =
-    tie.close (tie.spec returns returns-2 sub-result add-result returns-3 returns-4 returns-5)
+    tie.close
+    (tie.spec
+    place-of-requires
+    mul-from
+    cast-low
+    shr-low
+    cast-low-2
+    cast-high
+    shr-high
+    cast-high-2
+    chosen-requires
+    returns)

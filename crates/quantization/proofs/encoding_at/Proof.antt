@@ -1,27 +1,50 @@
-use mathlib.Core.Path.{sym}
+use mathlib.Core.Path.{_≡_, refl, _∙_}
+use Prim.Native.Nat.{ℕ, _*_, _/_, _%_, _^_, min}
 use native.Mathlib.Omega.{arith}
-use Prim.Native.Nat.{_<_}
-use borrow.Author.Tests.{eq-eqb, ne-eqb}
+use lib.Dec.{eqb}
+use Rattle.laws.specs.Choice.{pick}
+use Rattle.laws.specs.Table.{tab}
+use Rattle.encoding.specs.declared.Encoding.{Encoding}
+use Rattle.encoding.specs.declared.Encoding.the-variants.{Bits, Trits, Quints}
 use Rattle.quantization.specs.Ranges.{encodingAt}
-use Rattle.quantization.proofs.Ranges.{encoding-past, encoding-turns}
+use Rattle.quantization.proofs.Ranges.{same-below, encoding-capped}
+use borrow.Author.Needs.{needs}
 use Rattle.quantization.proofs.encoding_at.Statement.{statement}
 use Rattle.quantization.proofs.encoding_at.Tie as tie
 
+-- the encoding that two bits of w tell
+abbrev told : ℕ → ℕ → Encoding
+told w k = pick (eqb (w / 2 ^ (2 * k) % 4) 0) Bits (pick (eqb (w / 2 ^ (2 * k) % 4) 1) Trits Quints)
+
+packed : (w : ℕ) → tab (told w) 22 ≡ tab encodingAt 22 → (k : ℕ) → told w (min k 21) ≡ encodingAt k
+packed w e k = same-below (told w) encodingAt 22 Bits e (min k 21) (omega arith) ∙ encoding-capped k
+
+place-of-requires : tie.Need-place-of-requires
+place-of-requires c κs = search needs
+
+mul-encoding-told : tie.Need-mul-encoding-told
+mul-encoding-told c = search needs
+
+cast-encoding-told : tie.Need-cast-encoding-told
+cast-encoding-told c = search needs
+
+shr-encoding-told : tie.Need-shr-encoding-told
+shr-encoding-told c = search needs
+
+encoding-told-requires : tie.Need-encoding-told-requires
+encoding-told-requires c κs = search needs
+
 returns : tie.Need-returns
-unfolding encodingAt
-returns c = rw (c .if1 .taken)
-
-returns-2 : tie.Need-returns-2
-returns-2 c = sym (encoding-past _ (omega arith))
-
-returns-3 : tie.Need-returns-3
-returns-3 c = let h : c .before .before .before .args .range < 21 = omega arith in rw (encoding-turns (c .before .before .before .args .range) h, ne-eqb _ _ (c .before .before .if1 .left), eq-eqb _ _ (c .match .keys1))
-
-returns-4 : tie.Need-returns-4
-returns-4 c = let h : c .before .before .before .args .range < 21 = omega arith in rw (encoding-turns (c .before .before .before .args .range) h, ne-eqb _ _ (c .before .before .if1 .left), c .match .keys2)
-
-returns-5 : tie.Need-returns-5
-returns-5 c = let h : c .before .before .before .args .range < 21 = omega arith in rw (encoding-turns (c .before .before .before .args .range) h, ne-eqb _ _ (c .before .before .if1 .left), ne-eqb _ _ (c .match .rest .0 .1), ne-eqb _ _ (c .match .rest .1))
+unfolding tab encodingAt
+returns c = rw (c .encoding-told .ensures, c .before .place-of .ensures) (packed _ refl (c .before .before .args .range))
 
 pub encoding-at-spec : {M : Type 1} → statement M
-encoding-at-spec = tie.close (tie.spec returns returns-2 returns-3 returns-4 returns-5)
+encoding-at-spec =
+    tie.close
+    (tie.spec
+    place-of-requires
+    mul-encoding-told
+    cast-encoding-told
+    shr-encoding-told
+    encoding-told-requires
+    returns)
