@@ -2,17 +2,18 @@
 -- Assumes nothing.
 use mathlib.Core.Path.{_≡_, refl, sym, ap, _∙_, subst}
 use mathlib.Core.Bool.{Bool, true, false}
-use mathlib.Core.List.{List}
-use Prim.Native.Nat.{ℕ, _+_, _*_, _≤_, _<_}
+use mathlib.Core.List.{List, []}
+use Prim.Native.Nat.{ℕ, _+_, _-_, _*_, _≤_, _<_, min}
+use native.Mathlib.Nat.{mul-le-mul-right, suc-mul}
 use native.Mathlib.Decide.{decLt}
 use native.Mathlib.Omega.{arith}
 use lib.Dec.{T, eqb, leb, ltb, eqb→eq, leb→le}
 use lib.ListN.{getD, set}
-use borrow.Author.Tests.{lt-ltb, le-ltb}
+use borrow.Author.Tests.{eqb-true, lt-ltb, le-ltb}
 use Rattle.laws.specs.Choice.{pick, both, all}
 use Rattle.laws.specs.Table.{tab, padded}
 use Rattle.laws.proofs.Computed.{both-left, both-right, each}
-use Rattle.laws.proofs.Filling.{tab-ext, padded-none, padded-more, padded-here}
+use Rattle.laws.proofs.Filling.{getD-tab, tab-ext, padded-none, padded-more, padded-at, padded-here, padded-cap}
 use Rattle.encoding.specs.declared.Encoding.{Encoding}
 use Rattle.encoding.specs.declared.Level.{Level}
 use Rattle.encoding.specs.declared.Stored.{Stored}
@@ -20,25 +21,19 @@ use Rattle.integer_sequence.specs.Reading.{number, numbers, stored}
 use Rattle.quantization.specs.Ranges.{mostAt}
 use Rattle.quantization.specs.Products.{byRule, Right}
 use Rattle.quantization.specs.declared.Rule.{Rule}
-use Rattle.quantization.specs.Unquantise.{isEndpoint, isWeight, unquantEndpoint, unquantWeight}
-use Rattle.weight_grid.specs.Cell.{level}
-use Rattle.texel.specs.Meaning.{endpointLevels, weightLevels}
+use Rattle.quantization.specs.Words.{byWords, RightWords}
+use Rattle.quantization.specs.Unquantise.{isEndpoint, unquantEndpoint, unquantWeight}
+use Rattle.weight_grid.specs.Cell.{level, weightAt}
+use Rattle.weight_grid.specs.Bilinear.{packed, pointOf}
+use Rattle.endpoint_arithmetic.specs.declared.EndpointPair.{EndpointPair}
+use Rattle.endpoint_arithmetic.specs.Pair.{zeroPair}
+use Rattle.color_endpoint.specs.Table.{tableOf}
+use Rattle.color_endpoint.proofs.Laws.{table-at, entry-past}
+use Rattle.interpolation.specs.declared.Kind.{Kind}
+use Rattle.interpolation.specs.Expansion.{noPair}
+use Rattle.interpolation.specs.Line.{lineOf}
 
--- ---- the stored number 0 has the level 0
-
-weight-zeros : T (all (λ k. eqb (unquantWeight k 0) 0) 12)
-unfolding unquantWeight
-weight-zeros = tt
-
-pub weight-zero : (k : ℕ) → unquantWeight k 0 ≡ 0
-unfolding unquantWeight
-weight-zero k = go (isWeight k 0) refl where
-  go : (t : Bool) → isWeight k 0 ≡ t → unquantWeight k 0 ≡ 0
-  go true e =
-      let h : T (isWeight k 0) = rw e tt in
-      let hk : k ≤ 11 = leb→le k 11 (both-left (leb k 11) (leb 0 (mostAt k)) h) in
-      eqb→eq _ _ (each (λ k. eqb (unquantWeight k 0) 0) 12 weight-zeros k (omega arith))
-  go false e = rw e
+-- ---- the stored endpoint number 0 has the level 0
 
 endpoint-zeros : T (all (λ k. eqb (unquantEndpoint k 0) 0) 21)
 unfolding unquantEndpoint
@@ -109,3 +104,63 @@ module _ (N : ℕ) (rule : Rule) (xs : List Stored) where
 pub levels-read : (f : ℕ → ℕ) → f 0 ≡ 0 → (N : ℕ) (κ : Encoding) (b s n : ℕ) → n ≤ 64 → {xs : List Stored} {r : List Level} → xs ≡ numbers κ b s n
     → r ≡ padded N n (λ i. level (f (getD xs i (stored 0) .0))) (level 0) → r ≡ tab (λ i. level (f (pick (ltb i n) (number κ b s i) 0))) N
 levels-read f z N κ b s n h ex er = er ∙ ap (λ (l : List Stored). padded N n (λ i. level (f (getD l i (stored 0) .0))) (level 0)) ex ∙ levels-same f z N κ b s n h
+
+-- ---- the points of a weight grid
+
+-- the levels of stored weights
+abbrev pub levelsOf : ℕ → List Stored → List Level
+levelsOf range xs = tab (λ i. level (unquantWeight range (getD xs i (stored 0) .0))) 64
+
+-- a point, from two stored weights
+pub point-told : (range planes : ℕ) (xs : List Stored) (words : List ℕ) (i : ℕ) {a b : Stored} {r : ℕ} → RightWords (unquantWeight range) words
+    → i * planes + (planes - 1) < 64 → a ≡ getD xs (i * planes) (stored 0) → b ≡ getD xs (i * planes + planes - 1) (stored 0)
+    → r ≡ packed (byWords words (a .0)) (pick (eqb planes 2) (byWords words (b .0)) 0) → r ≡ pointOf (levelsOf range xs) planes i
+unfolding RightWords pointOf weightAt
+point-told range planes xs words i {a} {b} right h ea eb er = er ∙ rw (right (a .0), right (b .0), ea, eb) (go (eqb planes 2) refl) where
+  at : (k : ℕ) → k < 64 → unquantWeight range (getD xs k (stored 0) .0) ≡ getD (levelsOf range xs) k (level 0) .0
+  at k l = sym (ap (λ (x : Level). x .0) (getD-tab (λ i. level (unquantWeight range (getD xs i (stored 0) .0))) 64 k (level 0) l))
+
+  go : (t : Bool) → eqb planes 2 ≡ t
+      → packed (unquantWeight range (getD xs (i * planes) (stored 0) .0)) (pick t (unquantWeight range (getD xs (i * planes + planes - 1) (stored 0) .0)) 0)
+      ≡ packed (getD (levelsOf range xs) (i * planes) (level 0) .0) (pick t (getD (levelsOf range xs) (i * planes + 1) (level 0) .0) 0)
+  go true e =
+      let two = eqb-true planes 2 e in
+      let k : i * planes + planes - 1 ≡ i * planes + 1 = omega (arith, two) in
+      rw (k, at (i * planes) (omega arith), at (i * planes + 1) (omega (arith, two)))
+  go false e = rw (at (i * planes) (omega arith))
+
+-- the place of the last weight of point i of so many
+pub weight-lt : (i count planes : ℕ) → i < count → count * planes ≤ 64 → 1 ≤ planes → i * planes + (planes - 1) < 64
+weight-lt i count planes h room p = omega (arith, mul-le-mul-right planes h, suc-mul i planes)
+
+-- read, then unquantised
+pub weights-read : (range : ℕ) (κ : Encoding) (b s n : ℕ) → levelsOf range (numbers κ b s n) ≡ tab (λ i. level (unquantWeight range (pick (ltb i n) (number κ b s i) 0))) 64
+unfolding numbers
+weights-read range κ b s n =
+    tab-ext (λ i. level (unquantWeight range (getD (numbers κ b s n) i (stored 0) .0))) (λ i. level (unquantWeight range (pick (ltb i n) (number κ b s i) 0))) (level 0) 64 same
+  where
+    inner : (t : Bool) (x : ℕ) → pick t (stored x) (stored 0) .0 ≡ pick t x 0
+    inner true x = refl
+    inner false x = refl
+
+    same : (k : ℕ) → k < 64 → level (unquantWeight range (getD (numbers κ b s n) k (stored 0) .0)) ≡ level (unquantWeight range (pick (ltb k n) (number κ b s k) 0))
+    same k l =
+        ap (λ (x : ℕ). level (unquantWeight range x))
+        (ap (λ (x : Stored). x .0) (padded-at (λ i. stored (number κ b s i)) (stored 0) 64 n k (stored 0) l) ∙ inner (ltb k n) (number κ b s k))
+
+-- ---- the lines of a table's pairs
+
+pub lines-same : (kind : Kind) (modes : List ℕ) (count : ℕ) (levels : List Level) {n : ℕ} {t : List EndpointPair} {r : List (List ℕ)}
+    → n ≡ min count 4 → t ≡ tableOf modes count levels → r ≡ padded 4 n (λ p. lineOf kind (getD t p noPair)) (lineOf kind zeroPair)
+    → r ≡ tab (λ p. lineOf kind (getD (tableOf modes count levels) p noPair)) 4
+unfolding padded
+lines-same kind modes count levels en et er =
+    er ∙ rw (et, en) (padded-cap (λ p. lineOf kind (getD (tableOf modes count levels) p noPair)) (lineOf kind zeroPair) 4 count
+    ∙ tab-ext (λ k. pick (ltb k count) (lineOf kind (getD (tableOf modes count levels) k noPair)) (lineOf kind zeroPair)) (λ p. lineOf kind (getD (tableOf modes count levels) p noPair)) [] 4 same)
+  where
+    same : (k : ℕ) → k < 4 → pick (ltb k count) (lineOf kind (getD (tableOf modes count levels) k noPair)) (lineOf kind zeroPair) ≡ lineOf kind (getD (tableOf modes count levels) k noPair)
+    same k l =
+        elim (decLt k count) [
+          | yes p ↦ rw (lt-ltb k count p)
+          | no p ↦ rw (le-ltb k count (omega arith)) (ap (lineOf kind) (sym (table-at modes levels count k noPair l ∙ entry-past modes levels count k (omega arith))))
+        ]

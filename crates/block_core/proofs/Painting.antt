@@ -1,33 +1,28 @@
 -- Texels laid into a buffer row by row, four numbers each.
 -- Assumes nothing.
 use mathlib.Core.Path.{_≡_, refl, sym, ap, ap₂, _∙_, subst}
-use mathlib.Core.List.{List}
+use mathlib.Core.List.{List, []}
 use Prim.Native.Nat.{ℕ, suc, _+_, _-_, _*_, _/_, _%_, _≤_, _<_}
-use native.Mathlib.Nat.{mul-le-mul, mul-le-mul-right, mul-comm, mul-assoc, suc-mul, add-mul}
-use mathlib.Core.Bool.{Bool, true, false}
+use native.Mathlib.Nat.{mul-le-mul-left, mul-le-mul-right, mul-comm, suc-mul, add-mul}
 use native.Mathlib.Omega.{arith}
 use lib.Arith.{digits-div, digits-mod}
 use lib.Dec.{eqb}
-use borrow.Author.Tests.{eqb-true}
 use lib.ListN.{length, getD}
 use Rattle.laws.specs.Choice.{pick}
-use Rattle.encoding.specs.declared.Level.{Level}
-use Rattle.block_mode.specs.declared.WeightGrid.{WeightGrid}
-use Rattle.partition.specs.declared.Seeds.{Seeds}
-use Rattle.partition.specs.Seeds.{selectBy}
-use Rattle.weight_grid.specs.Cell.{level, weightAt}
-use Rattle.weight_grid.specs.Bilinear.{blendOf, stepOf, readOf}
-use Rattle.weight_grid.proofs.Reading.{read-lt}
-use Rattle.block_mode.specs.Back2D.{Limits}
-use Rattle.block_header.specs.Counts.{weightCount}
-use Rattle.interpolation.specs.declared.ExpandedPair.{ExpandedPair}
-use Rattle.interpolation.specs.Texel.{texelOf}
-use Rattle.block_core.specs.Prepared.{noExpanded, texelAt}
 use Rattle.laws.specs.Table.{putFour}
 use Rattle.laws.proofs.Filling.{Filled, filled-four, length-four}
 use Rattle.footprint.specs.Footprint.{widthOf, heightOf, texelsOf}
+use Rattle.block_mode.specs.declared.WeightGrid.{WeightGrid}
+use Rattle.block_mode.specs.Back2D.{Limits}
+use Rattle.block_header.specs.Counts.{weightCount}
+use Rattle.partition.specs.declared.Seeds.{Seeds}
+use Rattle.partition.specs.Seeds.{selectBy}
+use Rattle.weight_grid.specs.Bilinear.{bothOf, stepOf, readOf}
+use Rattle.weight_grid.proofs.Reading.{read-lt}
 use Rattle.interpolation.specs.declared.Texel.{Texel}
+use Rattle.interpolation.specs.Line.{lineTexel}
 use Rattle.texel.specs.Meaning.{channel}
+use Rattle.block_core.specs.Prepared.{texelAt}
 use Rattle.block_core.specs.Held.{numberIn, RowsTo, Shown}
 
 -- the list holds the first n numbers of texels given by their place
@@ -102,45 +97,22 @@ laid-shown fp texel l t e w = record { size = w .size; holds = λ k h. w .holds 
 
 -- ---- a texel
 
--- the weight from number n and its neighbours so far on
-abbrev pub cornersAt : List Level → ℕ → ℕ → ℕ → ℕ → ℕ → ℕ
-cornersAt levels right below gs gt n =
-    blendOf (gs % 16) (gt % 16)
-    (getD levels n (level 0) .0) (getD levels (n + right) (level 0) .0)
-    (getD levels (n + below) (level 0) .0) (getD levels (n + below + right) (level 0) .0)
-
-inner : (t : Bool) (a b : ℕ) → pick t (level a) (level b) ≡ level (pick t a b)
-inner true a b = refl
-inner false a b = refl
-
--- what is read are weights of the grid
-pub reach : (g : WeightGrid) (gs gt : ℕ) → Limits g → weightCount g ≤ 64 → gs ≤ 16 * (g .width - 1) → gt ≤ 16 * (g .height - 1)
-    → gt / 16 * (g .width * g .planes) + gs / 16 * g .planes + stepOf gt (g .height) (g .width * g .planes) + stepOf gs (g .width) (g .planes) + (g .planes - 1) < 64
+-- a grid of at most 64 weights has at most 64 points
+pub points-le : (g : WeightGrid) → Limits g → weightCount g ≤ 64 → g .width * g .height ≤ 64
 unfolding weightCount
+points-le g l n = omega (arith, n, mul-le-mul-left (g .width * g .height) (l .planes-low))
+
+-- what is read are points of the grid
+pub reach : (g : WeightGrid) (gs gt : ℕ) → Limits g → weightCount g ≤ 64 → gs ≤ 16 * (g .width - 1) → gt ≤ 16 * (g .height - 1)
+    → gt / 16 * g .width + gs / 16 + stepOf gt (g .height) (g .width) + stepOf gs (g .width) 1 < 64
 reach g gs gt l n hs ht =
-    omega (arith, n, read-lt (g .width) (g .height) (g .planes) gs gt (omega (arith, l .width-low)) (omega (arith, l .height-low)) (l .planes-low) hs ht)
+    omega (arith, points-le g l n, read-lt (g .width) (g .height) gs gt (omega (arith, l .width-low)) (omega (arith, l .height-low)) hs ht)
 
 -- the texel, step by step
-pub told : (g : WeightGrid) (component : ℕ) (levels : List Level) (table : List ExpandedPair) (seeds : Seeds) (partitions gs gt x y n : ℕ) {right below : ℕ} {first second : Level} {p : ℕ} {t : Texel}
-    → n ≡ gt / 16 * (g .width * g .planes) + gs / 16 * g .planes
-    → right ≡ stepOf gs (g .width) (g .planes) → below ≡ stepOf gt (g .height) (g .width * g .planes)
-    → first ≡ level (cornersAt levels right below gs gt n)
-    → second ≡ pick (eqb (g .planes) 2) (level (cornersAt levels right below gs gt (n + (g .planes - 1)))) first
-    → p ≡ pick (eqb partitions 1) 0 (selectBy seeds x y) → t ≡ texelOf (getD table p noExpanded) first second component
-    → t ≡ texelAt g component levels table seeds partitions gs gt x y
-unfolding texelAt readOf weightAt
-told g component levels table seeds partitions gs gt x y n {right} {below} {first} {second} en er eb ef es ep et =
-    let z : n ≡ n + 0 = omega arith in
-    let a : first ≡ level (readOf levels (g .width) (g .height) (g .planes) 0 gs gt) =
-    ef ∙ rw (er, eb) (ap (λ (k : ℕ). level (cornersAt levels (stepOf gs (g .width) (g .planes)) (stepOf gt (g .height) (g .width * g .planes)) gs gt k)) (z ∙ ap (λ (k : ℕ). k + 0) en)) in
-    let b : second ≡ level (pick (eqb (g .planes) 2) (readOf levels (g .width) (g .height) (g .planes) 1 gs gt) (readOf levels (g .width) (g .height) (g .planes) 0 gs gt)) =
-    es ∙ rw a (go (eqb (g .planes) 2) refl) in
-    rw (et, a, b, ep)
-  where
-    go : (u : Bool) → eqb (g .planes) 2 ≡ u
-        → pick u (level (cornersAt levels right below gs gt (n + (g .planes - 1)))) (level (readOf levels (g .width) (g .height) (g .planes) 0 gs gt))
-        ≡ level (pick u (readOf levels (g .width) (g .height) (g .planes) 1 gs gt) (readOf levels (g .width) (g .height) (g .planes) 0 gs gt))
-    go true e =
-        let two : g .planes - 1 ≡ 1 = (let q = eqb-true (g .planes) 2 e in omega (arith, q)) in
-        rw (er, eb) (ap (λ (k : ℕ). level (cornersAt levels (stepOf gs (g .width) (g .planes)) (stepOf gt (g .height) (g .width * g .planes)) gs gt k)) (ap (λ (k : ℕ). n + k) two ∙ ap (λ (k : ℕ). k + 1) en))
-    go false e = refl
+pub told : (g : WeightGrid) (component : ℕ) (points : List ℕ) (lines : List (List ℕ)) (seeds : Seeds) (partitions gs gt x y n : ℕ) {right below both p first second : ℕ} {t : Texel}
+    → n ≡ gt / 16 * g .width + gs / 16 → right ≡ stepOf gs (g .width) 1 → below ≡ stepOf gt (g .height) (g .width)
+    → both ≡ bothOf (gs % 16) (gt % 16) (getD points n 0) (getD points (n + right) 0) (getD points (n + below) 0) (getD points (n + below + right) 0)
+    → p ≡ pick (eqb partitions 1) 0 (selectBy seeds x y) → first ≡ both % 256 → second ≡ both / 65536
+    → t ≡ lineTexel (getD lines p []) first second component → t ≡ texelAt g component points lines seeds partitions gs gt x y
+unfolding texelAt readOf
+told g component points lines seeds partitions gs gt x y n en er eb ew ep ef es et = rw (et, ef, es, ew, ep, er, eb, en)

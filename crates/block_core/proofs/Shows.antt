@@ -2,8 +2,8 @@
 -- Assumes nothing.
 use mathlib.Core.Path.{_≡_, refl, sym, ap, _∙_, subst}
 use mathlib.Core.Bool.{Bool, true, false}
-use mathlib.Core.List.{List}
-use Prim.Native.Nat.{ℕ, _-_, _*_, _/_, _%_, _≤_, _<_}
+use mathlib.Core.List.{List, []}
+use Prim.Native.Nat.{ℕ, _+_, _-_, _*_, _/_, _%_, _≤_, _<_, min}
 use native.Mathlib.Nat.{mod-lt, div-lt-iff-lt-mul, mul-comm, zero-mul}
 use native.Mathlib.Decide.{decLt}
 use native.Mathlib.Omega.{arith}
@@ -11,25 +11,37 @@ use lib.Dec.{eqb, ltb}
 use lib.ListN.{length, getD}
 use borrow.Author.Tests.{eq-eqb, ne-eqb, eqb-true, lt-ltb}
 use Rattle.laws.specs.Choice.{pick}
+use Rattle.laws.specs.Table.{tab, padded}
+use Rattle.laws.proofs.Filling.{getD-tab, tab-all}
 use Rattle.encoding.specs.declared.Level.{Level}
 use Rattle.integer_sequence.specs.Reading.{number, sequenceAt}
 use Rattle.quantization.specs.Ranges.{encodingAt, bitsAt}
+use Rattle.quantization.specs.Unquantise.{unquantEndpoint, unquantWeight}
+use Rattle.quantization.proofs.Levels.{endpoint-le, weight-le}
 use Rattle.footprint.specs.Footprint.{widthOf, heightOf, texelsOf, isSmall}
 use Rattle.weight_grid.specs.Place.{scaleOf, gridPlace}
-use Rattle.weight_grid.specs.Bilinear.{infillOf, readOf}
-use Rattle.weight_grid.proofs.Reading.{read-agrees}
+use Rattle.weight_grid.specs.Cell as cell
+use Rattle.weight_grid.specs.Cell.{level}
+use Rattle.weight_grid.specs.Bilinear.{infillOf, packed, readOf, pointOf, pointsOf}
+use Rattle.weight_grid.proofs.Reading.{first-read, second-read, first-le, second-most}
 use Rattle.block_mode.specs.Back2D.{Limits}
 use Rattle.partition.specs.declared.Seeds.{Seeds}
 use Rattle.partition.specs.Select.{partitionOf}
 use Rattle.partition.specs.Seeds.{selectBy, seedsOf}
 use Rattle.partition.proofs.Agree.{agrees}
 use Rattle.partition.proofs.Bounds.{partition-lt-4}
+use Rattle.endpoint_arithmetic.specs.declared.EndpointPair.{EndpointPair}
+use Rattle.endpoint_arithmetic.specs.Pair.{zeroPair}
+use Rattle.color_endpoint.specs.Modes as modes
 use Rattle.color_endpoint.specs.Table.{tableOf}
+use Rattle.color_endpoint.proofs.Pairs.{Bytes, table-bytes}
 use Rattle.interpolation.specs.declared.Kind.{Kind}
 use Rattle.interpolation.specs.declared.Texel.{Texel}
-use Rattle.interpolation.specs.Expansion.{noPair, expandedPair, expandedTable}
 use Rattle.interpolation.specs.declared.ExpandedPair.{ExpandedPair}
-use Rattle.interpolation.proofs.Laws.{expanded-at}
+use Rattle.interpolation.specs.Expansion.{noPair, expandedPair}
+use Rattle.interpolation.specs.Texel.{weightOf, channelOf, texelOf}
+use Rattle.interpolation.specs.Line.{lineOf}
+use Rattle.interpolation.proofs.Lines.{line-texel}
 use Rattle.block_header.specs.declared.Header.{Header}
 use Rattle.block_header.specs.Counts.{weightCount, endpointCount, endpointRangeOf}
 use Rattle.block_fault.specs.Bits.{modeAt, isVoid, headerAt, endpointsFrom, endpointAt, weightAt, colourAt}
@@ -37,49 +49,115 @@ use Rattle.block_fault.specs.Faults.{faultOf}
 use Rattle.texel.specs.Meaning.{endpointLevels, weightLevels, planeWeight, secondWeight, secondComponent, mixedTexel, texelFrom, solidTexel, magenta, channel}
 use Rattle.texel.specs.BlockTexel.{soundTexel, blockTexel, blockChannel}
 use Rattle.block_core.specs.declared.Frame.{Frame}
-use Rattle.block_core.specs.Prepared.{noExpanded, frameOf, texelAt, texelIn, Inside}
+use Rattle.block_core.specs.Prepared.{frameOf, texelAt, texelIn, Inside, PackedBytes}
 use Rattle.block_core.specs.Held.{numberIn, RowsTo, Shown, Held}
 use Rattle.block_core.proofs.Frames.{inside}
-use Rattle.block_core.proofs.Painting.{rows-shown}
+use Rattle.block_core.proofs.Levels.{lines-same}
+use Rattle.block_core.proofs.Painting.{points-le, rows-shown}
 
--- the pair of a texel's partition
-pair-of : (kind : Kind) (h : Header) (ends : List Level) (small : Bool) (x y : ℕ)
-    → getD (expandedTable kind (tableOf (h .modes) (h .partitions) ends)) (pick (eqb (h .partitions) 1) 0 (selectBy (seedsOf (h .index) (h .partitions) small) x y)) noExpanded
-    ≡ expandedPair kind (getD (tableOf (h .modes) (h .partitions) ends) (partitionOf (h .index) (h .partitions) small x y 0) noPair)
+-- the lines of a header's pairs
+abbrev linesIn : Kind → Header → List Level → List (List ℕ)
+linesIn kind h ends = tab (λ p. lineOf kind (getD (tableOf (h .modes) (h .partitions) ends) p noPair)) 4
+
+-- the line of a texel's partition
+line-at : (kind : Kind) (h : Header) (ends : List Level) (small : Bool) (x y : ℕ)
+    → getD (linesIn kind h ends) (pick (eqb (h .partitions) 1) 0 (selectBy (seedsOf (h .index) (h .partitions) small) x y)) []
+    ≡ lineOf kind (getD (tableOf (h .modes) (h .partitions) ends) (partitionOf (h .index) (h .partitions) small x y 0) noPair)
 unfolding partitionOf
-pair-of kind h ends small x y =
-    ap (λ (p : ℕ). getD (expandedTable kind (tableOf (h .modes) (h .partitions) ends)) p noExpanded) (go (eqb (h .partitions) 1) refl ∙ agrees (h .index) (h .partitions) small x y)
-    ∙ expanded-at kind (tableOf (h .modes) (h .partitions) ends) _ noExpanded (partition-lt-4 (h .index) (h .partitions) small x y 0)
+line-at kind h ends small x y =
+    ap (λ (p : ℕ). getD (linesIn kind h ends) p []) (go (eqb (h .partitions) 1) refl ∙ agrees (h .index) (h .partitions) small x y)
+    ∙ getD-tab (λ p. lineOf kind (getD (tableOf (h .modes) (h .partitions) ends) p noPair)) 4 _ [] (partition-lt-4 (h .index) (h .partitions) small x y 0)
   where
     go : (t : Bool) → eqb (h .partitions) 1 ≡ t → pick t 0 (selectBy (seedsOf (h .index) (h .partitions) small) x y) ≡ selectBy (seedsOf (h .index) (h .partitions) small) x y
     go true e = let one = eqb-true (h .partitions) 1 e in sym (agrees (h .index) (h .partitions) small x y ∙ rw (lt-ltb (h .partitions) 2 (omega (arith, one))))
     go false e = refl
 
-module _ (fp : ℕ) (kind : Kind) (h : Header) (ends : List Level) (stored : ℕ → ℕ) (l : Limits (h .grid)) (n : weightCount (h .grid) ≤ 64) where
+-- with no second component the second weight does not count
+no-second : (p : ExpandedPair) (first second third : Level) → texelOf p first second 4 ≡ texelOf p first third 4
+unfolding texelOf channelOf weightOf
+no-second p first second third = refl
+
+module _ (h : Header) (stored : ℕ → ℕ) where
   abbrev weights : List Level
   weights = weightLevels (h .grid .range) stored
 
-  abbrev places : Inside (h .grid) (frameOf fp)
-  places = inside fp (h .grid) l n
+  abbrev points : List ℕ
+  points = pointsOf weights (h .grid .planes) (h .grid .width * h .grid .height)
 
-  -- the weights read are the weights of the texel
-  read : (plane gs gt : ℕ) → gs ≤ 16 * (h .grid .width - 1) → gt ≤ 16 * (h .grid .height - 1)
-      → readOf weights (h .grid .width) (h .grid .height) (h .grid .planes) plane gs gt ≡ infillOf weights (h .grid .width) (h .grid .height) (h .grid .planes) plane gs gt
-  read plane gs gt hs ht = read-agrees weights (h .grid .width) (h .grid .height) (h .grid .planes) plane gs gt (omega (arith, l .width-low)) (omega (arith, l .height-low)) hs ht
+  most : (k : ℕ) → cell.weightAt weights k ≤ 64
+  unfolding weightLevels cell.weightAt
+  most k = tab-all (λ x. x .0 ≤ 64) (λ i. level (unquantWeight (h .grid .range) (stored i))) (level 0) (λ i. weight-le (h .grid .range) (stored i)) (omega arith) 64 k
 
-  -- what is left to do for a texel gives the texel
-  pub prepared : (x y : ℕ) → x < widthOf fp → y < heightOf fp
-      → texelIn (h .grid) (secondComponent fp kind h ends weights x y) weights (expandedTable kind (tableOf (h .modes) (h .partitions) ends))
-      (seedsOf (h .index) (h .partitions) (isSmall fp)) (h .partitions) (frameOf fp) x y
-      ≡ mixedTexel fp kind h ends weights x y
-  unfolding texelIn texelAt frameOf mixedTexel planeWeight secondWeight
-  prepared x y hx hy =
-      let g = h .grid in
-      let gs = gridPlace (scaleOf (widthOf fp)) x (g .width) in
-      let gt = gridPlace (scaleOf (heightOf fp)) y (g .height) in
-      let hs : gs ≤ 16 * (g .width - 1) = places .columns x hx in
-      let ht : gt ≤ 16 * (g .height - 1) = places .rows y hy in
-      rw (pair-of kind h ends (isSmall fp) x y, read 0 gs gt hs ht, read 1 gs gt hs ht)
+  -- the two weights of a point are bytes
+  pub packed-bytes : PackedBytes points
+  unfolding pointsOf pointOf padded
+  packed-bytes k = tab-all (λ x. x ≤ 16711935) (λ i. pick (ltb i (h .grid .width * h .grid .height)) (pointOf weights (h .grid .planes) i) 0) 0 each (omega arith) 64 k where
+    two : (i : ℕ) (t : Bool) → packed (cell.weightAt weights (i * h .grid .planes)) (pick t (cell.weightAt weights (i * h .grid .planes + 1)) 0) ≤ 16711935
+    two i true = omega (arith, most (i * h .grid .planes), most (i * h .grid .planes + 1))
+    two i false = omega (arith, most (i * h .grid .planes))
+
+    each : (i : ℕ) → pick (ltb i (h .grid .width * h .grid .height)) (pointOf weights (h .grid .planes) i) 0 ≤ 16711935
+    each i = go (ltb i (h .grid .width * h .grid .height)) where
+      go : (t : Bool) → pick t (pointOf weights (h .grid .planes) i) 0 ≤ 16711935
+      go true = two i (eqb (h .grid .planes) 2)
+      go false = omega arith
+
+module _ (fp : ℕ) (kind : Kind) (h : Header) (ends : List Level) (bytes : (k : ℕ) → modes.level ends k ≤ 255) (stored : ℕ → ℕ) (l : Limits (h .grid)) (n : weightCount (h .grid) ≤ 64) where
+  module _ (x y : ℕ) (hx : x < widthOf fp) (hy : y < heightOf fp) where
+    abbrev gs : ℕ
+    gs = gridPlace (scaleOf (widthOf fp)) x (h .grid .width)
+
+    abbrev gt : ℕ
+    gt = gridPlace (scaleOf (heightOf fp)) y (h .grid .height)
+
+    column : gs ≤ 16 * (h .grid .width - 1)
+    unfolding frameOf
+    column = inside fp (h .grid) l n .columns x hx
+
+    row : gt ≤ 16 * (h .grid .height - 1)
+    unfolding frameOf
+    row = inside fp (h .grid) l n .rows y hy
+
+    abbrev both : ℕ
+    both = readOf (points h stored) (h .grid .width) (h .grid .height) gs gt
+
+    abbrev infilled : ℕ → ℕ
+    infilled plane = infillOf (weights h stored) (h .grid .width) (h .grid .height) (h .grid .planes) plane gs gt
+
+    first-is : both % 256 ≡ infilled 0
+    first-is = first-read (h .grid .width) (h .grid .height) gs gt (omega (arith, l .width-low)) (omega (arith, l .height-low)) column row (weights h stored) (h .grid .planes) (most h stored) (points-le (h .grid) l n)
+
+    second-is : h .grid .planes ≡ 2 → both / 65536 ≡ infilled 1
+    second-is = second-read (h .grid .width) (h .grid .height) gs gt (omega (arith, l .width-low)) (omega (arith, l .height-low)) column row (weights h stored) (h .grid .planes) (most h stored) (points-le (h .grid) l n)
+
+    first-most : both % 256 ≤ 64
+    first-most = first-le (h .grid .width) (h .grid .height) gs gt (omega (arith, l .width-low)) (omega (arith, l .height-low)) column row (weights h stored) (h .grid .planes) (most h stored) (points-le (h .grid) l n)
+
+    last-most : both / 65536 ≤ 64
+    last-most = second-most (h .grid .width) (h .grid .height) gs gt (omega (arith, l .width-low)) (omega (arith, l .height-low)) column row (weights h stored) (h .grid .planes) (most h stored) (points-le (h .grid) l n)
+
+    abbrev pair : EndpointPair
+    pair = getD (tableOf (h .modes) (h .partitions) ends) (partitionOf (h .index) (h .partitions) (isSmall fp) x y 0) noPair
+
+    pair-bytes : Bytes pair
+    pair-bytes = table-bytes (h .modes) (h .partitions) ends bytes (partitionOf (h .index) (h .partitions) (isSmall fp) x y 0) noPair (partition-lt-4 (h .index) (h .partitions) (isSmall fp) x y 0)
+
+    -- the second weight counts with two planes only
+    second-told : (t : Bool) → eqb (h .grid .planes) 2 ≡ t
+        → texelOf (expandedPair kind pair) (level (infilled 0)) (level (both / 65536)) (pick t (h .component) 4)
+        ≡ texelOf (expandedPair kind pair) (level (infilled 0)) (level (pick t (infilled 1) (infilled 0))) (pick t (h .component) 4)
+    second-told true e = ap (λ (k : ℕ). texelOf (expandedPair kind pair) (level (infilled 0)) (level k) (h .component)) (second-is (eqb-true (h .grid .planes) 2 e))
+    second-told false e = no-second (expandedPair kind pair) _ _ _
+
+    -- what is left to do for a texel gives the texel
+    pub prepared : texelIn (h .grid) (secondComponent fp kind h ends (weights h stored) x y) (points h stored) (linesIn kind h ends) (seedsOf (h .index) (h .partitions) (isSmall fp)) (h .partitions) (frameOf fp) x y
+        ≡ mixedTexel fp kind h ends (weights h stored) x y
+    unfolding texelIn texelAt frameOf mixedTexel planeWeight secondWeight secondComponent
+    prepared =
+        rw (line-at kind h ends (isSmall fp) x y)
+        (line-texel kind pair (both % 256) (both / 65536) _ (pair-bytes .first) (pair-bytes .second) first-most last-most
+        ∙ ap (λ (k : ℕ). texelOf (expandedPair kind pair) (level k) (level (both / 65536)) (secondComponent fp kind h ends (weights h stored) x y)) first-is
+        ∙ second-told (eqb (h .grid .planes) 2) refl)
 
 one-of : (a b : ℕ) {k : ℕ} → k < a * b → 0 < a
 one-of a b h = elim (decLt 0 a) [
@@ -109,28 +187,34 @@ levelsBy : ℕ → ℕ → ℕ → ℕ → List Level
 levelsBy B range n from =
     endpointLevels range (λ i. pick (ltb i n) (number (encodingAt range) (bitsAt range) (sequenceAt (encodingAt range) (bitsAt range) B from n) i) 0)
 
-pub pairs-told : (B : ℕ) (h : Header) (kind : Kind) {n from range : ℕ} {ends : List Level} {r : List ExpandedPair}
+pub lines-told : (B : ℕ) (h : Header) (kind : Kind) {n from range m : ℕ} {ends : List Level} {t : List EndpointPair} {r : List (List ℕ)}
     → n ≡ endpointCount h → from ≡ endpointsFrom (h .partitions) → range ≡ endpointRangeOf h
     → ends ≡ endpointLevels range (λ i. pick (ltb i n) (number (encodingAt range) (bitsAt range) (sequenceAt (encodingAt range) (bitsAt range) B from n) i) 0)
-    → r ≡ expandedTable kind (tableOf (h .modes) (h .partitions) ends)
-    → r ≡ expandedTable kind (tableOf (h .modes) (h .partitions) (endpointLevels (endpointRangeOf h) (endpointAt B h)))
+    → t ≡ tableOf (h .modes) (h .partitions) ends → m ≡ min (h .partitions) 4
+    → r ≡ padded 4 m (λ p. lineOf kind (getD t p noPair)) (lineOf kind zeroPair)
+    → r ≡ linesIn kind h (endpointLevels (endpointRangeOf h) (endpointAt B h))
 unfolding levelsBy endpointAt
-pairs-told B h kind {n} {from} {range} en ef er ee et =
-    et ∙ ap (λ (l : List Level). expandedTable kind (tableOf (h .modes) (h .partitions) l))
+lines-told B h kind {n} {from} {range} en ef er ee et em el =
+    lines-same kind (h .modes) (h .partitions) _ em et el
+    ∙ ap (λ (l : List Level). linesIn kind h l)
     (ee ∙ ap (λ (k : ℕ). levelsBy B k n from) er ∙ ap (λ (m : ℕ). levelsBy B (endpointRangeOf h) m from) en ∙ ap (levelsBy B (endpointRangeOf h) (endpointCount h)) ef)
 
+ends-le : (range : ℕ) (f : ℕ → ℕ) (k : ℕ) → modes.level (endpointLevels range f) k ≤ 255
+unfolding endpointLevels
+ends-le range f k = tab-all (λ x. x .0 ≤ 255) (λ i. level (unquantEndpoint range (f i))) (level 0) (λ i. endpoint-le range (f i)) (omega arith) 18 k
+
 pub coded-told : (fp : ℕ) (kind : Kind) (B : ℕ) (h : Header) (l : List ℕ) → Limits (h .grid) → weightCount (h .grid) ≤ 64
-    → {levels : List Level} {table : List ExpandedPair} {small : Bool} {seeds : Seeds} {component : ℕ} {f : Frame}
-    → levels ≡ weightLevels (h .grid .range) (weightAt B h)
-    → table ≡ expandedTable kind (tableOf (h .modes) (h .partitions) (endpointLevels (endpointRangeOf h) (endpointAt B h)))
+    → {points : List ℕ} {lines : List (List ℕ)} {small : Bool} {seeds : Seeds} {component : ℕ} {f : Frame}
+    → points ≡ pointsOf (weightLevels (h .grid .range) (weightAt B h)) (h .grid .planes) (h .grid .width * h .grid .height)
+    → lines ≡ linesIn kind h (endpointLevels (endpointRangeOf h) (endpointAt B h))
     → small ≡ isSmall fp → seeds ≡ seedsOf (h .index) (h .partitions) small → component ≡ pick (eqb (h .grid .planes) 2) (h .component) 4 → f ≡ frameOf fp
-    → RowsTo (f .width) (texelIn (h .grid) component levels table seeds (h .partitions) f) l (f .height) → Shown fp (texelFrom fp kind h (endpointAt B h) (weightAt B h)) l
+    → RowsTo (f .width) (texelIn (h .grid) component points lines seeds (h .partitions) f) l (f .height) → Shown fp (texelFrom fp kind h (endpointAt B h) (weightAt B h)) l
 unfolding texelFrom secondComponent frameOf
-coded-told fp kind B h l i n {levels} {table} {small} {seeds} {component} {f} el et em es ec ef w =
-    shown-as fp (texelIn (h .grid) component levels table seeds (h .partitions) (frameOf fp)) _ l
-    (λ x y hx hy. rw (el, et, es, em, ec) (prepared fp kind h _ (weightAt B h) i n x y hx hy))
-    (rows-shown fp (texelIn (h .grid) component levels table seeds (h .partitions) (frameOf fp)) l (heightOf fp) refl
-    (subst (λ (k : Frame). RowsTo (k .width) (texelIn (h .grid) component levels table seeds (h .partitions) k) l (k .height)) ef w))
+coded-told fp kind B h l i n {points} {lines} {small} {seeds} {component} {f} el et em es ec ef w =
+    shown-as fp (texelIn (h .grid) component points lines seeds (h .partitions) (frameOf fp)) _ l
+    (λ x y hx hy. rw (el, et, es, em, ec) (prepared fp kind h _ (ends-le (endpointRangeOf h) (endpointAt B h)) (weightAt B h) i n x y hx hy))
+    (rows-shown fp (texelIn (h .grid) component points lines seeds (h .partitions) (frameOf fp)) l (heightOf fp) refl
+    (subst (λ (k : Frame). RowsTo (k .width) (texelIn (h .grid) component points lines seeds (h .partitions) k) l (k .height)) ef w))
 
 -- ---- the three verdicts
 

@@ -1,38 +1,42 @@
 // One block to texels of 16 bits in a lent buffer: its settings are read once, its numbers unquantised once.
 use bits::PhysicalBlock;
+use block_fault::Settings;
 use block_fault::Verdict;
 use block_header::Header;
 use block_mode::WeightGrid;
 use encoding::Level;
 use encoding::Stored;
-use interpolation::ExpandedPair;
+use endpoint_arithmetic::EndpointPair;
 use interpolation::Kind;
 use interpolation::Texel;
 use partition::Seeds;
 use quantization::Rule;
 ghost use mathlib.Core.Path.{_≡_};
-ghost use Prim.Native.Nat.{ℕ, _+_, _*_, _%_, _≤_, _<_};
+ghost use Prim.Native.Nat.{ℕ, _+_, _*_, _/_, _%_, _≤_, _<_};
 ghost use lib.Dec.{eqb, ltb};
 ghost use lib.ListN.{length, getD};
 ghost use Rattle.laws.specs.Choice.{pick};
-ghost use Rattle.laws.specs.Table.{padded, putFour};
+ghost use Rattle.laws.specs.Table.{tab, padded, putFour};
 ghost use Rattle.bits.specs.Field.{reverse};
 ghost use Rattle.bits.specs.Block.{blockNumber};
 ghost use Rattle.integer_sequence.specs.Reading.{number, sequenceAt, stored};
 ghost use Rattle.quantization.specs.Ranges.{encodingAt, bitsAt};
 ghost use Rattle.quantization.specs.Products.{byRule};
+ghost use Rattle.quantization.specs.Words.{byWords};
 ghost use Rattle.quantization.specs.Unquantise.{unquantEndpoint, unquantWeight};
 ghost use Rattle.block_header.specs.Counts.{weightCount, endpointCount, endpointRangeOf};
+ghost use Rattle.endpoint_arithmetic.specs.Pair.{zeroPair};
 ghost use Rattle.color_endpoint.specs.Table.{tableOf};
-ghost use Rattle.interpolation.specs.Expansion.{expandedTable};
+ghost use Rattle.interpolation.specs.Expansion.{noPair};
+ghost use Rattle.interpolation.specs.Line.{lineOf};
 ghost use Rattle.weight_grid.specs.Cell.{level};
-ghost use Rattle.weight_grid.specs.Bilinear.{blendOf};
+ghost use Rattle.weight_grid.specs.Bilinear.{packed, pointOf, pointsOf};
 ghost use Rattle.block_mode.specs.Back2D.{Limits};
 ghost use Rattle.partition.specs.Seeds.{selectBy};
 ghost use Rattle.texel.specs.Meaning.{endpointLevels, weightLevels, solidTexel, texelFrom};
 ghost use Rattle.block_fault.specs.Bits.{colourAt, endpointsFrom, endpointAt, weightAt};
 ghost use Rattle.block_fault.specs.Faults.{faultOf};
-ghost use Rattle.block_core.specs.Prepared.{frameOf, texelIn, Inside};
+ghost use Rattle.block_core.specs.Prepared.{frameOf, texelIn, Inside, PackedBytes, halves};
 ghost use Rattle.block_core.specs.Held.{RowsTo, Shown, Held};
 
 // A footprint's sides and the scale factors of a weight grid along them, once for each block.
@@ -56,31 +60,24 @@ fn frame_of(fp: u8) -> Frame
     }
 }
 
-// The weight of the second plane, from its four neighbours; with one plane the first serves.
-fn second_weight(
-    planes: u8,
-    first: Level,
-    gs: u32,
-    gt: u32,
-    l00: Level,
-    l01: Level,
-    l10: Level,
-    l11: Level,
-) -> Level
-    ensures { λ r. ⌜ r ≡ pick (eqb planes 2) (level (blendOf (gs % 16) (gt % 16) (l00 .0) (l01 .0) (l10 .0) (l11 .0))) first ⌝ }
-{
-    if planes == 2 {
-        weight_grid::infill(gs, gt, l00, l01, l10, l11)
-    } else {
-        first
-    }
-}
-
 // The component that takes the second weight, 4 for none.
 fn second_component(planes: u8, component: u8) -> u8
     ensures { λ r. ⌜ r ≡ pick (eqb planes 2) component 4 ⌝ }
 {
     if planes == 2 { component } else { 4 }
+}
+
+// The weight of each plane, of both packed.
+fn first_weight(both: u32) -> u16
+    ensures { λ r. ⌜ r ≡ both % 256 ⌝ }
+{
+    (both % 256) as u16
+}
+
+fn second_weight(both: u32) -> u16
+    ensures { λ r. ⌜ r ≡ both / 65536 ⌝ }
+{
+    (both / 65536) as u16
 }
 
 // The partition of the texel at x, y; no hash where there is one partition.
@@ -112,13 +109,13 @@ fn put(out: &mut [u16; 576], i: usize, r: u16, g: u16, b: u16, a: u16)
     out[i + 3] = a;
 }
 
-// Row y of the texels. The function reads the levels itself: no array is passed for a texel. Only weights of the grid are read: at the
-// last column or row a point stands for its neighbour outside, whose factor is 0.
+// Row y of the texels. Points and lines are lent, not passed: nothing is copied for a row or a texel. Only points of the grid are read: at
+// the last column or row a point stands for its neighbour outside, whose factor is 0.
 fn paint_row(
     g: WeightGrid,
     component: u8,
-    levels: [Level; 64],
-    table: [ExpandedPair; 4],
+    points: &[u32; 64],
+    lines: &[[u16; 16]; 4],
     seeds: Seeds,
     partitions: u8,
     f: Frame,
@@ -126,32 +123,26 @@ fn paint_row(
     out: &mut [u16; 576],
 )
     requires { ⌜ Inside g f ⌝ }
+    requires { ⌜ PackedBytes (now points) ⌝ }
     requires { ⌜ y < f .height ⌝ }
-    ensures { λ r. ⌜ (RowsTo (f .width) (texelIn g component levels table seeds partitions f) (now (out .entry)) y → RowsTo (f .width) (texelIn g component levels table seeds partitions f) (now (out .exit)) (y + 1)) ⌝ }
+    ensures { λ r. ⌜ (RowsTo (f .width) (texelIn g component (now (points .entry)) (now (lines .entry)) seeds partitions f) (now (out .entry)) y → RowsTo (f .width) (texelIn g component (now (points .entry)) (now (lines .entry)) seeds partitions f) (now (out .exit)) (y + 1)) ⌝ }
 {
-    let planes = g.planes as usize;
-    let row = (g.width as usize) * planes;
+    let row = g.width as usize;
     let gt = weight_grid::grid_place(f.down, y, g.height);
     let from = ((gt / 16) as usize) * row;
     let below = weight_grid::step(gt, g.height, row);
     let mut x: u8 = 0;
     while x < f.width {
         let gs = weight_grid::grid_place(f.across, x, g.width);
-        let n = from + ((gs / 16) as usize) * planes;
-        let right = weight_grid::step(gs, g.width, planes);
-        let l00 = levels[n];
-        let l01 = levels[n + right];
-        let l10 = levels[n + below];
-        let l11 = levels[n + below + right];
-        let first = weight_grid::infill(gs, gt, l00, l01, l10, l11);
-        let m = n + (planes - 1);
-        let k00 = levels[m];
-        let k01 = levels[m + right];
-        let k10 = levels[m + below];
-        let k11 = levels[m + below + right];
-        let second = second_weight(g.planes, first, gs, gt, k00, k01, k10, k11);
-        let pair = table[partition_of(seeds, partitions, x, y)];
-        let t = interpolation::mix_texel(pair, first, second, component);
+        let n = from + (gs / 16) as usize;
+        let right = weight_grid::step(gs, g.width, 1);
+        let p00 = points[n];
+        let p01 = points[n + right];
+        let p10 = points[n + below];
+        let p11 = points[n + below + right];
+        let both = weight_grid::infill_both(gs, gt, p00, p01, p10, p11);
+        let line = lines[partition_of(seeds, partitions, x, y)];
+        let t = interpolation::mix_line(line, first_weight(both), second_weight(both), component);
         put(out, place(f.width, x, y), t.r, t.g, t.b, t.a);
         x += 1;
     }
@@ -161,19 +152,20 @@ fn paint_row(
 fn paint(
     g: WeightGrid,
     component: u8,
-    levels: [Level; 64],
-    table: [ExpandedPair; 4],
+    points: &[u32; 64],
+    lines: &[[u16; 16]; 4],
     seeds: Seeds,
     partitions: u8,
     f: Frame,
     out: &mut [u16; 576],
 )
     requires { ⌜ Inside g f ⌝ }
-    ensures { λ r. ⌜ (length (now (out .entry)) ≡ 576 → RowsTo (f .width) (texelIn g component levels table seeds partitions f) (now (out .exit)) (f .height)) ⌝ }
+    requires { ⌜ PackedBytes (now points) ⌝ }
+    ensures { λ r. ⌜ (length (now (out .entry)) ≡ 576 → RowsTo (f .width) (texelIn g component (now (points .entry)) (now (lines .entry)) seeds partitions f) (now (out .exit)) (f .height)) ⌝ }
 {
     let mut y: u8 = 0;
     while y < f.height {
-        paint_row(g, component, levels, table, seeds, partitions, f, y, out);
+        paint_row(g, component, points, lines, seeds, partitions, f, y, out);
         y += 1;
     }
 }
@@ -197,16 +189,31 @@ fn level_by(rule: Rule, s: Stored) -> Level
     quantization::unquantize(rule, s)
 }
 
-// The levels of the first n weights.
-fn weight_levels(range: u8, xs: [Stored; 64], n: usize) -> [Level; 64]
-    requires { ⌜ n ≤ 64 ⌝ }
-    ensures { λ r. ⌜ r ≡ padded 64 n (λ i. level (unquantWeight range (getD xs i (stored 0) .0))) (level 0) ⌝ }
+// The point whose weights are a and b, both planes packed; with one plane b does not count.
+fn point_of(planes: u8, words: &[u64; 4], a: Stored, b: Stored) -> u32
+    ensures { λ r. ⌜ r ≡ packed (byWords (now (words .entry)) (a .0)) (pick (eqb planes 2) (byWords (now (words .entry)) (b .0)) 0) ⌝ }
 {
-    let rule = quantization::weight_rule(range);
-    let mut out = [Level(0); 64];
+    let first = quantization::weight_by(words, a);
+    if planes == 2 {
+        let second = quantization::weight_by(words, b);
+        (first.0 as u32) + 65536 * (second.0 as u32)
+    } else {
+        first.0 as u32
+    }
+}
+
+// So many points, from the stored weights.
+fn grid_points(range: u8, planes: u8, xs: [Stored; 64], count: usize) -> [u32; 64]
+    requires { ⌜ (1 ≤ planes) × (count * planes ≤ 64) ⌝ }
+    ensures { λ r. ⌜ r ≡ padded 64 count (pointOf (tab (λ i. level (unquantWeight range (getD xs i (stored 0) .0))) 64) planes) 0 ⌝ }
+{
+    let words = quantization::weight_words(range);
+    let each = planes as usize;
+    let mut out = [0u32; 64];
     let mut i: usize = 0;
-    while i < n {
-        out[i] = level_by(rule, xs[i]);
+    while i < count {
+        let k = i * each;
+        out[i] = point_of(planes, &words, xs[k], xs[k + each - 1]);
         i += 1;
     }
     out
@@ -227,15 +234,18 @@ fn endpoint_levels(range: u8, xs: [Stored; 64], n: usize) -> [Level; 18]
     out
 }
 
-// The unquantised weights of a block.
-fn weights_of(block: PhysicalBlock, g: WeightGrid, n: u8) -> [Level; 64]
-    requires { ⌜ (n ≡ weightCount g) × (n ≤ 64) ⌝ }
-    ensures { λ r. ⌜ r ≡ weightLevels (g .range) (λ i. pick (ltb i (weightCount g)) (number (encodingAt (g .range)) (bitsAt (g .range)) (sequenceAt (encodingAt (g .range)) (bitsAt (g .range)) (reverse 128 (blockNumber block)) 0 (weightCount g)) i) 0) ⌝ }
+// The points of a block's weight grid, its weights unquantised.
+fn points_of(block: PhysicalBlock, g: WeightGrid) -> [u32; 64]
+    requires { ⌜ Limits g × (weightCount g ≤ 64) ⌝ }
+    ensures { λ r. ⌜ r ≡ pointsOf (weightLevels (g .range) (λ i. pick (ltb i (weightCount g)) (number (encodingAt (g .range)) (bitsAt (g .range)) (sequenceAt (encodingAt (g .range)) (bitsAt (g .range)) (reverse 128 (blockNumber block)) 0 (weightCount g)) i) 0)) (g .planes) (g .width * g .height) ⌝ }
 {
-    weight_levels(
+    let n = block_header::weight_count(g) as u8;
+    let xs = integer_sequence::read_sequence(bits::reversed(block), 0, g.range, n);
+    grid_points(
         g.range,
-        integer_sequence::read_sequence(bits::reversed(block), 0, g.range, n),
-        n as usize,
+        g.planes,
+        xs,
+        (g.width as usize) * (g.height as usize),
     )
 }
 
@@ -251,40 +261,49 @@ fn endpoints_of(block: PhysicalBlock, from: u8, range: u8, n: u8) -> [Level; 18]
     )
 }
 
-// The expanded endpoint pairs of a block, one for each partition.
-fn pairs_of(block: PhysicalBlock, h: Header, kind: Kind) -> [ExpandedPair; 4]
-    requires { ⌜ endpointCount h ≤ 18 ⌝ }
-    ensures { λ r. ⌜ r ≡ expandedTable kind (tableOf (h .modes) (h .partitions) (endpointLevels (endpointRangeOf h) (endpointAt (blockNumber block) h))) ⌝ }
+// The lines of the first n pairs; the others are of the pair of zeros.
+fn pair_lines(kind: Kind, t: [EndpointPair; 4], n: usize) -> [[u16; 16]; 4]
+    requires { ⌜ n ≤ 4 ⌝ }
+    ensures { λ r. ⌜ r ≡ padded 4 n (λ p. lineOf kind (getD t p noPair)) (lineOf kind zeroPair) ⌝ }
 {
-    let n = block_header::endpoint_count(h) as u8;
-    let ends = endpoints_of(
-        block,
-        block_fault::endpoints_from(h.partitions),
-        block_header::endpoint_range_of(h),
-        n,
-    );
+    let none = interpolation::line_of(kind, endpoint_arithmetic::zero_pair());
+    let mut out = [none; 4];
+    let mut p: usize = 0;
+    while p < n {
+        out[p] = interpolation::line_of(kind, t[p]);
+        p += 1;
+    }
+    out
+}
+
+// The lines of a block's endpoint pairs, one for each partition.
+fn lines_of(block: PhysicalBlock, h: Header, kind: Kind, n: u8, range: u8) -> [[u16; 16]; 4]
+    requires { ⌜ (n ≡ endpointCount h) × (n ≤ 18) × (range ≡ endpointRangeOf h) ⌝ }
+    ensures { λ r. ⌜ r ≡ tab (λ p. lineOf kind (getD (tableOf (h .modes) (h .partitions) (endpointLevels (endpointRangeOf h) (endpointAt (blockNumber block) h))) p noPair)) 4 ⌝ }
+{
+    let ends = endpoints_of(block, block_fault::endpoints_from(h.partitions), range, n);
     let modes = h.modes;
-    interpolation::expand_table(
-        kind,
-        color_endpoint::endpoint_table(modes, h.partitions, ends),
-    )
+    let t = color_endpoint::endpoint_table(modes, h.partitions, ends);
+    pair_lines(kind, t, color_endpoint::filled(h.partitions))
 }
 
 // The texels of a coded block.
-fn paint_coded(block: PhysicalBlock, h: Header, fp: u8, kind: Kind, out: &mut [u16; 576])
-    requires { ⌜ (weightCount (h .grid) ≤ 64) × (endpointCount h ≤ 18) ⌝ }
-    requires { ⌜ Limits (h .grid) ⌝ }
-    ensures { λ r. ⌜ (length (now (out .entry)) ≡ 576 → Shown fp (texelFrom fp kind h (endpointAt (blockNumber block) h) (weightAt (blockNumber block) h)) (now (out .exit))) ⌝ }
+fn paint_coded(block: PhysicalBlock, s: Settings, fp: u8, kind: Kind, out: &mut [u16; 576])
+    requires { ⌜ (weightCount (s .header .grid) ≤ 64) × (endpointCount (s .header) ≤ 18) ⌝ }
+    requires { ⌜ (s .numbers ≡ endpointCount (s .header)) × (s .range ≡ endpointRangeOf (s .header)) ⌝ }
+    requires { ⌜ Limits (s .header .grid) ⌝ }
+    ensures { λ r. ⌜ (length (now (out .entry)) ≡ 576 → Shown fp (texelFrom fp kind (s .header) (endpointAt (blockNumber block) (s .header)) (weightAt (blockNumber block) (s .header))) (now (out .exit))) ⌝ }
 {
+    let h = s.header;
     let g = h.grid;
-    let levels = weights_of(block, g, block_header::weight_count(g) as u8);
-    let table = pairs_of(block, h, kind);
+    let points = points_of(block, g);
+    let lines = lines_of(block, h, kind, s.numbers, s.range);
     let seeds = partition::partition_seeds(h.index, h.partitions, footprint::is_small(fp));
     paint(
         g,
         second_component(g.planes, h.component),
-        levels,
-        table,
+        &points,
+        &lines,
         seeds,
         h.partitions,
         frame_of(fp),
@@ -302,11 +321,12 @@ fn colours(block: PhysicalBlock) -> Texel
     Texel { r, g, b, a }
 }
 
-// The numbers of a block, 16 bits each, into the first 4 * texels places of a lent buffer; answers its fault, 0 for none.
-pub fn decode_into(block: PhysicalBlock, fp: u8, kind: Kind, out: &mut [u16; 576]) -> u8
-    ensures { λ r. ⌜ r ≡ faultOf fp (blockNumber block) ⌝ }
-    ensures { λ r. ⌜ (length (now (out .entry)) ≡ 576 → Held fp kind (blockNumber block) (now (out .exit))) ⌝ }
+// The same for `decode_into`, from the halves of a block.
+fn decode_halves(lo: u64, hi: u64, fp: u8, kind: Kind, out: &mut [u16; 576]) -> u8
+    ensures { λ r. ⌜ r ≡ faultOf fp (blockNumber (halves lo hi)) ⌝ }
+    ensures { λ r. ⌜ (length (now (out .entry)) ≡ 576 → Held fp kind (blockNumber (halves lo hi)) (now (out .exit))) ⌝ }
 {
+    let block = PhysicalBlock { lo, hi };
     let s = block_fault::read_settings(block, fp);
     let v = s.verdict;
     match v {
@@ -325,9 +345,16 @@ pub fn decode_into(block: PhysicalBlock, fp: u8, kind: Kind, out: &mut [u16; 576
             0
         }
         Verdict::Coded => {
-            let h = s.header;
-            paint_coded(block, h, fp, kind, out);
+            paint_coded(block, s, fp, kind, out);
             0
         }
     }
+}
+
+// The numbers of a block, 16 bits each, into the first 4 * texels places of a lent buffer; answers its fault, 0 for none.
+pub fn decode_into(block: PhysicalBlock, fp: u8, kind: Kind, out: &mut [u16; 576]) -> u8
+    ensures { λ r. ⌜ r ≡ faultOf fp (blockNumber block) ⌝ }
+    ensures { λ r. ⌜ (length (now (out .entry)) ≡ 576 → Held fp kind (blockNumber block) (now (out .exit))) ⌝ }
+{
+    decode_halves(block.lo, block.hi, fp, kind, out)
 }

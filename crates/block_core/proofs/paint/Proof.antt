@@ -9,20 +9,20 @@ use Rattle.block_core.proofs.paint.Statement.{statement}
 use Rattle.block_core.proofs.paint.Tie as tie
 
 abbrev Inv-loop : tie.InvT-loop
-Inv-loop g component levels table seeds partitions f out₀ y₀ out y =
-    (y ≤ f .height) × (length out₀ ≡ 576 → RowsTo (f .width) (texelIn g component levels table seeds partitions f) out y)
+Inv-loop g component points lines seeds partitions f out₀ y₀ out y =
+    (y ≤ f .height) × (length out₀ ≡ 576 → RowsTo (f .width) (texelIn g component points lines seeds partitions f) out y)
 
 abbrev μ-loop : tie.MeasureT-loop
-μ-loop g component levels table seeds partitions f out₀ y₀ out y = f .height - y
+μ-loop g component points lines seeds partitions f out₀ y₀ out y = f .height - y
 
 loop-holds : tie.Need-loop-holds Inv-loop μ-loop
 loop-holds c = (omega arith, rows-none _ _ _)
 
 paint-row-requires : tie.Need-paint-row-requires Inv-loop μ-loop
-paint-row-requires c κs = (c .before .before .before .before .pre, c .before .if1 .taken)
+paint-row-requires c κs = (c .before .before .before .before .pre .0, (c .before .before .before .before .pre .1, c .before .if1 .taken))
 
 add-y : tie.Need-add-y Inv-loop μ-loop
-add-y c = omega (arith, c .before .before .if1 .taken, c .before .before .before .before .before .pre .height-most)
+add-y c = omega (arith, c .before .before .if1 .taken, c .before .before .before .before .before .pre .0 .height-most)
 
 loop-less : tie.Need-loop-less Inv-loop μ-loop
 loop-less c = omega (arith, c .before .before .if1 .taken)

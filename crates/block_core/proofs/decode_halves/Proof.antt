@@ -1,22 +1,28 @@
 use mathlib.Core.Path.{_≡_, refl, sym, ap, _∙_}
 use Rattle.bits.specs.Block.{blockNumber}
+use Rattle.block_header.specs.Counts.{endpointCount, endpointRangeOf}
 use Rattle.block_fault.specs.declared.Settings.{Settings}
 use Rattle.block_fault.specs.declared.Verdict.the-variants as verdict
 use Rattle.block_fault.specs.Bits.{headerAt}
 use Rattle.block_fault.specs.Settings.{verdictOf}
-use Rattle.block_fault.proofs.Verdicts.{settings-verdict, told-fault, told-void, told-coded, coded-header, coded-counts, coded-limits}
+use Rattle.block_fault.proofs.Verdicts.{settings-verdict, told-fault, told-void, told-coded, coded-header, coded-counts, coded-limits, coded-numbers}
 use Rattle.texel.specs.Meaning.{magenta}
+use Rattle.block_core.specs.Prepared.{halves}
 use Rattle.block_core.proofs.Shows.{shown-held, shows-fault, shows-void, shows-coded}
 use borrow.Author.Needs.{needs}
-use Rattle.block_core.proofs.decode_into.Statement.{statement}
-use Rattle.block_core.proofs.decode_into.Tie as tie
+use Rattle.block_core.proofs.decode_halves.Statement.{statement}
+use Rattle.block_core.proofs.decode_halves.Tie as tie
 
 -- the settings that were read
-verdict-is : (c : tie.After-read-settings) → verdictOf (c .before .args .fp) (blockNumber (c .before .args .block)) ≡ c .read-settings .result .verdict
-verdict-is c = sym (ap (λ (s : Settings). s .verdict) (c .read-settings .ensures) ∙ settings-verdict (c .before .args .fp) (blockNumber (c .before .args .block)))
+verdict-is : (c : tie.After-read-settings) → verdictOf (c .before .args .fp) (blockNumber (halves (c .before .args .lo) (c .before .args .hi))) ≡ c .read-settings .result .verdict
+verdict-is c = sym (ap (λ (s : Settings). s .verdict) (c .read-settings .ensures) ∙ settings-verdict (c .before .args .fp) (blockNumber (halves (c .before .args .lo) (c .before .args .hi))))
 
-header-is : (c : tie.After-read-settings) → verdictOf (c .before .args .fp) (blockNumber (c .before .args .block)) ≡ verdict.Coded → c .read-settings .result .header ≡ headerAt (blockNumber (c .before .args .block))
-header-is c e = ap (λ (s : Settings). s .header) (c .read-settings .ensures) ∙ coded-header (c .before .args .fp) (blockNumber (c .before .args .block)) e
+header-is : (c : tie.After-read-settings) → c .read-settings .result .verdict ≡ verdict.Coded → c .read-settings .result .header ≡ headerAt (blockNumber (halves (c .before .args .lo) (c .before .args .hi)))
+header-is c e = ap (λ (s : Settings). s .header) (c .read-settings .ensures) ∙ coded-header (c .before .args .fp) (blockNumber (halves (c .before .args .lo) (c .before .args .hi))) (verdict-is c ∙ e)
+
+numbers-are : (c : tie.After-read-settings) → c .read-settings .result .verdict ≡ verdict.Coded
+    → (c .read-settings .result .numbers ≡ endpointCount (c .read-settings .result .header)) × (c .read-settings .result .range ≡ endpointRangeOf (c .read-settings .result .header))
+numbers-are c = rw (c .read-settings .ensures) (coded-numbers (c .before .args .fp) (blockNumber (halves (c .before .args .lo) (c .before .args .hi))))
 
 read-settings-requires : tie.Need-read-settings-requires
 read-settings-requires c κs = search needs
@@ -41,9 +47,10 @@ enum-told-2 c = search needs
 
 paint-coded-requires : tie.Need-paint-coded-requires
 paint-coded-requires c κs =
-    let r = c .before .before .before .before in
-    let k = told-coded _ _ (verdict-is r ∙ c .before .before .enum-told2 .given .1) in
-    rw (header-is r (verdict-is r ∙ c .before .before .enum-told2 .given .1)) (coded-counts _ _ (k .0) (k .1), coded-limits _ _ (k .0) (k .1))
+    let r = c .before .before .before in
+    let v = c .before .enum-told2 .given .1 in
+    let k = told-coded _ _ (verdict-is r ∙ v) in
+    (rw (header-is r v) (coded-counts _ _ (k .0) (k .1)), (numbers-are r v, rw (header-is r v) (coded-limits _ _ (k .0) (k .1))))
 
 returns : tie.Need-returns
 unfolding magenta
@@ -60,13 +67,13 @@ returns-2 c =
 
 returns-3 : tie.Need-returns-3
 returns-3 c =
-    let r = c .before .before .before .before .before in
-    let v = verdict-is r ∙ c .before .before .before .enum-told2 .given .1 in
-    let k = told-coded _ _ v in
+    let r = c .before .before .before .before in
+    let v = c .before .before .enum-told2 .given .1 in
+    let k = told-coded _ _ (verdict-is r ∙ v) in
     (sym (k .0), λ e. shown-held _ _ _ _ _ (λ x y. shows-coded _ _ _ x y (k .0) (k .1) _ (header-is r v)) (c .paint-coded .ensures e))
 
-pub decode-into-spec : {M : Type 1} → statement M
-decode-into-spec =
+pub decode-halves-spec : {M : Type 1} → statement M
+decode-halves-spec =
     tie.close
     (tie.spec
     read-settings-requires
