@@ -1,6 +1,7 @@
 -- Texels laid into a buffer row by row, four numbers each.
 -- Assumes nothing.
 use mathlib.Core.Path.{_≡_, refl, sym, ap, ap₂, _∙_, subst}
+use mathlib.Core.Bool.{Bool, true, false}
 use mathlib.Core.List.{List, []}
 use Prim.Native.Nat.{ℕ, suc, _+_, _-_, _*_, _/_, _%_, _≤_, _<_}
 use native.Mathlib.Nat.{mul-le-mul-left, mul-le-mul-right, mul-comm, suc-mul, add-mul}
@@ -9,20 +10,23 @@ use lib.Arith.{digits-div, digits-mod}
 use lib.Dec.{eqb}
 use lib.ListN.{length, getD}
 use Rattle.laws.specs.Choice.{pick}
-use Rattle.laws.specs.Table.{putFour}
-use Rattle.laws.proofs.Filling.{Filled, filled-four, length-four}
+use Rattle.laws.specs.Table.{tab, putFour}
+use Rattle.laws.proofs.Filling.{getD-tab, Filled, filled-four, length-four}
 use Rattle.footprint.specs.Footprint.{widthOf, heightOf, texelsOf}
 use Rattle.block_mode.specs.declared.WeightGrid.{WeightGrid}
 use Rattle.block_mode.specs.Back2D.{Limits}
 use Rattle.block_header.specs.Counts.{weightCount}
 use Rattle.partition.specs.declared.Seeds.{Seeds}
 use Rattle.partition.specs.Seeds.{selectBy}
+use Rattle.partition.proofs.Bounds.{select-lt-4}
+use Rattle.weight_grid.specs.Place.{gridPlace}
 use Rattle.weight_grid.specs.Bilinear.{bothOf, stepOf, readOf}
 use Rattle.weight_grid.proofs.Reading.{read-lt}
 use Rattle.interpolation.specs.declared.Texel.{Texel}
 use Rattle.interpolation.specs.Line.{lineTexel}
 use Rattle.texel.specs.Meaning.{channel}
-use Rattle.block_core.specs.Prepared.{texelAt}
+use Rattle.block_core.specs.declared.Frame.{Frame}
+use Rattle.block_core.specs.Prepared.{texelAt, texelIn}
 use Rattle.block_core.specs.Held.{numberIn, RowsTo, Shown}
 
 -- the list holds the first n numbers of texels given by their place
@@ -108,11 +112,31 @@ pub reach : (g : WeightGrid) (gs gt : ℕ) → Limits g → weightCount g ≤ 64
 reach g gs gt l n hs ht =
     omega (arith, points-le g l n, read-lt (g .width) (g .height) gs gt (omega (arith, l .width-low)) (omega (arith, l .height-low)) hs ht)
 
--- the texel, step by step
-pub told : (g : WeightGrid) (component : ℕ) (points : List ℕ) (lines : List (List ℕ)) (seeds : Seeds) (partitions gs gt x y n : ℕ) {right below both p first second : ℕ} {t : Texel}
-    → n ≡ gt / 16 * g .width + gs / 16 → right ≡ stepOf gs (g .width) 1 → below ≡ stepOf gt (g .height) (g .width)
-    → both ≡ bothOf (gs % 16) (gt % 16) (getD points n 0) (getD points (n + right) 0) (getD points (n + below) 0) (getD points (n + below + right) 0)
-    → p ≡ pick (eqb partitions 1) 0 (selectBy seeds x y) → first ≡ both % 256 → second ≡ both / 65536
-    → t ≡ lineTexel (getD lines p []) first second component → t ≡ texelAt g component points lines seeds partitions gs gt x y
-unfolding texelAt readOf
-told g component points lines seeds partitions gs gt x y n en er eb ew ep ef es et = rw (et, ef, es, ew, ep, er, eb, en)
+-- the partition of a texel, from those of its row
+module _ (seeds : Seeds) (partitions y x : ℕ) {l : List ℕ} (e : l ≡ tab (λ k. pick (eqb partitions 1) 0 (selectBy seeds k y)) 16) (h : x < 16) where
+  which-told : getD l x 0 ≡ pick (eqb partitions 1) 0 (selectBy seeds x y)
+  which-told = rw e (getD-tab (λ k. pick (eqb partitions 1) 0 (selectBy seeds k y)) 16 x 0 h)
+
+  pub which-lt : getD l x 0 < 4
+  which-lt = rw which-told (go (eqb partitions 1)) where
+    go : (t : Bool) → pick t 0 (selectBy seeds x y) < 4
+    go true = omega arith
+    go false = select-lt-4 seeds x y
+
+module _ (g : WeightGrid) (component : ℕ) (points : List ℕ) (lines : List (List ℕ)) where
+  -- texels whose row y is that of the partitions `which`
+  abbrev pub Row : Frame → List ℕ → ℕ → (ℕ → ℕ → Texel) → Type 0
+  Row f which y t = (x : ℕ) → x < f .width → t x y ≡ texelAt g component points lines (getD which x 0) (gridPlace (f .across) x (g .width)) (gridPlace (f .down) y (g .height))
+
+  pub row-in : (seeds : Seeds) (partitions : ℕ) (f : Frame) (y : ℕ) (which : List ℕ) → f .width ≤ 12 → which ≡ tab (λ k. pick (eqb partitions 1) 0 (selectBy seeds k y)) 16
+      → Row f which y (texelIn g component points lines seeds partitions f)
+  unfolding texelIn
+  row-in seeds partitions f y which w e x h = rw (which-told seeds partitions y x e (omega arith))
+
+  -- the texel, step by step
+  pub told : (gs gt p n : ℕ) {right below both first second : ℕ} {t : Texel}
+      → n ≡ gt / 16 * g .width + gs / 16 → right ≡ stepOf gs (g .width) 1 → below ≡ stepOf gt (g .height) (g .width)
+      → both ≡ bothOf (gs % 16) (gt % 16) (getD points n 0) (getD points (n + right) 0) (getD points (n + below) 0) (getD points (n + below + right) 0)
+      → first ≡ both % 256 → second ≡ both / 65536 → t ≡ lineTexel (getD lines p []) first second component → t ≡ texelAt g component points lines p gs gt
+  unfolding texelAt readOf
+  told gs gt p n en er eb ew ef es et = rw (et, ef, es, ew, er, eb, en)

@@ -23,17 +23,18 @@ use Rattle.block_core.specs.declared.Frame.{Frame}
 unfoldable pub frameOf : ℕ → Frame
 frameOf fp = record { width = widthOf fp; height = heightOf fp; across = scaleOf (widthOf fp); down = scaleOf (heightOf fp) }
 
-module _ (g : WeightGrid) (component : ℕ) (points : List ℕ) (lines : List (List ℕ)) (seeds : Seeds) (partitions : ℕ) where
-  -- the texel at x, y, which lies at gs, gt of the grid; `component` takes the second weight, 4 standing for none
-  unfoldable pub texelAt : ℕ → ℕ → ℕ → ℕ → Texel
-  texelAt gs gt x y =
+module _ (g : WeightGrid) (component : ℕ) (points : List ℕ) (lines : List (List ℕ)) where
+  -- the texel of partition p at gs, gt of the grid; `component` takes the second weight, 4 standing for none
+  unfoldable pub texelAt : ℕ → ℕ → ℕ → Texel
+  texelAt p gs gt =
       let both = readOf points (g .width) (g .height) gs gt in
-      lineTexel (getD lines (pick (eqb partitions 1) 0 (selectBy seeds x y)) []) (both % 256) (both / 65536) component
+      lineTexel (getD lines p []) (both % 256) (both / 65536) component
 
   -- the texel at x, y of a block
-  unfoldable pub texelIn : Frame → ℕ → ℕ → Texel
+  unfoldable pub texelIn : Seeds → ℕ → Frame → ℕ → ℕ → Texel
   unfolding texelAt
-  texelIn f x y = texelAt (gridPlace (f .across) x (g .width)) (gridPlace (f .down) y (g .height)) x y
+  texelIn seeds partitions f x y =
+      texelAt (pick (eqb partitions 1) 0 (selectBy seeds x y)) (gridPlace (f .across) x (g .width)) (gridPlace (f .down) y (g .height))
 
 -- the weights of each point are bytes: 16711935 is 255 in both planes
 abbrev pub PackedBytes : List ℕ → Type 0

@@ -80,14 +80,14 @@ fn second_weight(both: u32) -> u16
     (both / 65536) as u16
 }
 
-// The partition of the texel at x, y; no hash where there is one partition.
-fn partition_of(seeds: Seeds, partitions: u8, x: u8, y: u8) -> usize
-    ensures { λ r. ⌜ (r ≡ pick (eqb partitions 1) 0 (selectBy seeds x y)) × (r < 4) ⌝ }
+// The partitions of the texels of row y; all 0 where there is one partition.
+fn row_partitions(seeds: Seeds, partitions: u8, y: u8) -> [u16; 16]
+    ensures { λ r. ⌜ r ≡ tab (λ x. pick (eqb partitions 1) 0 (selectBy seeds x y)) 16 ⌝ }
 {
     if partitions == 1 {
-        0
+        [0u16; 16]
     } else {
-        partition::partition_at(seeds, x, y) as usize
+        partition::partition_row(seeds, y)
     }
 }
 
@@ -131,6 +131,7 @@ fn paint_row(
     let gt = weight_grid::grid_place(f.down, y, g.height);
     let from = ((gt / 16) as usize) * row;
     let below = weight_grid::step(gt, g.height, row);
+    let which = row_partitions(seeds, partitions, y);
     let mut x: u8 = 0;
     while x < f.width {
         let gs = weight_grid::grid_place(f.across, x, g.width);
@@ -141,7 +142,7 @@ fn paint_row(
         let p10 = points[n + below];
         let p11 = points[n + below + right];
         let both = weight_grid::infill_both(gs, gt, p00, p01, p10, p11);
-        let line = lines[partition_of(seeds, partitions, x, y)];
+        let line = lines[which[x as usize] as usize];
         let t = interpolation::mix_line(line, first_weight(both), second_weight(both), component);
         put(out, place(f.width, x, y), t.r, t.g, t.b, t.a);
         x += 1;

@@ -2,6 +2,7 @@
 ghost use mathlib.Core.Path.{_≡_};
 ghost use Prim.Native.Nat.{_<_, _≤_, max};
 ghost use Rattle.laws.specs.Choice.{pick};
+ghost use Rattle.laws.specs.Table.{tab};
 ghost use Rattle.partition.specs.Hash.{hashOf};
 ghost use Rattle.partition.specs.Select.{bitShift, countShift, sh1, sh2, seedOf, firstLargest, doubled};
 ghost use Rattle.partition.specs.Seeds.{laneBy, laneFor, laneUnless, seedsFrom, seedsOf, selectBy};
@@ -177,26 +178,26 @@ pub fn partition_seeds(index: u16, count: u8, small: bool) -> Seeds
     seeds_from(small, hash52(seed), sh.one, sh.two, count)
 }
 
-fn lane_at(l: Lane, x: u8, y: u8) -> u32
+fn lane_at(l: Lane, x: u8, y: u8) -> u16
     ensures { λ r. ⌜ r ≡ laneBy l x y ⌝ }
 {
-    ((l.x as u32) * (x as u32) + (l.y as u32) * (y as u32) + (l.offset as u32)) % 64
+    (((l.x as u32) * (x as u32) + (l.y as u32) * (y as u32) + (l.offset as u32)) % 64) as u16
 }
 
-fn larger(a: u32, b: u32) -> u32
+fn larger(a: u16, b: u16) -> u16
     ensures { λ r. ⌜ r ≡ max a b ⌝ }
 {
     if a >= b { a } else { b }
 }
 
-fn chosen(first: bool, m: u8, n: u8) -> u8
+fn chosen(first: bool, m: u16, n: u16) -> u16
     ensures { λ r. ⌜ r ≡ pick first m n ⌝ }
 {
     if first { m } else { n }
 }
 
 // The larger of each two, then of these: what is chosen hangs on no branch.
-fn first_largest(a: u32, b: u32, c: u32, d: u32) -> u8
+fn first_largest(a: u16, b: u16, c: u16, d: u16) -> u16
     ensures { λ r. ⌜ r ≡ firstLargest a b c d ⌝ }
 {
     chosen(
@@ -207,7 +208,7 @@ fn first_largest(a: u32, b: u32, c: u32, d: u32) -> u8
 }
 
 // The partition of the texel at x, y.
-pub fn partition_at(s: Seeds, x: u8, y: u8) -> u8
+pub fn partition_at(s: Seeds, x: u8, y: u8) -> u16
     ensures { λ r. ⌜ r ≡ selectBy s x y ⌝ }
 {
     let a = s.a;
@@ -220,4 +221,18 @@ pub fn partition_at(s: Seeds, x: u8, y: u8) -> u8
         lane_at(c, x, y),
         lane_at(d, x, y),
     )
+}
+
+// The partitions of the first sixteen texels of row y, more than the widest block has. Sixteen each time, in 16 bits and without a branch:
+// so many are found at once.
+pub fn partition_row(s: Seeds, y: u8) -> [u16; 16]
+    ensures { λ r. ⌜ r ≡ tab (λ x. selectBy s x y) 16 ⌝ }
+{
+    let mut out = [0u16; 16];
+    let mut x: u8 = 0;
+    while x < 16 {
+        out[x as usize] = partition_at(s, x, y);
+        x += 1;
+    }
+    out
 }

@@ -3,10 +3,10 @@
 use bits::PhysicalBlock;
 use block_mode::BlockMode;
 use block_mode::WeightGrid;
+use encoding::Level;
 use encoding::Stored;
 use libc::STDOUT_FILENO;
 use partition::Seeds;
-use quantization::Rule;
 ghost use Prim.Native.Nat.{_≤_};
 
 fn number(n: u64) {
@@ -62,14 +62,23 @@ fn codes(name: &[u8], count: u64, range: u8, n: u8)
     }
 }
 
+// The level of a stored number of a weight or an endpoint range.
+fn level_of(weight: bool, range: u8, s: Stored) -> Level {
+    if weight {
+        quantization::unquantize_weight(range, s)
+    } else {
+        quantization::unquantize_endpoint(range, s)
+    }
+}
+
 // "NAME MOST level0 level1 .."
-fn levels(name: &[u8], range: u8, rule: Rule) {
+fn levels(name: &[u8], range: u8, weight: bool) {
     io::write_all(STDOUT_FILENO, name);
     let most = quantization::most_at(range) as u16;
     number(most as u64);
     let mut v: u16 = 0;
     while v <= most {
-        let level = quantization::unquantize(rule, Stored(v as u8));
+        let level = level_of(weight, range, Stored(v as u8));
         next(level.0);
         v += 1;
     }
@@ -79,7 +88,7 @@ fn levels(name: &[u8], range: u8, rule: Rule) {
 fn endpoints() {
     let mut range: u8 = 4;
     while range <= 20 {
-        levels(b"endpoint ", range, quantization::endpoint_rule(range));
+        levels(b"endpoint ", range, false);
         range += 1;
     }
 }
@@ -87,7 +96,7 @@ fn endpoints() {
 fn weights() {
     let mut range: u8 = 0;
     while range <= 11 {
-        levels(b"weight ", range, quantization::weight_rule(range));
+        levels(b"weight ", range, true);
         range += 1;
     }
 }

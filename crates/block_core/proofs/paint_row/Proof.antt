@@ -1,21 +1,24 @@
-use mathlib.Core.Path.{_≡_, refl, _∙_}
+use mathlib.Core.Path.{_≡_, refl, sym, _∙_}
 use Prim.Native.Nat.{ℕ, _+_, _-_, _*_, _/_, _≤_, _<_}
 use native.Mathlib.Nat.{mul-le-mul}
 use native.Mathlib.Omega.{arith}
+use lib.ListN.{getD}
 use denote.Ref.{now}
 use borrow.Author.Needs.{needs}
-use Rattle.block_core.specs.Prepared.{texelIn}
+use Rattle.weight_grid.specs.Place.{gridPlace}
+use Rattle.interpolation.specs.declared.Texel.{Texel}
+use Rattle.block_core.specs.Prepared.{texelAt, texelIn}
 use Rattle.block_core.specs.Held.{RowsTo}
-use Rattle.block_core.proofs.Painting.{Laid, laid-texel, rows-laid, laid-rows, place-fits, reach, told}
+use Rattle.block_core.proofs.Painting.{Laid, laid-texel, rows-laid, laid-rows, place-fits, reach, which-lt, Row, row-in, told}
 use Rattle.block_core.proofs.paint_row.Statement.{statement}
 use Rattle.block_core.proofs.paint_row.Tie as tie
 
 abbrev Inv-loop : tie.InvT-loop
-Inv-loop g component points lines seeds partitions f y out₀ row gt from below x₀ out x =
-    (x ≤ f .width) × (RowsTo (f .width) (texelIn g component points lines seeds partitions f) out₀ y → Laid (f .width) (texelIn g component points lines seeds partitions f) out (4 * (y * f .width + x)))
+Inv-loop g component points lines partitions f y out₀ row gt from below which x₀ out x =
+    (x ≤ f .width) × ((t : ℕ → ℕ → Texel) → Row g component points lines f which y t → RowsTo (f .width) t out₀ y → Laid (f .width) t out (4 * (y * f .width + x)))
 
 abbrev μ-loop : tie.MeasureT-loop
-μ-loop g component points lines seeds partitions f y out₀ row gt from below x₀ out x = f .width - x
+μ-loop g component points lines partitions f y out₀ row gt from below which x₀ out x = f .width - x
 
 -- ---- where the row lies
 
@@ -29,24 +32,33 @@ from-le c =
 
 -- ---- where the texel lies
 
-across-le : (c : tie.After-grid-place2 Inv-loop μ-loop) → c .grid-place2 .result ≤ 16 * (c .before .before .before .before .before .before .before .args .g .width - 1)
-across-le c = let s = c .before .before .before .before .before .before .before in rw (c .grid-place2 .ensures) (s .pre .0 .columns (c .before .before .before .loop .x) (c .before .if1 .taken))
+across-le : (c : tie.After-grid-place2 Inv-loop μ-loop) → c .grid-place2 .result ≤ 16 * (c .before .before .before .before .before .before .before .before .args .g .width - 1)
+across-le c = let s = c .before .before .before .before .before .before .before .before in rw (c .grid-place2 .ensures) (s .pre .0 .columns (c .before .before .before .loop .x) (c .before .if1 .taken))
 
-room : (c : tie.After-step2 Inv-loop μ-loop) → let a = c .before .before .before .before .before .before .before .before .args in
-    c .before .before .before .before .before .before .grid-place .result / 16 * a .g .width + c .before .grid-place2 .result / 16 + c .before .before .before .before .before .step .result + c .step2 .result < 64
+room : (c : tie.After-step2 Inv-loop μ-loop) → let a = c .before .before .before .before .before .before .before .before .before .args in
+    c .before .before .before .before .before .before .before .grid-place .result / 16 * a .g .width + c .before .grid-place2 .result / 16 + c .before .before .before .before .before .before .step .result + c .step2 .result < 64
 room c =
-    let s = c .before .before .before .before .before .before .before .before in
-    rw (c .step2 .ensures, c .before .before .before .before .before .step .ensures) (reach (s .args .g) _ _ (s .pre .0 .limits) (s .pre .0 .count) (across-le (c .before)) (down-le (c .before .before .before .before .before .before)))
+    let s = c .before .before .before .before .before .before .before .before .before in
+    rw (c .step2 .ensures, c .before .before .before .before .before .before .step .ensures) (reach (s .args .g) _ _ (s .pre .0 .limits) (s .pre .0 .count) (across-le (c .before)) (down-le (c .before .before .before .before .before .before .before)))
+
+-- a row of a block is not wider than the row of partitions
+narrow : (c : tie.After-infill-both Inv-loop μ-loop) → c .before .before .before .before .before .before .before .before .before .loop .x < 16
+narrow c = omega (arith, c .before .before .before .before .before .before .before .if1 .taken, c .before .before .before .before .before .before .before .before .before .before .before .before .before .before .pre .0 .width-most)
 
 -- the texel at the place
-shown : (c : tie.After-place Inv-loop μ-loop) → let a = c .before .before .before .before .before .before .before .before .before .before .before .before .before .before .before .before .before .before .before .before .args in
-    c .before .before .mix-line .result ≡ texelIn (a .g) (a .component) (now (a .points)) (now (a .lines)) (a .seeds) (a .partitions) (a .f) (c .before .before .before .before .before .before .before .before .before .before .before .before .before .before .before .before .loop .x) (a .y)
-unfolding texelIn
+shown : (c : tie.After-place Inv-loop μ-loop) → let a = c .before .before .before .before .before .before .before .before .before .before .before .before .before .before .before .before .before .before .before .before .args in let x = c .before .before .before .before .before .before .before .before .before .before .before .before .before .before .before .loop .x in
+    c .before .before .mix-line .result ≡ texelAt (a .g) (a .component) (now (a .points)) (now (a .lines)) (getD (c .before .before .before .before .before .before .before .before .before .before .before .before .before .before .before .before .row-partitions .result) x 0) (gridPlace (a .f .across) x (a .g .width)) (gridPlace (a .f .down) (a .y) (a .g .height))
 shown c =
     let a = c .before .before .before .before .before .before .before .before .before .before .before .before .before .before .before .before .before .before .before .before .args in
-    told (a .g) (a .component) (now (a .points)) (now (a .lines)) (a .seeds) (a .partitions) _ _ (c .before .before .before .before .before .before .before .before .before .before .before .before .before .before .before .before .loop .x) (a .y) _ refl (c .before .before .before .before .before .before .before .before .before .before .before .before .step2 .ensures) (c .before .before .before .before .before .before .before .before .before .before .before .before .before .before .before .before .before .step .ensures)
-    (c .before .before .before .before .before .before .before .infill-both .ensures) (c .before .before .before .before .before .before .partition-of .ensures .0) (c .before .before .before .before .first-weight .ensures) (c .before .before .before .second-weight .ensures) (c .before .before .mix-line .ensures)
-    ∙ rw (c .before .before .before .before .before .before .before .before .before .before .before .before .before .grid-place2 .ensures, c .before .before .before .before .before .before .before .before .before .before .before .before .before .before .before .before .before .before .grid-place .ensures)
+    told (a .g) (a .component) (now (a .points)) (now (a .lines)) _ _ _ _ refl (c .before .before .before .before .before .before .before .before .before .before .before .step2 .ensures) (c .before .before .before .before .before .before .before .before .before .before .before .before .before .before .before .before .before .step .ensures)
+    (c .before .before .before .before .before .before .infill-both .ensures) (c .before .before .before .before .first-weight .ensures) (c .before .before .before .second-weight .ensures) (c .before .before .mix-line .ensures)
+    ∙ rw (c .before .before .before .before .before .before .before .before .before .before .before .before .grid-place2 .ensures, c .before .before .before .before .before .before .before .before .before .before .before .before .before .before .before .before .before .before .grid-place .ensures)
+
+-- the partition that is found has a line
+which-line : (c : tie.After-infill-both Inv-loop μ-loop) → getD (c .before .before .before .before .before .before .before .before .before .before .row-partitions .result) (c .before .before .before .before .before .before .before .before .before .loop .x) 0 < 4
+which-line c =
+    let a = c .before .before .before .before .before .before .before .before .before .before .before .before .before .before .args in
+    which-lt (a .seeds) (a .partitions) (a .y) _ (c .before .before .before .before .before .before .before .before .before .before .row-partitions .ensures) (narrow c)
 
 cast-row : tie.Need-cast-row Inv-loop μ-loop
 cast-row c = search needs
@@ -63,8 +75,11 @@ mul-from c = omega (arith, from-le c)
 step-requires : tie.Need-step-requires Inv-loop μ-loop
 step-requires c κs = search needs
 
+row-partitions-requires : tie.Need-row-partitions-requires Inv-loop μ-loop
+row-partitions-requires c κs = search needs
+
 loop-holds : tie.Need-loop-holds Inv-loop μ-loop
-loop-holds c = (omega arith, rows-laid _ _ _ _)
+loop-holds c = (omega arith, λ t r. rows-laid _ t _ _)
 
 grid-place-requires-2 : tie.Need-grid-place-requires-2 Inv-loop μ-loop
 grid-place-requires-2 c κs = search needs
@@ -73,7 +88,7 @@ cast-n : tie.Need-cast-n Inv-loop μ-loop
 cast-n c = search needs
 
 add-n : tie.Need-add-n Inv-loop μ-loop
-add-n c = omega (arith, from-le (c .before .before .before .before .before), across-le c, c .before .before .before .before .before .before .before .pre .0 .limits .width-most)
+add-n c = omega (arith, from-le (c .before .before .before .before .before .before), across-le c, c .before .before .before .before .before .before .before .before .pre .0 .limits .width-most)
 
 step-requires-2 : tie.Need-step-requires-2 Inv-loop μ-loop
 step-requires-2 c κs = search needs
@@ -115,16 +130,25 @@ element-copy-out-p11 : tie.Need-element-copy-out-p11 Inv-loop μ-loop
 element-copy-out-p11 c = omega (arith, room (c .before .before .before))
 
 infill-both-requires : tie.Need-infill-both-requires Inv-loop μ-loop
-infill-both-requires c κs = let h = c .before .before .before .before .before .before .before .before .before .before .before .before .pre .1 .0 in (h _, h _, h _, h _)
+infill-both-requires c κs = let h = c .before .before .before .before .before .before .before .before .before .before .before .before .before .pre .1 .0 in (h _, h _, h _, h _)
 
-partition-of-requires : tie.Need-partition-of-requires Inv-loop μ-loop
-partition-of-requires c κs = search needs
+cast-line : tie.Need-cast-line Inv-loop μ-loop
+cast-line c = search needs
 
 mul-line : tie.Need-mul-line Inv-loop μ-loop
-mul-line c = search needs
+mul-line c = omega (arith, narrow c)
+
+array-read-line : tie.Need-array-read-line Inv-loop μ-loop
+array-read-line c = narrow c
+
+cast-line-2 : tie.Need-cast-line-2 Inv-loop μ-loop
+cast-line-2 c = omega (arith, which-line c)
+
+mul-line-2 : tie.Need-mul-line-2 Inv-loop μ-loop
+mul-line-2 c = omega (arith, which-line c)
 
 element-copy-out-line : tie.Need-element-copy-out-line Inv-loop μ-loop
-element-copy-out-line c = c .partition-of .ensures .1
+element-copy-out-line c = which-line c
 
 first-weight-requires : tie.Need-first-weight-requires Inv-loop μ-loop
 first-weight-requires c κs = search needs
@@ -141,32 +165,35 @@ place-requires c κs = search needs
 put-requires : tie.Need-put-requires Inv-loop μ-loop
 put-requires c κs =
     let s = c .before .before .before .before .before .before .before .before .before .before .before .before .before .before .before .before .before .before .before .before in
-    rw (c .place .ensures) (place-fits (s .args .f .width) (s .args .f .height) _ (s .args .y) (s .pre .0 .width-most) (s .pre .0 .height-most) (c .before .before .before .before .before .before .before .before .before .before .before .before .before .before .if1 .taken) (s .pre .1 .1))
+    rw (c .place .ensures) (place-fits (s .args .f .width) (s .args .f .height) _ (s .args .y) (s .pre .0 .width-most) (s .pre .0 .height-most) (c .before .before .before .before .before .before .before .before .before .before .before .before .before .if1 .taken) (s .pre .1 .1))
 
 add-x : tie.Need-add-x Inv-loop μ-loop
-add-x c = omega (arith, c .before .before .before .before .before .before .before .before .before .before .before .before .before .before .before .if1 .taken, c .before .before .before .before .before .before .before .before .before .before .before .before .before .before .before .before .before .before .before .before .before .pre .0 .width-most)
+add-x c = omega (arith, c .before .before .before .before .before .before .before .before .before .before .before .before .before .before .if1 .taken, c .before .before .before .before .before .before .before .before .before .before .before .before .before .before .before .before .before .before .before .before .before .pre .0 .width-most)
 
 loop-less : tie.Need-loop-less Inv-loop μ-loop
-loop-less c = omega (arith, c .before .before .before .before .before .before .before .before .before .before .before .before .before .before .before .if1 .taken)
+loop-less c = omega (arith, c .before .before .before .before .before .before .before .before .before .before .before .before .before .before .if1 .taken)
 
 loop-again : tie.Need-loop-again Inv-loop μ-loop
 loop-again c =
     let d = c .before in
     let s = d .before .before .before .before .before .before .before .before .before .before .before .before .before .before .before .before .before .before .before .before in
     let a = s .args in
-    let l = d .before .before .before .before .before .before .before .before .before .before .before .before .before .before .before .before .loop in
-    let t = d .before .before .before .before .before .before .before .before .before .before .before .before .before .before .if1 .taken in (
+    let l = d .before .before .before .before .before .before .before .before .before .before .before .before .before .before .before .loop in
+    let t = d .before .before .before .before .before .before .before .before .before .before .before .before .before .if1 .taken in (
       omega (arith, t),
-      λ r. rw (c .put .ensures)
-          (laid-texel (a .f .width) (texelIn (a .g) (a .component) (now (a .points)) (now (a .lines)) (a .seeds) (a .partitions) (a .f)) (l .out) (l .x) (a .y) t
-          (place-fits (a .f .width) (a .f .height) (l .x) (a .y) (s .pre .0 .width-most) (s .pre .0 .height-most) t (s .pre .1 .1)) (shown d) (d .place .ensures) (l .inv .1 r)),
+      λ u r w. rw (c .put .ensures)
+          (laid-texel (a .f .width) u (l .out) (l .x) (a .y) t
+          (place-fits (a .f .width) (a .f .height) (l .x) (a .y) (s .pre .0 .width-most) (s .pre .0 .height-most) t (s .pre .1 .1)) (shown d ∙ sym (r (l .x) t)) (d .place .ensures) (l .inv .1 u r w)),
     )
 
 returns : tie.Need-returns Inv-loop μ-loop
 returns c =
     let l = c .before .before .loop in
-    let s = c .before .before .before .before .before .before in
-    λ r. laid-rows (s .args .f .width) _ _ (l .x) (s .args .y) (omega (arith, c .if1 .left, l .inv .0)) (l .inv .1 r)
+    let s = c .before .before .before .before .before .before .before in
+    let a = s .args in
+    λ w. laid-rows (a .f .width) _ _ (l .x) (a .y) (omega (arith, c .if1 .left, l .inv .0))
+    (l .inv .1 (texelIn (a .g) (a .component) (now (a .points)) (now (a .lines)) (a .seeds) (a .partitions) (a .f))
+    (row-in (a .g) (a .component) (now (a .points)) (now (a .lines)) (a .seeds) (a .partitions) (a .f) (a .y) _ (s .pre .0 .width-most) (c .before .before .before .row-partitions .ensures)) w)
 
 pub paint-row-spec : {M : Type 1} → statement M
 paint-row-spec =
@@ -179,6 +206,7 @@ paint-row-spec =
     cast-from
     mul-from
     step-requires
+    row-partitions-requires
     loop-holds
     grid-place-requires-2
     cast-n
@@ -197,8 +225,11 @@ paint-row-spec =
     mul-p11
     element-copy-out-p11
     infill-both-requires
-    partition-of-requires
+    cast-line
     mul-line
+    array-read-line
+    cast-line-2
+    mul-line-2
     element-copy-out-line
     first-weight-requires
     second-weight-requires
