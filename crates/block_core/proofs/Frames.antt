@@ -29,21 +29,23 @@ tested : T (all test 14)
 unfolding test fits scaleOf widthOf heightOf footprints
 tested = tt
 
-column-le : (fp x points : ℕ) → points ≤ 12 → x < widthOf fp → gridPlace (scaleOf (widthOf fp)) x points ≤ 16 * (points - 1)
-unfolding test fits
-column-le fp x points hp hx =
+-- on an axis, by its side and the half of the test that is about it
+axis-le : (sideOf : ℕ → ℕ) → ((fp : ℕ) → fp < 14 → T (fits (sideOf fp))) → ((fp : ℕ) → 14 ≤ fp → sideOf fp ≡ 0)
+    → (fp i points : ℕ) → points ≤ 12 → i < sideOf fp → gridPlace (scaleOf (sideOf fp)) i points ≤ 16 * (points - 1)
+unfolding fits
+axis-le sideOf half none fp i points hp hi =
     elim (decLt fp 14) [
-      | yes p ↦ place-le (scaleOf (widthOf fp)) (widthOf fp) x points (leb→le _ _ (both-left (fits (widthOf fp)) (fits (heightOf fp)) (each test 14 tested fp p))) hx hp
-      | no p ↦ absurd (let e = past fp (omega arith) in omega (arith, e .0))
+      | yes p ↦ place-le (scaleOf (sideOf fp)) (sideOf fp) i points (leb→le _ _ (half fp p)) hi hp
+      | no p ↦ absurd (omega (arith, none fp (omega arith)))
     ]
 
+column-le : (fp x points : ℕ) → points ≤ 12 → x < widthOf fp → gridPlace (scaleOf (widthOf fp)) x points ≤ 16 * (points - 1)
+unfolding test
+column-le = axis-le widthOf (λ fp p. both-left (fits (widthOf fp)) (fits (heightOf fp)) (each test 14 tested fp p)) (λ fp h. past fp h .0)
+
 row-le : (fp y points : ℕ) → points ≤ 12 → y < heightOf fp → gridPlace (scaleOf (heightOf fp)) y points ≤ 16 * (points - 1)
-unfolding test fits
-row-le fp y points hp hy =
-    elim (decLt fp 14) [
-      | yes p ↦ place-le (scaleOf (heightOf fp)) (heightOf fp) y points (leb→le _ _ (both-right (fits (widthOf fp)) (fits (heightOf fp)) (each test 14 tested fp p))) hy hp
-      | no p ↦ absurd (let e = past fp (omega arith) in omega (arith, e .1))
-    ]
+unfolding test
+row-le = axis-le heightOf (λ fp p. both-right (fits (widthOf fp)) (fits (heightOf fp)) (each test 14 tested fp p)) (λ fp h. past fp h .1)
 
 pub inside : (fp : ℕ) (g : WeightGrid) → Limits g → weightCount g ≤ 64 → Inside g (frameOf fp)
 unfolding frameOf

@@ -137,6 +137,6 @@ module _ (g : WeightGrid) (component : ℕ) (points : List ℕ) (lines : List (L
   pub told : (gs gt p n : ℕ) {right below both first second : ℕ} {t : Texel}
       → n ≡ gt / 16 * g .width + gs / 16 → right ≡ stepOf gs (g .width) 1 → below ≡ stepOf gt (g .height) (g .width)
       → both ≡ bothOf (gs % 16) (gt % 16) (getD points n 0) (getD points (n + right) 0) (getD points (n + below) 0) (getD points (n + below + right) 0)
-      → first ≡ both % 256 → second ≡ both / 65536 → t ≡ lineTexel (getD lines p []) first second component → t ≡ texelAt g component points lines p gs gt
+      → first ≡ both % 256 → second ≡ both / 65536 % 256 → t ≡ lineTexel (getD lines p []) first second component → t ≡ texelAt g component points lines p gs gt
   unfolding texelAt readOf
   told gs gt p n en er eb ew ef es et = rw (et, ef, es, ew, er, eb, en)

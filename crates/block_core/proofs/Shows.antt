@@ -136,6 +136,9 @@ module _ (fp : ℕ) (kind : Kind) (h : Header) (ends : List Level) (bytes : (k :
     last-most : both / 65536 ≤ 64
     last-most = second-most (h .grid .width) (h .grid .height) gs gt (omega (arith, l .width-low)) (omega (arith, l .height-low)) column row (weights h stored) (h .grid .planes) (most h stored) (points-le (h .grid) l n)
 
+    last-whole : both / 65536 % 256 ≡ both / 65536
+    last-whole = omega (arith, last-most)
+
     abbrev pair : EndpointPair
     pair = getD (tableOf (h .modes) (h .partitions) ends) (partitionOf (h .index) (h .partitions) (isSmall fp) x y 0) noPair
 
@@ -154,7 +157,7 @@ module _ (fp : ℕ) (kind : Kind) (h : Header) (ends : List Level) (bytes : (k :
         ≡ mixedTexel fp kind h ends (weights h stored) x y
     unfolding texelIn texelAt frameOf mixedTexel planeWeight secondWeight secondComponent
     prepared =
-        rw (line-at kind h ends (isSmall fp) x y)
+        rw (line-at kind h ends (isSmall fp) x y, last-whole)
         (line-texel kind pair (both % 256) (both / 65536) _ (pair-bytes .first) (pair-bytes .second) first-most last-most
         ∙ ap (λ (k : ℕ). texelOf (expandedPair kind pair) (level k) (level (both / 65536)) (secondComponent fp kind h ends (weights h stored) x y)) first-is
         ∙ second-told (eqb (h .grid .planes) 2) refl)

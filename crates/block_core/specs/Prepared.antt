@@ -28,7 +28,7 @@ module _ (g : WeightGrid) (component : ℕ) (points : List ℕ) (lines : List (L
   unfoldable pub texelAt : ℕ → ℕ → ℕ → Texel
   texelAt p gs gt =
       let both = readOf points (g .width) (g .height) gs gt in
-      lineTexel (getD lines p []) (both % 256) (both / 65536) component
+      lineTexel (getD lines p []) (both % 256) (both / 65536 % 256) component
 
   -- the texel at x, y of a block
   unfoldable pub texelIn : Seeds → ℕ → Frame → ℕ → ℕ → Texel

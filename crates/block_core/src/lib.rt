@@ -68,16 +68,16 @@ fn second_component(planes: u8, component: u8) -> u8
 }
 
 // The weight of each plane, of both packed.
-fn first_weight(both: u32) -> u16
-    ensures { λ r. ⌜ r ≡ both % 256 ⌝ }
+fn first_weight(both: u32) -> Level
+    ensures { λ r. ⌜ r .0 ≡ both % 256 ⌝ }
 {
-    (both % 256) as u16
+    Level((both % 256) as u8)
 }
 
-fn second_weight(both: u32) -> u16
-    ensures { λ r. ⌜ r ≡ both / 65536 ⌝ }
+fn second_weight(both: u32) -> Level
+    ensures { λ r. ⌜ r .0 ≡ both / 65536 % 256 ⌝ }
 {
-    (both / 65536) as u16
+    Level((both / 65536 % 256) as u8)
 }
 
 // The partitions of the texels of row y; all 0 where there is one partition.
@@ -109,7 +109,7 @@ fn put(out: &mut [u16; 576], i: usize, r: u16, g: u16, b: u16, a: u16)
     out[i + 3] = a;
 }
 
-// Row y of the texels. Points and lines are lent, not passed: nothing is copied for a row or a texel. Only points of the grid are read: at
+// Row y of the texels. Points and lines are lent, not passed, and the row's partitions found at once. Only points of the grid are read: at
 // the last column or row a point stands for its neighbour outside, whose factor is 0.
 fn paint_row(
     g: WeightGrid,

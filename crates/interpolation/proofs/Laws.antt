@@ -1,4 +1,4 @@
--- Bounds of what is expanded, mixed and shown, and how a table and a texel are read.
+-- Bounds of what is expanded, mixed and shown.
 -- Assumes nothing.
 use mathlib.Core.Path.{_≡_}
 use mathlib.Core.List.{List}
@@ -10,13 +10,12 @@ use lib.Dec.{eqb}
 use lib.ListN.{getD}
 use borrow.Author.Tests.{ne-eqb}
 use Rattle.laws.specs.Choice.{pick}
-use Rattle.laws.proofs.Filling.{getD-tab}
 use Rattle.encoding.specs.declared.Level.{Level}
 use Rattle.endpoint_arithmetic.specs.declared.EndpointPair.{EndpointPair}
 use Rattle.interpolation.specs.declared.ExpandedPair.{ExpandedPair}
 use Rattle.interpolation.specs.declared.Kind.{Kind}
 use Rattle.interpolation.specs.declared.Kind.the-variants.{Unorm16, Srgb8}
-use Rattle.interpolation.specs.Expansion.{replicated, centred, colourOf, alphaOf, expandedPair, noPair, expandedTable, shownOf}
+use Rattle.interpolation.specs.Expansion.{replicated, centred, colourOf, alphaOf, expandedPair, shownOf}
 use Rattle.interpolation.specs.Texel.{mixOf, weightOf, channelOf}
 
 -- an expanded channel fits 16 bits
@@ -29,11 +28,6 @@ pub alpha-le : (kind : Kind) (c : ℕ) → c ≤ 255 → alphaOf kind c ≤ 6553
 unfolding replicated centred
 alpha-le Unorm16 c h = omega arith
 alpha-le Srgb8 c h = omega arith
-
--- a partition's pair in the expanded table
-pub expanded-at : (kind : Kind) (t : List EndpointPair) (p : ℕ) (d : ExpandedPair) → p < 4 → getD (expandedTable kind t) p d ≡ expandedPair kind (getD t p noPair)
-unfolding expandedTable
-expanded-at kind t p d h = getD-tab (λ q. expandedPair kind (getD t q noPair)) 4 p d h
 
 -- by a weight of 0..64 two 16-bit numbers mix to a 16-bit number
 pub mix-le : (c0 c1 i : ℕ) → c0 ≤ 65535 → c1 ≤ 65535 → i ≤ 64 → mixOf c0 c1 i ≤ 65535

@@ -5,7 +5,6 @@ use mathlib.Core.List.{List, [], _∷_}
 use lib.Dec.{eqb}
 use lib.ListN.{getD}
 use Rattle.laws.specs.Choice.{pick}
-use Rattle.laws.specs.Table.{tab}
 use Rattle.endpoint_arithmetic.specs.declared.EndpointPair.{EndpointPair}
 use Rattle.interpolation.specs.declared.ExpandedPair.{ExpandedPair}
 use Rattle.interpolation.specs.declared.Kind.{Kind}
@@ -44,10 +43,6 @@ expandedPair kind p = record { c0 = expandedEnd kind (p .e0); c1 = expandedEnd k
 -- what stands past the last pair
 abbrev pub noPair : EndpointPair
 noPair = record { e0 = []; e1 = [] }
-
--- the pairs of four partitions
-unfoldable pub expandedTable : Kind → List EndpointPair → List ExpandedPair
-expandedTable kind t = tab (λ p. expandedPair kind (getD t p noPair)) 4
 
 -- what is shown of a 16-bit number: itself in kind 0, its top byte in kind 1
 abbrev pub shownOf : Kind → ℕ → ℕ

@@ -12,6 +12,7 @@ ghost use Rattle.interpolation.specs.Line.{
 };
 ghost use lib.Dec.{eqb};
 ghost use Rattle.laws.specs.Choice.{pick};
+use encoding::Level;
 use endpoint_arithmetic::EndpointPair;
 use std::num::wrapping_add_u16;
 use std::num::wrapping_sub_u16;
@@ -65,9 +66,8 @@ fn weight(component: u8, first: u16, second: u16, channel: u8) -> u16
     if channel == component { second } else { first }
 }
 
-// A texel on the lines of its pair; the component that the component selector names (01: plane channel) takes the second weight, 4 or
-// more standing for none.
-pub fn mix_line(l: [u16; 16], first: u16, second: u16, component: u8) -> Texel
+// The four channels, each at its weight.
+fn texel_on(l: [u16; 16], first: u16, second: u16, component: u8) -> Texel
     ensures { λ r. ⌜ r ≡ lineTexel l first second component ⌝ }
 {
     Texel {
@@ -88,6 +88,14 @@ pub fn mix_line(l: [u16; 16], first: u16, second: u16, component: u8) -> Texel
             weight(component, first, second, 3),
         ),
     }
+}
+
+// A texel on the lines of its pair; the component that the component selector names (01: plane channel) takes the second weight, 4 or
+// more standing for none.
+pub fn mix_line(l: [u16; 16], first: Level, second: Level, component: u8) -> Texel
+    ensures { λ r. ⌜ r ≡ lineTexel l (first .0) (second .0) component ⌝ }
+{
+    texel_on(l, first.0 as u16, second.0 as u16, component)
 }
 
 // Where a channel's line starts: the first endpoint in sixty-fourths.

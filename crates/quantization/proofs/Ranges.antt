@@ -3,22 +3,22 @@
 use mathlib.Core.Path.{_≡_, refl, sym, ap, _∙_, subst}
 use mathlib.Core.Bool.{Bool, true, false}
 use mathlib.Core.List.{List, [], _∷_}
-use Prim.Native.Nat.{ℕ, zero, suc, _+_, _-_, _*_, _/_, _^_, _≤_, _<_, min}
-use native.Mathlib.Nat.{mul-add}
+use Prim.Native.Nat.{ℕ, zero, suc, _+_, _-_, _*_, _/_, _%_, _^_, _≤_, _<_, min}
+use native.Mathlib.Nat.{not-suc-le-zero}
 use native.Mathlib.Decide.{decLt}
 use native.Mathlib.Omega.{arith}
-use lib.Dec.{T, leb, ltb, eqb, leb→le}
+use lib.Dec.{T, leb, eqb, leb→le}
 use lib.ListN.{getD, List·getD-eq-default}
 use lib.Pow.{pow-pos}
-use borrow.Author.Tests.{lt-ltb, le-ltb, le-leb, lt-leb, leb-true, leb-false, eqb-true, eqb-false}
+use borrow.Author.Tests.{le-leb, lt-leb, leb-true, leb-false, eqb-true, eqb-false}
 use Rattle.laws.specs.Choice.{pick, all}
 use Rattle.laws.specs.Table.{tab}
 use Rattle.laws.proofs.Computed.{each}
 use Rattle.laws.proofs.Filling.{getD-tab}
 use Rattle.encoding.specs.declared.Encoding.{Encoding}
 use Rattle.encoding.specs.declared.Encoding.the-variants.{Bits, Trits, Quints}
-use Rattle.encoding.specs.Encoding.{radix, sequenceBits}
-use Rattle.quantization.specs.Ranges.{encodings, bitCounts, encodingAt, bitsAt, mostAt, rangeBits, largestTo, endpointRange}
+use Rattle.encoding.specs.Encoding.{radix, codeBits, sequenceBits}
+use Rattle.quantization.specs.Ranges.{encodings, bitCounts, encodingAt, bitsAt, mostAt, rangeBits, codesOf, largestTo, endpointRange}
 
 -- two functions whose tables of n values are the same, which antt computes, agree below n
 pub same-below : {A : Type 0} (f g : ℕ → A) (n : ℕ) (d : A) → tab f n ≡ tab g n → (k : ℕ) → k < n → f k ≡ g k
@@ -108,105 +108,62 @@ weight-most-le k h = leb→le (mostAt k) 31 (each (λ k. leb (mostAt k) 31) 12 w
 
 -- ---- the endpoint range
 
+-- the place of an encoding's code bits in `codesOf`
+abbrev digitOf : Encoding → ℕ
+digitOf Bits = 0
+digitOf Trits = 1
+digitOf Quints = 2
+
+digit-lt : (e : Encoding) → digitOf e < 3
+digit-lt Bits = omega arith
+digit-lt Trits = omega arith
+digit-lt Quints = omega arith
+
+code-at : (n : ℕ) (e : Encoding) → getD (codesOf n) (digitOf e) 0 ≡ codeBits e n
+code-at n Bits = refl
+code-at n Trits = refl
+code-at n Quints = refl
+
+pub code-most : (n k : ℕ) → getD (codesOf n) k 0 ≤ 3 * n + 2
+code-most n zero = omega arith
+code-most n (suc zero) = omega arith
+code-most n (suc (suc zero)) = omega arith
+code-most n (suc (suc (suc k))) = omega arith
+
+-- packed bits and encodings that are those of the ranges 5 to 20, which antt computes, give the total of range 4 + i
+module _ (w v : ℕ) (bits : tab (λ j. w / 2 ^ (4 * j) % 16) 16 ≡ tab (λ j. bitsAt (5 + j)) 16)
+    (digits : tab (λ j. v / 2 ^ (2 * j + 10) % 4) 16 ≡ tab (λ j. digitOf (encodingAt (5 + j))) 16) (i : ℕ) (least : 1 ≤ i) (most : i ≤ 16) where
+  at-range : 5 + (i - 1) ≡ 4 + i
+  at-range = omega arith
+
+  bits-is : w / 2 ^ (4 * (i - 1)) % 16 ≡ bitsAt (4 + i)
+  bits-is = same-below (λ j. w / 2 ^ (4 * j) % 16) (λ j. bitsAt (5 + j)) 16 0 bits (i - 1) (omega arith) ∙ ap bitsAt at-range
+
+  digit-is : v / 2 ^ (2 * (i - 1) + 10) % 4 ≡ digitOf (encodingAt (4 + i))
+  digit-is =
+      same-below (λ j. v / 2 ^ (2 * j + 10) % 4) (λ j. digitOf (encodingAt (5 + j))) 16 0 digits (i - 1) (omega arith)
+      ∙ ap (λ (k : ℕ). digitOf (encodingAt k)) at-range
+
+  pub packed-lt : v / 2 ^ (2 * (i - 1) + 10) % 4 < 3
+  packed-lt = rw digit-is (digit-lt (encodingAt (4 + i)))
+
+  pub packed-le : w / 2 ^ (4 * (i - 1)) % 16 ≤ 8
+  packed-le = rw bits-is (bits-le (4 + i))
+
+  pub packed-total : (n : ℕ) → n * (w / 2 ^ (4 * (i - 1)) % 16) + getD (codesOf n) (v / 2 ^ (2 * (i - 1) + 10) % 4) 0 ≡ rangeBits (4 + i) n
+  unfolding rangeBits sequenceBits
+  packed-total n = rw (bits-is, digit-is) (ap (λ (k : ℕ). n * bitsAt (4 + i) + k) (code-at n (encodingAt (4 + i))))
+
 -- a range that fits, and one that does not, at the top of the ranges 4 to 4 + i
-here : (n left i r : ℕ) → r ≡ 4 + i → rangeBits r n ≤ left → largestTo n left i ≡ r
+pub here : (n left i : ℕ) → 1 ≤ i → rangeBits (4 + i) n ≤ left → largestTo n left i ≡ 4 + i
 unfolding largestTo
-here n left zero r e h = sym e
-here n left (suc i) r e h = let l : rangeBits (4 + suc i) n ≤ left = rw e at h in rw (le-leb _ _ l, e)
+here n left zero p h = absurd (not-suc-le-zero p)
+here n left (suc i) p h = rw (le-leb _ _ h)
 
-down : (n left i j r : ℕ) → r ≡ 4 + i → j ≡ i - 1 → left < rangeBits r n → largestTo n left i ≡ largestTo n left j
+pub down : (n left i : ℕ) → 1 ≤ i → left < rangeBits (4 + i) n → largestTo n left i ≡ largestTo n left (i - 1)
 unfolding largestTo
-down n left zero j r e f h = rw f
-down n left (suc i) j r e f h =
-    let l : left < rangeBits (4 + suc i) n = rw e at h in
-    let g : j ≡ i = omega arith in
-    rw (lt-leb _ _ l, g)
-
--- three ranges for each k: k bits and a trit, k + 2 bits, k bits and a quint
-module _ (n k : ℕ) (h : k ≤ 6) where
-  trit-bits : rangeBits (3 * k + 1) n ≡ n * k + (8 * n + 4) / 5
-  unfolding tab rangeBits encodingAt bitsAt sequenceBits
-  trit-bits =
-      rw (
-        same-below (λ k. encodingAt (3 * k + 1)) (λ k. Trits) 7 Bits refl k (omega arith),
-        same-below (λ k. bitsAt (3 * k + 1)) (λ k. k) 7 0 refl k (omega arith),
-      )
-
-  plain-bits : rangeBits (3 * k + 2) n ≡ n * k + 2 * n
-  unfolding tab rangeBits encodingAt bitsAt sequenceBits
-  plain-bits =
-      rw (
-        same-below (λ k. encodingAt (3 * k + 2)) (λ k. Bits) 7 Bits refl k (omega arith),
-        same-below (λ k. bitsAt (3 * k + 2)) (λ k. k + 2) 7 0 refl k (omega arith),
-        mul-add n k 2,
-      )
-      (omega arith)
-
-  quint-bits : k < 6 → rangeBits (3 * k + 3) n ≡ n * k + (7 * n + 2) / 3
-  unfolding tab rangeBits encodingAt bitsAt sequenceBits
-  quint-bits l =
-      rw (
-        same-below (λ k. encodingAt (3 * k + 3)) (λ k. Quints) 6 Bits refl k l,
-        same-below (λ k. bitsAt (3 * k + 3)) (λ k. k) 6 0 refl k l,
-      )
-
--- the ranges from 4 up to the last of k's three are 4 to 4 + top k; 21 is none
-abbrev pub top : ℕ → ℕ
-top k = min (3 * k - 1) 16
-
-module _ (n left k : ℕ) (least : 1 ≤ k) (h : k ≤ 6) where
-  -- the second of k's ranges where it fits, else the first
-  abbrev second : ℕ
-  second = pick (leb (n * k + 2 * n) left) (3 * k + 2) (3 * k + 1)
-
-  -- the first of k's ranges fits: the largest is one of the three
-  module _ (fits : n * k + (8 * n + 4) / 5 ≤ left) where
-    up-to-second : largestTo n left (3 * k - 2) ≡ second
-    up-to-second =
-        elim (decLt left (n * k + 2 * n)) [
-          | yes p ↦
-              rw (lt-leb (n * k + 2 * n) left p)
-              (down n left (3 * k - 2) (3 * k - 3) (3 * k + 2) (omega arith) (omega arith) (omega (arith, plain-bits n k h))
-              ∙ here n left (3 * k - 3) (3 * k + 1) (omega arith) (omega (arith, trit-bits n k h)))
-          | no p ↦
-              let l : n * k + 2 * n ≤ left = omega arith in
-              rw (le-leb (n * k + 2 * n) left l)
-              (here n left (3 * k - 2) (3 * k + 2) (omega arith) (omega (arith, plain-bits n k h)))
-        ]
-
-    up-to-third : k < 6 → largestTo n left (3 * k - 1) ≡ pick (leb (n * k + (7 * n + 2) / 3) left) (3 * k + 3) second
-    up-to-third b =
-        elim (decLt left (n * k + (7 * n + 2) / 3)) [
-          | yes p ↦
-              rw (lt-leb (n * k + (7 * n + 2) / 3) left p)
-              (down n left (3 * k - 1) (3 * k - 2) (3 * k + 3) (omega arith) (omega arith) (omega (arith, quint-bits n k h b)) ∙ up-to-second)
-          | no p ↦
-              let l : n * k + (7 * n + 2) / 3 ≤ left = omega arith in
-              rw (le-leb (n * k + (7 * n + 2) / 3) left l)
-              (here n left (3 * k - 1) (3 * k + 3) (omega arith) (omega (arith, quint-bits n k h b)))
-        ]
-
-    pub best : largestTo n left (top k) ≡ pick (ltb k 6) (pick (leb (n * k + (7 * n + 2) / 3) left) (3 * k + 3) second) second
-    best =
-        elim (decLt k 6) [
-          | yes p ↦ let e : top k ≡ 3 * k - 1 = omega arith in rw (lt-ltb k 6 p, e) (up-to-third p)
-          | no p ↦ let e : top k ≡ 3 * k - 2 = omega arith in rw (le-ltb k 6 (omega arith), e) up-to-second
-        ]
-
-  -- it does not fit: nor do the others, which take no fewer bits
-  module _ (over : left < n * k + (8 * n + 4) / 5) where
-    below-second : largestTo n left (3 * k - 2) ≡ largestTo n left (top (k - 1))
-    below-second =
-        down n left (3 * k - 2) (3 * k - 3) (3 * k + 2) (omega arith) (omega arith) (omega (arith, plain-bits n k h))
-        ∙ down n left (3 * k - 3) (top (k - 1)) (3 * k + 1) (omega arith) (omega arith) (omega (arith, trit-bits n k h))
-
-    pub below : largestTo n left (top k) ≡ largestTo n left (top (k - 1))
-    below =
-        elim (decLt k 6) [
-          | yes p ↦
-              down n left (top k) (3 * k - 2) (3 * k + 3) (omega arith) (omega arith) (omega (arith, quint-bits n k h p)) ∙ below-second
-          | no p ↦ let e : top k ≡ 3 * k - 2 = omega arith in rw e below-second
-        ]
+down n left zero p h = absurd (not-suc-le-zero p)
+down n left (suc i) p h = let e : suc i - 1 ≡ i = omega arith in rw (lt-leb _ _ h, e)
 
 -- r is the largest of the endpoint ranges of which n numbers take at most the bits left: it fits, and no larger one does
 pub record Largest (n left r : ℕ) : Type 0 where

@@ -3,11 +3,11 @@ use encoding::Encoding;
 use encoding::Level;
 use encoding::Stored;
 ghost use mathlib.Core.Path.{_≡_};
-ghost use Prim.Native.Nat.{_-_, _≤_, min};
+ghost use Prim.Native.Nat.{_+_, _-_, _≤_, min};
 ghost use lib.Dec.{eqb};
 ghost use Rattle.laws.specs.Choice.{pick};
 ghost use Rattle.encoding.specs.declared.Encoding.the-variants.{Bits, Trits, Quints};
-ghost use Rattle.quantization.specs.Ranges.{encodingAt, bitsAt, mostAt, rangeBits, endpointRange};
+ghost use Rattle.quantization.specs.Ranges.{encodingAt, bitsAt, mostAt, rangeBits, codesOf, endpointRange};
 ghost use Rattle.quantization.specs.Unquantise.{unquantEndpoint, unquantWeight};
 ghost use Rattle.quantization.specs.Products.{byRule, Right};
 ghost use Rattle.quantization.specs.Words.{byWords, RightWords};
@@ -88,7 +88,20 @@ pub fn bits_left(available: u32, used: u32) -> u32
     available - used
 }
 
-// Ranges 3k + 1, 3k + 2 and 3k + 3 have k bits and a trit, k + 2 bits, and k bits and a quint, and take more bits in this order.
+// How many bits the numbers of the ranges 5 to 20 have, four bits for each range, the lowest first.
+const ENDPOINT_BITS: u64 = 0x8657546435324213;
+
+// The rounded total of n numbers of range 4 + i, from the code bits of n numbers of each encoding.
+fn total_at(i: u8, n: u64, codes: [u64; 3]) -> u64
+    requires { ⌜ (1 ≤ i) × (i ≤ 16) × (n ≤ 4294967295) × (codes ≡ codesOf n) ⌝ }
+    ensures { λ r. ⌜ r ≡ rangeBits (4 + i) n ⌝ }
+{
+    let j = (i as u32) - 1;
+    let b = (ENDPOINT_BITS >> (4 * j)) % 16;
+    let c = ((ENCODINGS >> (2 * j + 10)) % 4) as usize;
+    n * b + codes[c]
+}
+
 // The largest endpoint range of which count numbers fit into the bits left, by their rounded total.
 pub fn endpoint_range(count: u32, left: u32) -> u8
     ensures { λ r. ⌜ r ≡ endpointRange count left ⌝ }
@@ -97,19 +110,16 @@ pub fn endpoint_range(count: u32, left: u32) -> u8
     let n = count as u64;
     let trits = encoding::code_bits(Encoding::Trits, count);
     let quints = encoding::code_bits(Encoding::Quints, count);
-    let mut k: u8 = 6;
+    let codes = [0, trits, quints];
+    let mut i: u8 = 16;
     loop {
-        if k == 0 {
+        if i == 0 {
             break 4;
         }
-        let low = n * (k as u64);
-        if low + trits <= most {
-            let before = 3 * k;
-            let second = chosen(low + 2 * n <= most, before + 2, before + 1);
-            let third = chosen(low + quints <= most, before + 3, second);
-            break chosen(k < 6, third, second);
+        if total_at(i, n, codes) <= most {
+            break 4 + i;
         }
-        k -= 1;
+        i -= 1;
     }
 }
 

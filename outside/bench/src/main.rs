@@ -2,7 +2,8 @@
 //!
 //! 1,024 by 1,024 texels at 6x6 and 12x12, both kinds. The blocks are LDR mode blocks of all sorts, random settings and
 //! numbers that the library's writer wrote. Library and reference take turns in one process, both at opt-level 3; thread
-//! CPU time, median of the rounds. Buffers are filled once before the first round and not cleared between calls.
+//! CPU time, median of the rounds; where the processor changes its pace between rounds, the median of the rounds' own ratios
+//! is steadier. Buffers are filled once before the first round and not cleared between calls.
 
 use reference::random::{Random, mode_block};
 use reference::{FOOTPRINTS, decode_image_u8, decode_image_u16};
@@ -65,9 +66,11 @@ fn measure(name: &str, rounds: usize, mut ours: impl FnMut(), mut theirs: impl F
             library.push(timed(&mut ours));
         }
     }
+    let mut ratios: Vec<f64> = library.iter().zip(&reference).map(|(ours, theirs)| ours / theirs).collect();
+    let by_round = median(&mut ratios);
     let (library, reference) = (median(&mut library), median(&mut reference));
     let ratio = library / reference;
-    println!("{name}: library {library:.2} ms, reference {reference:.2} ms, ratio {ratio:.2}");
+    println!("{name}: library {library:.2} ms, reference {reference:.2} ms, ratio {ratio:.2} (by rounds {by_round:.2})");
     ratio
 }
 

@@ -1,4 +1,4 @@
--- `interpolation::mix_line` meets its contract.
+-- `interpolation::texel_on` meets its contract.
 use mathlib.Core.Path.{_≡_}
 use mathlib.Core.List.{List}
 use Prim.Native.Nat.{ℕ, _+_}
@@ -8,8 +8,8 @@ use Rattle.laws.specs.Choice.{pick}
 use Rattle.interpolation.specs.declared.Texel.{Texel}
 use Rattle.interpolation.specs.Line.{onLine, lineChannel, lineTexel}
 use borrow.Author.Needs.{needs}
-use Rattle.interpolation.proofs.mix_line.Statement.{statement}
-use Rattle.interpolation.proofs.mix_line.Tie as tie
+use Rattle.interpolation.proofs.texel_on.Statement.{statement}
+use Rattle.interpolation.proofs.texel_on.Tie as tie
 
 module _ (l : List ℕ) (first second component : ℕ) where
   channel : (c : ℕ) {i n : ℕ} → n ≡ onLine (getD l c 0) (getD l (4 + c) 0) (getD l (8 + c) 0) (getD l (12 + c) 0) i → i ≡ pick (eqb c component) second first
@@ -106,8 +106,8 @@ returns c =
     (channel _ _ _ _ 2 (x3 .on-line3 .ensures) (x3 .before .weight3 .ensures))
     (channel _ _ _ _ 3 (c .on-line4 .ensures) (c .before .weight4 .ensures))
 
-pub mix-line-spec : {M : Type 1} → statement M
-mix-line-spec =
+pub texel-on-spec : {M : Type 1} → statement M
+texel-on-spec =
     tie.close
     (tie.spec
     array-read-on-line
