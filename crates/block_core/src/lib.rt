@@ -322,7 +322,7 @@ fn colours(block: PhysicalBlock) -> Texel
     Texel { r, g, b, a }
 }
 
-// The same for `decode_into`, from the halves of a block.
+// What `decode_into` does, from the halves of a block: as two numbers they need no copy in memory.
 fn decode_halves(lo: u64, hi: u64, fp: u8, kind: Kind, out: &mut [u16; 576]) -> u8
     ensures { λ r. ⌜ r ≡ faultOf fp (blockNumber (halves lo hi)) ⌝ }
     ensures { λ r. ⌜ (length (now (out .entry)) ≡ 576 → Held fp kind (blockNumber (halves lo hi)) (now (out .exit))) ⌝ }
