@@ -41,6 +41,10 @@ fn median(times: &mut [f64]) -> f64 {
     times[times.len() / 2]
 }
 
+fn largest(a: [f64; 2], b: [f64; 2]) -> [f64; 2] {
+    [a[0].max(b[0]), a[1].max(b[1])]
+}
+
 /// Mode blocks for a whole image, each written by the library.
 fn blocks(footprint: usize) -> Vec<u8> {
     let (w, h) = FOOTPRINTS[footprint];
@@ -53,8 +57,8 @@ fn blocks(footprint: usize) -> Vec<u8> {
     blocks
 }
 
-/// Runs both in turns; answers the ratio of the medians.
-fn measure(name: &str, rounds: usize, mut ours: impl FnMut(), mut theirs: impl FnMut()) -> f64 {
+/// Runs both in turns; answers the ratio of the medians and the median of the rounds' ratios.
+fn measure(name: &str, rounds: usize, mut ours: impl FnMut(), mut theirs: impl FnMut()) -> [f64; 2] {
     let (mut library, mut reference) = (Vec::new(), Vec::new());
     for round in 0..rounds {
         // Each goes first in every other round.
@@ -70,18 +74,20 @@ fn measure(name: &str, rounds: usize, mut ours: impl FnMut(), mut theirs: impl F
     let by_round = median(&mut ratios);
     let (library, reference) = (median(&mut library), median(&mut reference));
     let ratio = library / reference;
-    println!("{name}: library {library:.2} ms, reference {reference:.2} ms, ratio {ratio:.2} (by rounds {by_round:.2})");
-    ratio
+    println!(
+        "{name}: library {library:.2} ms, reference {reference:.2} ms, ratio {ratio:.2} (by rounds {by_round:.2})"
+    );
+    [ratio, by_round]
 }
 
 fn main() {
-    let rounds: usize = std::env::args().nth(1).map_or(21, |n| n.parse().expect("bench [ROUNDS]"));
+    let rounds: usize = std::env::args().nth(1).map_or(61, |n| n.parse().expect("bench [ROUNDS]"));
     println!(
         "{SIDE} by {SIDE}, mixed mode blocks by the library's writer, seed {SEED}, {rounds} rounds, \
          medians of thread CPU time, buffers not cleared between calls"
     );
     let side = SIDE as u32;
-    let mut worst = 0f64;
+    let mut worst = [0f64; 2];
     for footprint in [4, 13] {
         let (w, h) = FOOTPRINTS[footprint];
         let blocks = blocks(footprint);
@@ -91,31 +97,37 @@ fn main() {
         let answer = library::raw::decode_image_unorm16(footprint as u8, side, side, &blocks, &mut ours, &mut tally);
         decode_image_u16(footprint, SIDE, SIDE, &blocks, &mut theirs);
         assert!(answer == 0 && tally == [0; 3] && ours == theirs, "{w}x{h} kind 0: not the same texels");
-        worst = worst.max(measure(
-            &format!("{w}x{h} kind 0"),
-            rounds,
-            || {
-                library::raw::decode_image_unorm16(footprint as u8, side, side, &blocks, &mut ours, &mut tally);
-            },
-            || {
-                decode_image_u16(footprint, SIDE, SIDE, &blocks, &mut theirs);
-            },
-        ));
+        worst = largest(
+            worst,
+            measure(
+                &format!("{w}x{h} kind 0"),
+                rounds,
+                || {
+                    library::raw::decode_image_unorm16(footprint as u8, side, side, &blocks, &mut ours, &mut tally);
+                },
+                || {
+                    decode_image_u16(footprint, SIDE, SIDE, &blocks, &mut theirs);
+                },
+            ),
+        );
 
         let (mut ours, mut theirs) = (vec![1u8; 4 * SIDE * SIDE], vec![2u8; 4 * SIDE * SIDE]);
         let answer = library::raw::decode_image_srgb8(footprint as u8, side, side, &blocks, &mut ours, &mut tally);
         decode_image_u8(footprint, SIDE, SIDE, &blocks, &mut theirs);
         assert!(answer == 0 && tally == [0; 3] && ours == theirs, "{w}x{h} kind 1: not the same texels");
-        worst = worst.max(measure(
-            &format!("{w}x{h} kind 1"),
-            rounds,
-            || {
-                library::raw::decode_image_srgb8(footprint as u8, side, side, &blocks, &mut ours, &mut tally);
-            },
-            || {
-                decode_image_u8(footprint, SIDE, SIDE, &blocks, &mut theirs);
-            },
-        ));
+        worst = largest(
+            worst,
+            measure(
+                &format!("{w}x{h} kind 1"),
+                rounds,
+                || {
+                    library::raw::decode_image_srgb8(footprint as u8, side, side, &blocks, &mut ours, &mut tally);
+                },
+                || {
+                    decode_image_u8(footprint, SIDE, SIDE, &blocks, &mut theirs);
+                },
+            ),
+        );
     }
-    println!("largest ratio {worst:.2}");
+    println!("largest ratio {:.2} (by rounds {:.2})", worst[0], worst[1]);
 }
