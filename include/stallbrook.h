@@ -1,4 +1,4 @@
-/* Stallbrook: ASTC blocks to texels, and to symbolic blocks. Link libc_api.a.
+/* Stallbrook: ASTC blocks to texels, and to symbolic blocks. Link libstallbrook.a.
  *
  * A list is lent as pointer and length, the length in elements. The pointer must be aligned, and good for that many elements
  * (any aligned pointer but NULL where the length is 0); lists that a call writes must not overlap any other list of the same call.
@@ -42,16 +42,16 @@ extern "C" {
 /* A block's texels: 16 bytes to 4 numbers for each texel of the footprint.
  * Answers 0, the block's fault (11 to 20; every texel is then 65535, 0, 65535, 65535, in srgb8 255, 0, 255, 255), or the refusal
  * 1, 4 or 5, which leaves out as it was. */
-uint8_t astc_decode_block_unorm16(uint8_t footprint, const uint8_t *block, size_t block_len, uint16_t *out, size_t out_len);
-uint8_t astc_decode_block_srgb8(uint8_t footprint, const uint8_t *block, size_t block_len, uint8_t *out, size_t out_len);
+uint8_t stallbrook_astc_decode_block_unorm16(uint8_t footprint, const uint8_t *block, size_t block_len, uint16_t *out, size_t out_len);
+uint8_t stallbrook_astc_decode_block_srgb8(uint8_t footprint, const uint8_t *block, size_t block_len, uint8_t *out, size_t out_len);
 
 /* An image's texels: blocks in raster order, 16 bytes each, to 4 numbers for each texel of width x height.
  * Answers 0, or the refusal 1, 3, 4 or 5, which leaves out as it was. tally is of 3 numbers: the count of blocks with a fault, and the
  * raster index and the fault of the first one (both 0 where there is none); all 0 on a refusal. A tally of another length is refused
  * by 5, after 1, 3 and 4, and nothing at all is written. */
-uint8_t astc_decode_image_unorm16(uint8_t footprint, uint32_t width, uint32_t height, const uint8_t *blocks, size_t blocks_len,
+uint8_t stallbrook_astc_decode_image_unorm16(uint8_t footprint, uint32_t width, uint32_t height, const uint8_t *blocks, size_t blocks_len,
     uint16_t *out, size_t out_len, uint64_t *tally, size_t tally_len);
-uint8_t astc_decode_image_srgb8(uint8_t footprint, uint32_t width, uint32_t height, const uint8_t *blocks, size_t blocks_len,
+uint8_t stallbrook_astc_decode_image_srgb8(uint8_t footprint, uint32_t width, uint32_t height, const uint8_t *blocks, size_t blocks_len,
     uint8_t *out, size_t out_len, uint64_t *tally, size_t tally_len);
 
 /* A block's symbolic block: its settings and stored numbers, as 103 numbers. In order, with their places: void-extent mark (0), 4 colours
@@ -60,13 +60,13 @@ uint8_t astc_decode_image_srgb8(uint8_t footprint, uint32_t width, uint32_t heig
  * are 0.
  * Answers 0, or the block's fault or the refusal 1 or 4, all 103 numbers being 0 then. Where numbers is not of 103 numbers it answers 1,
  * 4 or else 5, and leaves them as they were. */
-uint8_t astc_read_symbolic(uint8_t footprint, const uint8_t *block, size_t block_len, uint16_t *numbers, size_t numbers_len);
+uint8_t stallbrook_astc_read_symbolic(uint8_t footprint, const uint8_t *block, size_t block_len, uint16_t *numbers, size_t numbers_len);
 
 /* The block of a symbolic block, with the smallest codes and spare bits 0: 103 numbers in the order above, whatever they are, to 16 bytes.
  * Answers 0, or the first refusal in the order 1, 31, 32, 14 to 17, 33, 18 to 20, 34 (with mark 1: 1, 31, 12), all 16 bytes being 0 then.
  * Where block is not of 16 bytes or numbers not of 103 it answers 1, 4 (block) or 5 (numbers), the first that holds, and leaves block as
  * it was. */
-uint8_t astc_write_symbolic(uint8_t footprint, const uint16_t *numbers, size_t numbers_len, uint8_t *block, size_t block_len);
+uint8_t stallbrook_astc_write_symbolic(uint8_t footprint, const uint16_t *numbers, size_t numbers_len, uint8_t *block, size_t block_len);
 
 #ifdef __cplusplus
 }

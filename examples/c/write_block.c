@@ -7,7 +7,7 @@ int main(void) {
     const uint8_t block[16] = {0x42, 0x00, 0x00, 0xfe, 0x01, 0, 0, 0, 0, 0, 0, 0, 0, 0, 0, 0x80};
     uint16_t numbers[103];
     uint8_t written[16];
-    int answer = astc_read_symbolic(0, block, sizeof block, numbers, 103);
+    int answer = stallbrook_astc_read_symbolic(0, block, sizeof block, numbers, 103);
     printf("read %d\n", answer);
     for (int i = 0; i < 103; i++) {
         if (numbers[i] != 0) {
@@ -16,18 +16,18 @@ int main(void) {
     }
     /* the first endpoint number, which may be 0 to 255 */
     numbers[21] = 200;
-    answer = astc_write_symbolic(0, numbers, 103, written, sizeof written);
+    answer = stallbrook_astc_write_symbolic(0, numbers, 103, written, sizeof written);
     printf("write %d:", answer);
     for (int i = 0; i < 16; i++) {
         printf(" %02x", written[i]);
     }
     numbers[21] = 256;
-    answer = astc_write_symbolic(0, numbers, 103, written, sizeof written);
+    answer = stallbrook_astc_write_symbolic(0, numbers, 103, written, sizeof written);
     printf("\nwrite %d:", answer);
     for (int i = 0; i < 16; i++) {
         printf(" %02x", written[i]);
     }
-    answer = astc_write_symbolic(0, numbers, 102, written, sizeof written);
+    answer = stallbrook_astc_write_symbolic(0, numbers, 102, written, sizeof written);
     printf("\nwrite %d\n", answer);
     return 0;
 }

@@ -2,3 +2,4 @@ pub mod Fields
 pub mod Reverse
 pub mod Blocks
 pub mod Halves
+pub mod Laid

@@ -1,2 +1,3 @@
 pub mod Field
 pub mod Block
+pub mod Cells

@@ -15,7 +15,7 @@ use Rattle.weight_grid.proofs.Reading.{place-le}
 use Rattle.block_mode.specs.declared.WeightGrid.{WeightGrid}
 use Rattle.block_mode.specs.Back2D.{Limits}
 use Rattle.block_header.specs.Counts.{weightCount}
-use Rattle.block_core.specs.Prepared.{frameOf, Inside}
+use Rattle.block_core.specs.inner.Prepared.{frameOf, Inside}
 
 -- ---- the scale of each side, by one computed test over the fourteen footprints
 

@@ -1,4 +1,3 @@
 pub mod Frames
 pub mod Painting
-pub mod Levels
 pub mod Shows

@@ -17,7 +17,7 @@ use Rattle.bits.proofs.Fields.{field-lt}
 use Rattle.block_header.specs.Counts.{extraBits, componentBits, indexBits, selectorBits, weightBits}
 use Rattle.block_header.specs.declared.Header.{Header}
 use Rattle.block_mode.specs.declared.WeightGrid.{WeightGrid}
-use Rattle.block_header.specs.Reasons.{firstOf}
+use Rattle.laws.specs.Reasons.{firstOf}
 use Rattle.block_fault.specs.Bits.{extentAt, modeOf, indexAt, baseAt, extraAt, componentAt, headerWith}
 use Rattle.block_fault.specs.Faults.{badExtents, badVoidExtent, hdrVoidExtent, voidReasons}
 

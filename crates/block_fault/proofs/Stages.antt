@@ -6,7 +6,7 @@ use mathlib.Core.List.{List, [], _∷_}
 use Prim.Native.Nat.{ℕ, _+_, _≤_, _<_}
 use native.Mathlib.Omega.{arith}
 use lib.Dec.{eqb}
-use borrow.Author.Tests.{eq-eqb, ne-eqb, eqb-true, eqb-false}
+use borrow.Author.Tests.{ne-eqb}
 use Rattle.laws.specs.Choice.{pick, both}
 use Rattle.block_mode.specs.declared.WeightGrid.{WeightGrid}
 use Rattle.block_mode.specs.declared.BlockMode.{BlockMode}
@@ -14,32 +14,20 @@ use Rattle.block_mode.specs.declared.BlockMode.the-variants.{VoidExtent, Reserv
 use Rattle.block_header.specs.declared.Header.{Header}
 use Rattle.quantization.specs.Ranges.{endpointRange}
 use Rattle.block_header.specs.Counts.{endpointCount, bitsLeft, endpointRangeOf}
-use Rattle.block_header.specs.Reasons.{Reason, when, firstOf, gridTooLarge, tooManyWeights, weightBitsOutside, fourWithTwoPlanes, tooManyEndpoints, tooFewEndpointBits, someHdr, gridFault, endpointFault, gridReasons, endpointReasons}
-use Rattle.block_fault.specs.declared.Stage.{Stage}
-use Rattle.block_fault.specs.declared.Stage.the-variants.{Passed, Stopped}
+use Rattle.block_header.specs.Reasons.{gridTooLarge, tooManyWeights, weightBitsOutside, fourWithTwoPlanes, tooManyEndpoints, tooFewEndpointBits, someHdr, gridFault, endpointFault, gridReasons, endpointReasons}
+use Rattle.laws.specs.Reasons.{Reason, when, firstOf}
+use Rattle.block_header.specs.declared.Stage.{Stage}
+use Rattle.block_header.specs.declared.Stage.the-variants.{Passed, Stopped}
+use Rattle.block_header.specs.Stages.{stageOf}
+use Rattle.block_header.proofs.Stages.{stage-passed, stage-stopped}
 use Rattle.block_fault.specs.declared.Verdict.{Verdict}
 use Rattle.block_fault.specs.declared.Verdict.the-variants as verdict
 use Rattle.block_fault.specs.declared.Settings.{Settings}
 use Rattle.block_fault.specs.Bits.{modeAt, isVoid, isReserved, gridIn, partitionsAt, selectorAt, headerWith, headerAt}
 use Rattle.block_fault.specs.Faults.{voidReasons, modeReasons, faultOf}
 use Rattle.block_fault.proofs.Laws.{made-grid}
-use Rattle.block_fault.specs.Settings.{stageOf, verdictFrom, verdictOf, bareOf, withHeader, voidSettings, settingsOf}
-
--- ---- a stage
-
-pub stage-passed : (n : ℕ) → stageOf n ≡ Passed → n ≡ 0
-unfolding stageOf
-stage-passed n e = go (eqb n 0) refl e where
-  go : (t : Bool) → eqb n 0 ≡ t → pick t Passed (Stopped n) ≡ Passed → n ≡ 0
-  go true q r = eqb-true n 0 q
-  go false q r = cc
-
-pub stage-stopped : (n m : ℕ) → stageOf n ≡ Stopped m → (n ≡ m) × (n ≡ 0 → ⊥)
-unfolding stageOf
-stage-stopped n m e = go (eqb n 0) refl e where
-  go : (t : Bool) → eqb n 0 ≡ t → pick t Passed (Stopped n) ≡ Stopped m → (n ≡ m) × (n ≡ 0 → ⊥)
-  go true q r = absurd (let z : _≡_ {A = ℕ} 0 1 = cc in omega arith)
-  go false q r = (cc, eqb-false n 0 q)
+use Rattle.block_fault.specs.Settings.{verdictOf, bareOf, withHeader, settingsOf}
+use Rattle.block_fault.specs.inner.Stages.{verdictFrom, voidSettings}
 
 -- ---- what the settings of a coded block carry
 
@@ -92,29 +80,29 @@ module _ (fp B : ℕ) (g : WeightGrid) (m : modeAt B ≡ Grid g) where
   settled-coded e = rw (e, m)
 
   -- each stage that stops tells its fault
-  pub stop-grid : {n k : ℕ} {st : Stage} {v : Verdict} {r : Settings} → n ≡ gridFault fp g → st ≡ stageOf n → st ≡ Stopped k → v ≡ verdictFrom st → r ≡ bareOf v → r ≡ settingsOf fp B
-  stop-grid {n} {k} en es et ev er =
-      let q = stage-stopped n k (sym es ∙ et) in
-      let f : faultOf fp B ≡ k = fault-staged ∙ rw (← en, ne-eqb n 0 (q .1)) (q .0) in
+  pub stop-grid : {k : ℕ} {st : Stage} {v : Verdict} {r : Settings} → st ≡ stageOf (gridFault fp g) → st ≡ Stopped k → v ≡ verdictFrom st → r ≡ bareOf v → r ≡ settingsOf fp B
+  stop-grid {k} es et ev er =
+      let q = stage-stopped (gridFault fp g) k (sym es ∙ et) in
+      let f : faultOf fp B ≡ k = fault-staged ∙ rw (ne-eqb (gridFault fp g) 0 (q .1)) (q .0) in
       rw (er, ev, et) (settled-fault k f (λ z. q .1 (q .0 ∙ z)))
 
   module _ (pass : gridFault fp g ≡ 0) where
     stop-planes-fault : faultOf fp B ≡ pick (fourWithTwoPlanes (headerAt B)) 17 (endpointFault (headerAt B))
     stop-planes-fault = fault-staged ∙ rw pass
 
-    pub stop-planes : {p n k : ℕ} {st : Stage} {v : Verdict} {r : Settings} → p ≡ partitionsAt B → n ≡ pick (both (eqb (g .planes) 2) (eqb p 4)) 17 0
-        → st ≡ stageOf n → st ≡ Stopped k → v ≡ verdictFrom st → r ≡ bareOf v → r ≡ settingsOf fp B
-    stop-planes {p} {n} {k} ep en es et ev er =
-        let q = stage-stopped n k (sym es ∙ et) in
-        rw (er, ev, et) (settled-fault k (stop-planes-fault ∙ go (fourWithTwoPlanes (headerAt B)) (en ∙ rw (ep, ← four-is)) q) (λ z. q .1 (q .0 ∙ z)))
+    pub stop-planes : {p k : ℕ} {st : Stage} {v : Verdict} {r : Settings} → p ≡ partitionsAt B → st ≡ stageOf (pick (both (eqb (g .planes) 2) (eqb p 4)) 17 0)
+        → st ≡ Stopped k → v ≡ verdictFrom st → r ≡ bareOf v → r ≡ settingsOf fp B
+    stop-planes {p} {k} ep es et ev er =
+        let q = stage-stopped (pick (both (eqb (g .planes) 2) (eqb p 4)) 17 0) k (sym es ∙ et) in
+        rw (er, ev, et) (settled-fault k (stop-planes-fault ∙ go (fourWithTwoPlanes (headerAt B)) (rw (ep, ← four-is)) q) (λ z. q .1 (q .0 ∙ z)))
       where
-        go : (t : Bool) → n ≡ pick t 17 0 → (n ≡ k) × (n ≡ 0 → ⊥) → pick t 17 (endpointFault (headerAt B)) ≡ k
+        go : {n : ℕ} (t : Bool) → n ≡ pick t 17 0 → (n ≡ k) × (n ≡ 0 → ⊥) → pick t 17 (endpointFault (headerAt B)) ≡ k
         go true e q = sym e ∙ q .0
         go false e q = absurd (q .1 e)
 
-    module _ {p n : ℕ} (ep : p ≡ partitionsAt B) (en : n ≡ pick (both (eqb (g .planes) 2) (eqb p 4)) 17 0) (ok : n ≡ 0) where
+    module _ {p : ℕ} (ep : p ≡ partitionsAt B) (ok : _≡_ {A = ℕ} (pick (both (eqb (g .planes) 2) (eqb p 4)) 17 0) 0) where
       ends-fault : faultOf fp B ≡ endpointFault (headerAt B)
-      ends-fault = stop-planes-fault ∙ go (fourWithTwoPlanes (headerAt B)) (sym ok ∙ en ∙ rw (ep, ← four-is)) where
+      ends-fault = stop-planes-fault ∙ go (fourWithTwoPlanes (headerAt B)) (sym ok ∙ rw (ep, ← four-is)) where
         go : (t : Bool) → _≡_ {A = ℕ} 0 (pick t 17 0) → pick t 17 (endpointFault (headerAt B)) ≡ endpointFault (headerAt B)
         go true e = absurd (omega arith)
         go false e = refl
@@ -122,16 +110,16 @@ module _ (fp B : ℕ) (g : WeightGrid) (m : modeAt B ≡ Grid g) where
       pub header-read : {h : Header} → h ≡ headerWith B g p (selectorAt B p) → h ≡ headerAt B
       header-read e = e ∙ rw ep (sym header-is)
 
-      pub stop-ends : {h : Header} {f k : ℕ} {st : Stage} {v : Verdict} {r : Settings} → h ≡ headerWith B g p (selectorAt B p) → f ≡ endpointFault h
-          → st ≡ stageOf f → st ≡ Stopped k → v ≡ verdictFrom st → r ≡ bareOf v → r ≡ settingsOf fp B
-      stop-ends {h} {f} {k} eh ef es et ev er =
-          let q = stage-stopped f k (sym es ∙ et) in
-          rw (er, ev, et) (settled-fault k (ends-fault ∙ ap endpointFault (sym (header-read eh)) ∙ sym ef ∙ q .0) (λ z. q .1 (q .0 ∙ z)))
+      pub stop-ends : {h : Header} {k : ℕ} {st : Stage} {v : Verdict} {r : Settings} → h ≡ headerWith B g p (selectorAt B p) → st ≡ stageOf (endpointFault h)
+          → st ≡ Stopped k → v ≡ verdictFrom st → r ≡ bareOf v → r ≡ settingsOf fp B
+      stop-ends {h} {k} eh es et ev er =
+          let q = stage-stopped (endpointFault h) k (sym es ∙ et) in
+          rw (er, ev, et) (settled-fault k (ends-fault ∙ ap endpointFault (sym (header-read eh)) ∙ q .0) (λ z. q .1 (q .0 ∙ z)))
 
-      pub pass-ends : {h : Header} {f : ℕ} {st : Stage} → h ≡ headerWith B g p (selectorAt B p) → f ≡ endpointFault h
-          → st ≡ stageOf f → st ≡ Passed → withHeader verdict.Coded h ≡ settingsOf fp B
-      pass-ends {h} {f} eh ef es et =
-          rw (header-read eh) (settled-coded (ends-fault ∙ ap endpointFault (sym (header-read eh)) ∙ sym ef ∙ stage-passed f (sym es ∙ et)))
+      pub pass-ends : {h : Header} {st : Stage} → h ≡ headerWith B g p (selectorAt B p) → st ≡ stageOf (endpointFault h)
+          → st ≡ Passed → withHeader verdict.Coded h ≡ settingsOf fp B
+      pass-ends {h} eh es et =
+          rw (header-read eh) (settled-coded (ends-fault ∙ ap endpointFault (sym (header-read eh)) ∙ stage-passed (endpointFault h) (sym es ∙ et)))
 
 -- ---- the other modes
 

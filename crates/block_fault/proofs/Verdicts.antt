@@ -15,7 +15,8 @@ use Rattle.block_mode.specs.Back2D.{Limits}
 use Rattle.block_mode.proofs.Modes.{any-limits}
 use Rattle.block_header.specs.declared.Header.{Header}
 use Rattle.block_header.specs.Counts.{weightCount, endpointCount, endpointRangeOf}
-use Rattle.block_header.specs.Reasons.{firstOf, gridTooLarge, tooManyWeights, weightBitsOutside, fourWithTwoPlanes, tooManyEndpoints, tooFewEndpointBits, someHdr}
+use Rattle.block_header.specs.Reasons.{gridTooLarge, tooManyWeights, weightBitsOutside, fourWithTwoPlanes, tooManyEndpoints, tooFewEndpointBits, someHdr}
+use Rattle.laws.specs.Reasons.{firstOf}
 use Rattle.block_fault.specs.declared.Verdict.{Verdict}
 use Rattle.block_fault.specs.declared.Verdict.the-variants as verdict
 use Rattle.block_fault.specs.Bits.{modeAt, isVoid, isReserved, gridIn, headerWith, headerAt}

@@ -6,7 +6,8 @@ use mathlib.Core.List.{List, [], _∷_}
 use lib.Dec.{eqb, ltb}
 use Rattle.laws.specs.Choice.{pick, both, either, all}
 use Rattle.bits.specs.Field.{field}
-use Rattle.block_header.specs.Reasons.{Reason, when, firstOf, gridReasons, endpointReasons}
+use Rattle.block_header.specs.Reasons.{gridReasons, endpointReasons}
+use Rattle.laws.specs.Reasons.{Reason, when, firstOf}
 use Rattle.block_fault.specs.Bits.{modeAt, isVoid, isReserved, headerAt, extentAt}
 
 -- "extents neither all ones nor low < high on both axes"

@@ -1,38 +1,19 @@
 -- What a block's bits come to once its fault is known: a fault, a void extent, or the settings of a coded block.
 -- Assumes nothing.
 use Prim.Native.Nat.{ℕ}
-use mathlib.Core.Bool.{Bool}
-use mathlib.Core.List.{List, [], _∷_}
+use mathlib.Core.List.{[], _∷_}
 use lib.Dec.{eqb}
-use Rattle.laws.specs.Choice.{pick, both}
+use Rattle.laws.specs.Choice.{pick}
 use Rattle.block_header.specs.declared.Header.{Header}
 use Rattle.block_header.specs.Counts.{endpointCount, endpointRangeOf}
-use Rattle.block_header.specs.Reasons.{firstOf}
 use Rattle.block_fault.specs.declared.Verdict.{Verdict}
 use Rattle.block_fault.specs.declared.Verdict.the-variants.{Coded, VoidExtent, Fault}
-use Rattle.block_fault.specs.declared.Stage.{Stage}
-use Rattle.block_fault.specs.declared.Stage.the-variants.{Passed, Stopped}
 use Rattle.block_fault.specs.declared.Settings.{Settings}
 use Rattle.block_fault.specs.Bits.{modeAt, isVoid, headerAt}
-use Rattle.block_fault.specs.Faults.{voidReasons, faultOf}
-
--- the answer of a stage that found the fault n, 0 for none
-unfoldable pub stageOf : ℕ → Stage
-stageOf n = pick (eqb n 0) Passed (Stopped n)
-
--- the verdict of a stage: its fault, if it has one
-abbrev pub verdictFrom : Stage → Verdict
-verdictFrom Passed = Coded
-verdictFrom (Stopped n) = Fault n
+use Rattle.block_fault.specs.Faults.{faultOf}
 
 unfoldable pub verdictOf : ℕ → ℕ → Verdict
 verdictOf fp B = pick (eqb (faultOf fp B) 0) (pick (isVoid (modeAt B)) VoidExtent Coded) (Fault (faultOf fp B))
-
--- 01's number of a verdict: the fault, 0 for none
-abbrev pub faultIn : Verdict → ℕ
-faultIn Coded = 0
-faultIn VoidExtent = 0
-faultIn (Fault n) = n
 
 abbrev pub zeroHeader : Header
 zeroHeader = record {
@@ -47,10 +28,6 @@ zeroHeader = record {
 -- a verdict without settings
 abbrev pub bareOf : Verdict → Settings
 bareOf v = record { verdict = v; header = zeroHeader; numbers = 0; range = 0 }
-
--- what a void extent comes to
-unfoldable pub voidSettings : ℕ → Settings
-voidSettings B = bareOf (pick (eqb (firstOf (voidReasons B)) 0) VoidExtent (Fault (firstOf (voidReasons B))))
 
 abbrev pub withHeader : Verdict → Header → Settings
 withHeader Coded h = record { verdict = Coded; header = h; numbers = endpointCount h; range = endpointRangeOf h }

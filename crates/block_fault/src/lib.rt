@@ -1,6 +1,7 @@
 // What a block's bits say: its fault, or its settings, read once.
 use bits::PhysicalBlock;
 use block_header::Header;
+use block_header::Stage;
 use block_mode::BlockMode;
 use block_mode::WeightGrid;
 ghost use mathlib.Core.Path.{_≡_};
@@ -15,16 +16,12 @@ ghost use Rattle.bits.specs.Block.{blockNumber};
 ghost use Rattle.block_header.specs.Counts.{weightBits};
 ghost use Rattle.block_mode.specs.Back2D.{Limits};
 ghost use Rattle.block_mode.specs.declared.BlockMode.the-variants.{Grid};
-ghost use Rattle.block_header.specs.Reasons.{firstOf};
+ghost use Rattle.laws.specs.Reasons.{firstOf};
 ghost use Rattle.block_fault.specs.Bits.{modeAt, modeOf, headerWith, selectorAt, extentAt, endpointsFrom};
 ghost use Rattle.block_fault.specs.Faults.{badExtents, voidReasons};
-ghost use Rattle.block_fault.specs.Settings.{stageOf, bareOf, verdictFrom, voidSettings, settingsOf};
-
-// What a stage of reading a block comes to.
-pub enum Stage {
-    Passed,
-    Stopped(u8),
-}
+ghost use Rattle.block_header.specs.Stages.{stageOf};
+ghost use Rattle.block_fault.specs.Settings.{bareOf, settingsOf};
+ghost use Rattle.block_fault.specs.inner.Stages.{verdictFrom, stageIn, voidSettings};
 
 // What a block is: coded, of one colour (01: solid), or with a fault, 01's number of it.
 pub enum Verdict {
@@ -39,16 +36,6 @@ pub struct Settings {
     pub header: Header,
     pub numbers: u8,
     pub range: u8,
-}
-
-fn stage_for(fault: u8) -> Stage
-    ensures { λ r. ⌜ r ≡ stageOf fault ⌝ }
-{
-    if fault == 0 {
-        Stage::Passed
-    } else {
-        Stage::Stopped(fault)
-    }
 }
 
 fn bare(verdict: Verdict) -> Settings
@@ -106,20 +93,20 @@ fn bad_extents(s0: u64, s1: u64, t0: u64, t1: u64) -> bool
     !either(ones, both(s0 < s1, t0 < t1))
 }
 
-// The fault of a void extent: 12, 13 or 0.
-fn void_fault(b: PhysicalBlock) -> u8
-    ensures { λ r. ⌜ r ≡ firstOf (voidReasons (blockNumber b)) ⌝ }
+// The stage of a void extent: 12, then 13.
+fn void_stage(b: PhysicalBlock) -> Stage
+    ensures { λ r. ⌜ r ≡ stageOf (firstOf (voidReasons (blockNumber b))) ⌝ }
 {
     if bits::field_at(b, 10, 2) != 3 {
-        return 12;
+        return Stage::Stopped(12);
     }
     if bad_extents(extent(b, 0), extent(b, 1), extent(b, 2), extent(b, 3)) {
-        return 12;
+        return Stage::Stopped(12);
     }
     if bits::field_at(b, 9, 1) == 1 {
-        return 13;
+        return Stage::Stopped(13);
     }
-    0
+    Stage::Passed
 }
 
 // The mode of partition i, of the mode bits past the selector; 0 past the last partition.
@@ -194,7 +181,7 @@ fn header_with(
     }
 }
 
-// The verdict of a stage: its fault, if it has one.
+// What a stage that stops makes of a block.
 fn verdict_of(s: Stage) -> Verdict
     ensures { λ r. ⌜ r ≡ verdictFrom s ⌝ }
 {
@@ -204,14 +191,14 @@ fn verdict_of(s: Stage) -> Verdict
     }
 }
 
-// 17: two planes with four partitions.
-fn planes_fault(planes: u8, partitions: u8) -> u8
-    ensures { λ r. ⌜ r ≡ pick (both (eqb planes 2) (eqb partitions 4)) 17 0 ⌝ }
+// The stage of 17: two planes with four partitions.
+fn planes_stage(planes: u8, partitions: u8) -> Stage
+    ensures { λ r. ⌜ r ≡ stageOf (pick (both (eqb planes 2) (eqb partitions 4)) 17 0) ⌝ }
 {
     if both(planes == 2, partitions == 4) {
-        17
+        Stage::Stopped(17)
     } else {
-        0
+        Stage::Passed
     }
 }
 
@@ -231,19 +218,19 @@ fn coded(b: PhysicalBlock, fp: u8, g: WeightGrid) -> Settings
     ensures { λ r. ⌜ r ≡ settingsOf fp (blockNumber b) ⌝ }
 {
     let weights = block_header::weight_bits(g);
-    let grid = stage_for(block_header::grid_fault_with(fp, g, weights));
+    let grid = block_header::grid_stage(fp, g, weights);
     let Stage::Passed = grid else {
         return bare(verdict_of(grid));
     };
     let partitions = bits::field_at(b, 11, 2) as u8 + 1;
-    let planes = stage_for(planes_fault(g.planes, partitions));
+    let planes = planes_stage(g.planes, partitions);
     let Stage::Passed = planes else {
         return bare(verdict_of(planes));
     };
     let h = header_at(b, g, weights, partitions);
     let count = block_header::endpoint_count(h);
     let left = block_header::bits_left_with(h, weights);
-    let ends = stage_for(block_header::endpoint_fault_with(h, count, left));
+    let ends = block_header::endpoint_stage(h, count, left);
     let Stage::Passed = ends else {
         return bare(verdict_of(ends));
     };
@@ -271,13 +258,24 @@ pub fn read_settings(b: PhysicalBlock, fp: u8) -> Settings
     coded(b, fp, g)
 }
 
+// A void extent, once its stage has passed.
 fn void_settings(b: PhysicalBlock) -> Settings
     ensures { λ r. ⌜ r ≡ voidSettings (blockNumber b) ⌝ }
 {
-    let n = void_fault(b);
-    if n == 0 {
-        bare(Verdict::VoidExtent)
-    } else {
-        bare(Verdict::Fault(n))
+    let stage = void_stage(b);
+    let Stage::Passed = stage else {
+        return bare(verdict_of(stage));
+    };
+    bare(Verdict::VoidExtent)
+}
+
+// The fault of a block whose settings are read, as a stage.
+pub fn stage_in(v: Verdict) -> Stage
+    ensures { λ r. ⌜ r ≡ stageIn v ⌝ }
+{
+    match v {
+        Verdict::Coded => Stage::Passed,
+        Verdict::VoidExtent => Stage::Passed,
+        Verdict::Fault(n) => Stage::Stopped(n),
     }
 }

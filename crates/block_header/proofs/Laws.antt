@@ -19,7 +19,8 @@ use Rattle.footprint.specs.Footprint.{widthOf, heightOf}
 use Rattle.block_mode.specs.declared.WeightGrid.{WeightGrid}
 use Rattle.block_header.specs.declared.Header.{Header}
 use Rattle.block_header.specs.Counts.{weightCount, weightBits, endpointCount, bitsLeft}
-use Rattle.block_header.specs.Reasons.{gridTooLarge, tooManyWeights, weightBitsOutside, tooManyEndpoints, tooFewEndpointBits, isHdr, some, someHdr, gridFault, endpointFault}
+use Rattle.block_header.specs.Reasons.{gridTooLarge, tooManyWeights, weightBitsOutside, tooManyEndpoints, tooFewEndpointBits, isHdr, someHdr, gridFault, endpointFault}
+use Rattle.laws.specs.Reasons.{some}
 
 -- a number takes at most eleven bits
 pub range-bits-le : (k n m : ℕ) → n ≤ m → rangeBits k n ≤ m * 8 + 3 * m

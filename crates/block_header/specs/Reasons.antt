@@ -1,28 +1,16 @@
 -- 01, "Numbers told to the caller": the reasons 14 to 20, which faults of blocks and refusals of sheets have in common.
 -- Assumes nothing.
-use Prim.Native.Nat.{ℕ, zero, suc, _+_, _*_, _/_}
-use mathlib.Core.Bool.{Bool, true, false}
+use Prim.Native.Nat.{ℕ, _+_, _*_, _/_}
+use mathlib.Core.Bool.{Bool}
 use mathlib.Core.List.{List, [], _∷_}
 use lib.Dec.{ltb, eqb}
 use lib.ListN.{getD}
-use Rattle.laws.specs.Choice.{pick, both, either}
+use Rattle.laws.specs.Choice.{both, either}
+use Rattle.laws.specs.Reasons.{Reason, when, firstOf, some}
 use Rattle.footprint.specs.Footprint.{widthOf, heightOf}
 use Rattle.block_mode.specs.declared.WeightGrid.{WeightGrid}
 use Rattle.block_header.specs.declared.Header.{Header}
 use Rattle.block_header.specs.Counts.{weightCount, weightBits, endpointCount, bitsLeft}
-
--- a reason: whether it holds, and 01's number of it
-pub record Reason : Type 0 where
-  pub holds : Bool
-  pub told : ℕ
-
-abbrev pub when : Bool → ℕ → Reason
-when b n = record { holds = b; told = n }
-
--- the number of the first reason that holds, 0 where none does
-abbrev pub firstOf : List Reason → ℕ
-firstOf [] = 0
-firstOf (r ∷ rs) = pick (r .holds) (r .told) (firstOf rs)
 
 -- 14: "weight grid wider or higher than the footprint"
 unfoldable pub gridTooLarge : ℕ → WeightGrid → Bool
@@ -51,11 +39,6 @@ tooFewEndpointBits h = ltb (bitsLeft h) ((13 * endpointCount h + 4) / 5)
 -- modes 2, 3, 7, 11, 14 and 15 are HDR
 unfoldable pub isHdr : ℕ → Bool
 isHdr m = either (eqb m 2) (either (eqb m 3) (either (eqb m 7) (either (eqb m 11) (either (eqb m 14) (eqb m 15)))))
-
--- the test holds at some number below n
-abbrev pub some : (ℕ → Bool) → ℕ → Bool
-some f zero = false
-some f (suc n) = either (f n) (some f n)
 
 -- 20: "any partition has mode 2, 3, 7, 11, 14 or 15"
 unfoldable pub someHdr : Header → Bool

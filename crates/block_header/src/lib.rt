@@ -6,6 +6,7 @@ ghost use lib.Dec.{eqb};
 ghost use Rattle.laws.specs.Choice.{pick};
 ghost use Rattle.color_endpoint.specs.Table.{numberCount};
 ghost use Rattle.block_header.specs.Reasons.{isHdr, someHdr, gridFault, endpointFault};
+ghost use Rattle.block_header.specs.Stages.{stageOf, stageTold};
 ghost use Rattle.block_header.specs.Counts.{weightCount, weightBits, componentBits, indexBits, selectorBits, extraBits, endpointCount, bitsLeft, endpointRangeOf};
 
 // The settings of a block that is no void extent: 01's fields of a mode sheet, without its numbers.
@@ -16,6 +17,22 @@ pub struct Header {
     pub index: u16,
     pub selector: u8,
     pub modes: [u8; 4],
+}
+
+// What a stage of reading a block comes to: it passes, or stops with 01's number.
+pub enum Stage {
+    Passed,
+    Stopped(u8),
+}
+
+// 01's number of a stage's answer, 0 for none.
+pub fn stage_told(s: Stage) -> u8
+    ensures { λ r. ⌜ r ≡ stageTold s ⌝ }
+{
+    match s {
+        Stage::Passed => 0,
+        Stage::Stopped(n) => n,
+    }
 }
 
 fn wide(x: u8) -> u32
@@ -122,34 +139,34 @@ pub fn endpoint_range_of(h: Header) -> u8
     quantization::endpoint_range(endpoint_count(h), bits_left(h))
 }
 
-// The first of 14 to 16 that holds, 0 where none does, once the weight bits are known.
-pub fn grid_fault_with(fp: u8, g: WeightGrid, weights: u32) -> u8
+// The first of 14 to 16 that holds, once the weight bits are known.
+pub fn grid_stage(fp: u8, g: WeightGrid, weights: u32) -> Stage
     requires { ⌜ weights ≡ weightBits g ⌝ }
-    ensures { λ r. ⌜ r ≡ gridFault fp g ⌝ }
+    ensures { λ r. ⌜ r ≡ stageOf (gridFault fp g) ⌝ }
 {
     if footprint::width(fp) < g.width {
-        return 14;
+        return Stage::Stopped(14);
     }
     if footprint::height(fp) < g.height {
-        return 14;
+        return Stage::Stopped(14);
     }
     if 64 < weight_count(g) {
-        return 15;
+        return Stage::Stopped(15);
     }
     if weights < 24 {
-        return 16;
+        return Stage::Stopped(16);
     }
     if 96 < weights {
-        return 16;
+        return Stage::Stopped(16);
     }
-    0
+    Stage::Passed
 }
 
 // The first of 14 to 16 that holds, 0 where none does.
 pub fn grid_fault(fp: u8, g: WeightGrid) -> u8
     ensures { λ r. ⌜ r ≡ gridFault fp g ⌝ }
 {
-    grid_fault_with(fp, g, weight_bits(g))
+    stage_told(grid_stage(fp, g, weight_bits(g)))
 }
 
 // Bit m of 51340 is 1 for the HDR modes: 2, 3, 7, 11, 14 and 15.
@@ -172,27 +189,27 @@ pub fn some_hdr(h: Header) -> bool
     h3 | (h2 | (h1 | h0))
 }
 
-// The first of 18 to 20 that holds, 0 where none does, once the endpoint numbers and the bits left for them are known:
-// 19 before 20, whatever partition is HDR.
-pub fn endpoint_fault_with(h: Header, count: u32, left: u32) -> u8
+// The first of 18 to 20 that holds, once the endpoint numbers and the bits left for them are known: 19 before 20, whatever partition is
+// HDR.
+pub fn endpoint_stage(h: Header, count: u32, left: u32) -> Stage
     requires { ⌜ (count ≡ endpointCount h) × (count ≤ 32640) × (left ≡ bitsLeft h) ⌝ }
-    ensures { λ r. ⌜ r ≡ endpointFault h ⌝ }
+    ensures { λ r. ⌜ r ≡ stageOf (endpointFault h) ⌝ }
 {
     if 18 < count {
-        return 18;
+        return Stage::Stopped(18);
     }
     if left < (13 * count + 4) / 5 {
-        return 19;
+        return Stage::Stopped(19);
     }
     if some_hdr(h) {
-        return 20;
+        return Stage::Stopped(20);
     }
-    0
+    Stage::Passed
 }
 
 // The first of 18 to 20 that holds, 0 where none does.
 pub fn endpoint_fault(h: Header) -> u8
     ensures { λ r. ⌜ r ≡ endpointFault h ⌝ }
 {
-    endpoint_fault_with(h, endpoint_count(h), bits_left(h))
+    stage_told(endpoint_stage(h, endpoint_count(h), bits_left(h)))
 }

@@ -16,6 +16,7 @@ use Rattle.block_mode.specs.declared.ModeBits.{ModeBits}
 use Rattle.block_mode.specs.declared.ModeBits.the-variants.{Mode, NoMode}
 use Rattle.block_mode.specs.Mode2D.{blockMode}
 use Rattle.block_mode.specs.Back2D.{isSide, inLimits, Limits, modeBits}
+use Rattle.block_mode.specs.OneMode.{OneMode}
 
 -- ---- tests
 
@@ -154,20 +155,23 @@ found-mode g m e = go (inLimits g) refl where
   go true i = back (rw e at (written g (limits g (rw i tt))))
   go false i = absurd (never m (sym (past-limits g i) ∙ e))
 
--- where no bits are found, no mode is this grid
-pub no-mode : (g : WeightGrid) → modeBits g ≡ NoMode → (m : ℕ) → m < 2048 → blockMode m ≡ Grid g → ⊥
-no-mode g n m h e = never m (sym n ∙ mode-found m h g e)
+-- ---- the whole
 
--- and where no mode is this grid, none are found
-pub not-found : (g : WeightGrid) → ((m : ℕ) → m < 2048 → blockMode m ≡ Grid g → ⊥) → modeBits g ≡ NoMode
-not-found g n = go (modeBits g) refl where
-  go : (x : ModeBits) → modeBits g ≡ x → x ≡ NoMode
-  go (Mode m) e = let f = found-mode g m e in absurd (n m (f .0) (f .1))
-  go NoMode e = refl
-
--- the mode of a grid is unique
-pub one-mode : (m n : ℕ) (g : WeightGrid) → m < 2048 → n < 2048 → blockMode m ≡ Grid g → blockMode n ≡ Grid g → m ≡ n
-one-mode m n g hm hn em en = let a = mode-found m hm g em in let b = mode-found n hn g en in cc
+pub one-mode : OneMode
+one-mode = record {
+  mode-limits = mode-limits;
+  mode-found = mode-found;
+  found-mode = found-mode;
+  no-mode = λ g n m h e. never m (sym n ∙ mode-found m h g e);
+  not-found = not-found;
+  one-mode = λ m n g hm hn em en. let a = mode-found m hm g em in let b = mode-found n hn g en in cc;
+}
+  where
+    not-found : (g : WeightGrid) → ((m : ℕ) → m < 2048 → blockMode m ≡ Grid g → ⊥) → modeBits g ≡ NoMode
+    not-found g n = go (modeBits g) refl where
+      go : (x : ModeBits) → modeBits g ≡ x → x ≡ NoMode
+      go (Mode m) e = let f = found-mode g m e in absurd (n m (f .0) (f .1))
+      go NoMode e = refl
 
 -- a field of d + w + p bits is one of the number
 under : (m d w p : ℕ) → m % 2 ^ (d + w + p) / 2 ^ p % 2 ^ w ≡ m / 2 ^ p % 2 ^ w

@@ -16,6 +16,10 @@ pub struct Stored(pub u8);
 // An unquantised number (01: widened): an endpoint's 0..255 or a weight's 0..64.
 pub struct Level(pub u8);
 
+// The levels of both planes' weights at a place of the weight grid, in one number: the first plane's in bits 7..0, the second's from bit
+// 16 on. Unquantising makes it, infill blends four of them, and the mix takes it apart; no stored weight stands in it.
+pub struct LevelPair(pub u32);
+
 // How many numbers share a code.
 pub fn group_size(encoding: Encoding) -> u32
     ensures { λ r. ⌜ r ≡ groupSize encoding ⌝ }

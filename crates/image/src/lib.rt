@@ -17,7 +17,7 @@ ghost use Rattle.image_layout.specs.Faulty.{tallyOf};
 ghost use Rattle.image_layout.specs.Call.{checkedOf, imageAnswer, imageOut, imageTold, toldOf};
 ghost use Rattle.image_layout.proofs.Regions.{Pasted, Placed, Cropped, Tile};
 ghost use Rattle.image_layout.proofs.Calls.{Sound};
-ghost use Rattle.image_layout.proofs.Tallies.{noted};
+ghost use Rattle.image_layout.specs.inner.Noted.{noted};
 ghost use Rattle.image_layout.proofs.Parts.{Fits, PartOf, RunOf, RunFits};
 
 // How many of n places from `at` on are within a side.

@@ -17,9 +17,11 @@ use Rattle.interpolation.specs.declared.Kind.{Kind}
 use Rattle.interpolation.specs.Expansion.{shownOf}
 use Rattle.texel.specs.Meaning.{shownChannel}
 use Rattle.texel.specs.BlockTexel.{blockNumberAt, blockChannel}
-use Rattle.image_layout.specs.Geometry.{blocksAcross, blockIndex}
+use Rattle.image_layout.specs.Geometry.{blockIndex}
+use Rattle.image_size.specs.Sides.{blocksAcross}
 use Rattle.image_layout.specs.Numbers.{blockBytes, blockAt, imageNumberAt}
-use Rattle.image_layout.proofs.Covering.{place, place-within}
+use Rattle.image_layout.proofs.Covering.{place-within}
+use Rattle.image_layout.specs.OwnBlock.{place}
 use Rattle.image_layout.proofs.Regions.{Cropped, Placed, Tile, tile-of}
 
 -- q blocks of n and d more are in block q, at place d

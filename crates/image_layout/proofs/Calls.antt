@@ -1,7 +1,7 @@
 -- The refusals of an image call one by one, what holds once none does, and the answer and the buffer in each case.
 -- Assumes nothing.
 use mathlib.Core.Path.{_≡_, refl, sym, ap, _∙_}
-use mathlib.Core.Bool.{Bool, true, false, true≢false}
+use mathlib.Core.Bool.{Bool, true, false}
 use mathlib.Core.List.{List}
 use Prim.Native.Nat.{ℕ, _*_, _≤_, _<_}
 use native.Mathlib.Decide.{decLe, ℕ-discrete}
@@ -17,31 +17,13 @@ use Rattle.image_layout.specs.declared.ImageAnswer.the-variants.{Refused
 use Rattle.image_layout.specs.declared.CheckedImage.{CheckedImage}
 use Rattle.image_layout.specs.declared.CheckedImage.the-variants.{Rejected, Accepted}
 use Rattle.image_layout.specs.declared.Tally.{Tally}
-use Rattle.image_layout.specs.Geometry.{sideLimit, blocksAcross, gridOf, blocksOf}
+use Rattle.image_layout.specs.Geometry.{gridOf}
+use Rattle.image_size.specs.Sides.{blocksAcross, blocksOf, badSide}
 use Rattle.image_layout.specs.Numbers.{faultAt, imageNumbers}
 use Rattle.image_layout.specs.Faulty.{tallyOf}
-use Rattle.image_layout.specs.Call.{badSide, imageRefusal, checkedOf, imageTally, imageAnswer, imageOut, toldOf, imageTold}
-use Rattle.image_layout.proofs.Covering.{limit-le, mul-bound, across-le, across-pos}
-
--- ---- a side
-
-pub side-zero : (n : ℕ) → n ≡ 0 → badSide n ≡ true
-unfolding badSide
-side-zero n e = rw (eq-eqb n 0 e)
-
-pub side-long : (n : ℕ) → sideLimit < n → badSide n ≡ true
-unfolding badSide
-side-long n k = rw (ne-eqb n 0 (λ e. omega (arith, e)), lt-ltb sideLimit n k)
-
-pub side-good : (n : ℕ) → (n ≡ 0 → ⊥) → n ≤ sideLimit → badSide n ≡ false
-unfolding badSide
-side-good n h k = rw (ne-eqb n 0 h, le-ltb sideLimit n k)
-
-side-fine : (n : ℕ) → badSide n ≡ false → (0 < n) × (n ≤ sideLimit)
-side-fine n h = (
-  elim (ℕ-discrete n 0) [ yes e ↦ absurd (true≢false (sym (side-zero n e) ∙ h)) | no e ↦ omega (arith, e) ],
-  elim (decLe n sideLimit) [ yes k ↦ k | no k ↦ absurd (true≢false (sym (side-long n (omega arith)) ∙ h)) ],
-)
+use Rattle.image_layout.specs.Call.{imageRefusal, checkedOf, imageTally, imageAnswer, imageOut, toldOf, imageTold}
+use Rattle.image_size.proofs.Laws.{limit-le, side-fine, across-le, across-pos}
+use Rattle.image_layout.proofs.Covering.{mul-bound}
 
 -- ---- the refusals in their order
 

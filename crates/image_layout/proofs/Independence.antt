@@ -17,10 +17,13 @@ use Rattle.interpolation.specs.Expansion.{shownOf}
 use Rattle.texel.specs.BlockTexel.{blockChannel, blockNumbers}
 use Rattle.one_block.specs.Calls.{blockRefusal, blockOut}
 use Rattle.one_block.proofs.Laws.{accepted, written}
-use Rattle.image_layout.specs.Geometry.{blocksAcross, blocksOf, blockIndex}
+use Rattle.image_layout.specs.Geometry.{blockIndex}
+use Rattle.image_size.specs.Sides.{blocksAcross, blocksOf}
 use Rattle.image_layout.specs.Numbers.{blockBytes, blockAt, imageNumberAt, imageNumbers}
 use Rattle.image_layout.specs.Call.{imageRefusal, imageOut}
-use Rattle.image_layout.proofs.Covering.{place, place-within, below-row, across-covers}
+use Rattle.image_layout.proofs.Covering.{place-within, below-row}
+use Rattle.image_layout.specs.OwnBlock.{place, OwnBlock}
+use Rattle.image_size.proofs.Laws.{across-covers}
 use Rattle.image_layout.proofs.Blocks.{quotient, remainder, number-at, sixteen, byte-of}
 use Rattle.image_layout.proofs.Calls.{accept, decoded-out}
 
@@ -58,7 +61,7 @@ module _ (fp : ℕ) (kind : Kind) (w h x y c : ℕ) (hx : x < w) (hy : y < h) (h
   whole s old z = let a = accept fp w h (length s) (length old) z in let i = index-in (a .footprint) in let e = a .exact-bytes in omega arith
 
   -- what an accepted call leaves there: the number that the one-block call leaves, for the texel's block, at its place in the block
-  pub image-texel : (s old block : List ℕ) → imageRefusal fp w h (length s) (length old) ≡ 0 → length block ≡ 4 * texelsOf fp
+  image-texel : (s old block : List ℕ) → imageRefusal fp w h (length s) (length old) ≡ 0 → length block ≡ 4 * texelsOf fp
       → getD (imageOut fp kind w h s old) (place w x y c) 0
       ≡ getD (blockOut kind fp (blockBytes s (blockIndex fp w x y)) block) (place (widthOf fp) (x % widthOf fp) (y % heightOf fp) c) 0
   unfolding imageNumberAt blockAt blockNumbers texelsOf
@@ -77,10 +80,10 @@ module _ (fp : ℕ) (kind : Kind) (w h x y c : ℕ) (hx : x < w) (hy : y < h) (h
       ∙ ap (λ (l : List ℕ). getD l i 0) (written fp bytes block taken kind)
 
   -- two images that agree on the texel's own sixteen bytes agree on the texel, whatever all other blocks hold
-  pub own-block : (s t old new : List ℕ) → imageRefusal fp w h (length s) (length old) ≡ 0 → imageRefusal fp w h (length t) (length new) ≡ 0
+  same-texel : (s t old new : List ℕ) → imageRefusal fp w h (length s) (length old) ≡ 0 → imageRefusal fp w h (length t) (length new) ≡ 0
       → ((k : ℕ) → k < 16 → getD s (16 * blockIndex fp w x y + k) 0 ≡ getD t (16 * blockIndex fp w x y + k) 0)
       → getD (imageOut fp kind w h s old) (place w x y c) 0 ≡ getD (imageOut fp kind w h t new) (place w x y c) 0
-  own-block s t old new zs zt same =
+  same-texel s t old new zs zt same =
       let i : ℕ = blockIndex fp w x y in
       let block : List ℕ = tab (λ k. 0) (4 * texelsOf fp) in
       let size : length block ≡ 4 * texelsOf fp = length-tab (λ k. 0) (4 * texelsOf fp) in
@@ -88,3 +91,8 @@ module _ (fp : ℕ) (kind : Kind) (w h x y c : ℕ) (hx : x < w) (hy : y < h) (h
       ∙ ap (λ (l : List ℕ). getD (blockOut kind fp l block) (place (widthOf fp) (x % widthOf fp) (y % heightOf fp) c) 0)
       (same-bytes s t i (whole s old zs) (whole t new zt) same)
       ∙ sym (image-texel t new block zt size)
+
+  -- ---- the whole
+
+  pub own-block : OwnBlock fp kind w h x y c
+  own-block = record { index-in = index-in; image-texel = image-texel; same-texel = same-texel }

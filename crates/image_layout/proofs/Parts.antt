@@ -15,11 +15,13 @@ use Rattle.image_layout.specs.declared.Run.{Run}
 use Rattle.image_layout.specs.declared.Tally.{Tally}
 use Rattle.image_layout.specs.Numbers.{blockAt, faultAt, imageNumberAt, imageNumbers}
 use Rattle.image_layout.specs.Faulty.{tallyOf}
-use Rattle.image_layout.proofs.Covering.{mul-bound, below-row, across-inside, block-place}
+use Rattle.image_layout.proofs.Covering.{mul-bound, below-row, block-place}
+use Rattle.image_size.proofs.Laws.{across-inside}
 use Rattle.image_layout.proofs.Regions.{Pasted, Cropped, Placed, placed-more, Tile, ShownTo, shown-none, shown-more, shown-all}
 use Rattle.image_layout.proofs.Blocks.{tile-shown}
 use Rattle.image_layout.proofs.Calls.{Sound}
-use Rattle.image_layout.proofs.Tallies.{noted, tally-start, tally-more}
+use Rattle.image_layout.proofs.Tallies.{tally-start, tally-more}
+use Rattle.image_layout.specs.inner.Noted.{noted}
 
 -- the part is as much of a block as is within the image
 pub record Fits (g : ImageGrid) (p : Part) : Type 0 where

@@ -13,8 +13,10 @@ use Rattle.laws.specs.Table.{tab}
 use Rattle.laws.proofs.Filling.{Filled, filled-all}
 use Rattle.interpolation.specs.declared.Kind.{Kind}
 use Rattle.interpolation.specs.Expansion.{shownOf}
-use Rattle.image_layout.specs.Geometry.{blocksAcross}
-use Rattle.image_layout.proofs.Covering.{place, below-row, in-piece, across-covers}
+use Rattle.image_size.specs.Sides.{blocksAcross}
+use Rattle.image_layout.proofs.Covering.{below-row, in-piece}
+use Rattle.image_layout.specs.OwnBlock.{place}
+use Rattle.image_size.proofs.Laws.{across-covers}
 
 -- ---- a run of numbers
 

@@ -10,23 +10,11 @@ use lib.Dec.{eqb}
 use borrow.Author.Tests.{eq-eqb, ne-eqb, lt-ltb, le-ltb}
 use Rattle.laws.specs.Choice.{pick}
 use Rattle.image_layout.specs.declared.Tally.{Tally}
-use Rattle.image_layout.specs.Faulty.{faultCount, firstFrom, firstFaulty, ofFirst, tallyOf}
-
--- one block more: its index and its fault
-unfoldable pub noted : Tally → ℕ → ℕ → Tally
-noted t b e =
-    pick (eqb e 0) t
-    (pick (eqb (t .count) 0) (record { count = 1; first = b; fault = e }) (record { count = t .count + 1; first = t .first; fault = t .fault }))
+use Rattle.image_layout.specs.Faulty.{faultCount, firstFrom, firstFaulty, ofFirst, tallyOf, Least, First}
+use Rattle.image_layout.specs.inner.Noted.{noted}
 
 module _ (f : ℕ → ℕ) where
-  -- r is the least number from i on, and below n, at which f is not 0; n where there is none
-  pub record Least (i n r : ℕ) : Type 0 where
-    pub from : i ≤ r
-    pub most : r ≤ n
-    pub faulty : r < n → f r ≡ 0 → ⊥
-    pub none-before : (k : ℕ) → i ≤ k → k < r → f k ≡ 0
-
-  first-from : (i n : ℕ) → Least i (i + n) (firstFrom f i n)
+  first-from : (i n : ℕ) → Least f i (i + n) (firstFrom f i n)
   unfolding firstFrom
   first-from i zero = record { from = omega arith; most = omega arith; faulty = λ l e. omega arith; none-before = λ k a b. absurd (omega arith) }
   first-from i (suc n) =
@@ -45,12 +33,12 @@ module _ (f : ℕ → ℕ) where
       ]
 
   -- the first block with a fault is the least
-  pub first-least : (n : ℕ) → Least 0 n (firstFaulty f n)
+  pub first-least : (n : ℕ) → Least f 0 n (firstFaulty f n)
   unfolding firstFaulty
-  first-least n = subst (λ (m : ℕ). Least 0 m (firstFrom f 0 n)) (zero-add n) (first-from 0 n)
+  first-least n = subst (λ (m : ℕ). Least f 0 m (firstFrom f 0 n)) (zero-add n) (first-from 0 n)
 
   -- there is only one least
-  pub least-unique : (n r q : ℕ) → Least 0 n r → Least 0 n q → r ≡ q
+  pub least-unique : (n r q : ℕ) → Least f 0 n r → Least f 0 n q → r ≡ q
   least-unique n r q a b =
       let m = a .most in
       let p = b .most in
@@ -72,13 +60,13 @@ module _ (f : ℕ → ℕ) where
 
   first-here : (n : ℕ) → firstFaulty f n ≡ n → (f n ≡ 0 → ⊥) → firstFaulty f (n + 1) ≡ n
   first-here n e h =
-      let p : Least 0 n n = rw e at (first-least n) in
+      let p : Least f 0 n n = rw e at (first-least n) in
       least-unique (n + 1) _ _ (first-least (n + 1))
       (record { from = omega arith; most = omega arith; faulty = λ l. h; none-before = p .none-before })
 
   first-later : (n : ℕ) → firstFaulty f n ≡ n → f n ≡ 0 → firstFaulty f (n + 1) ≡ n + 1
   first-later n e h =
-      let p : Least 0 n n = rw e at (first-least n) in
+      let p : Least f 0 n n = rw e at (first-least n) in
       least-unique (n + 1) _ _ (first-least (n + 1))
       (record {
         from = omega arith;
@@ -200,15 +188,7 @@ module _ (f : ℕ → ℕ) where
   unfolding tallyOf
   tally-le n t e = rw e (count-le n)
 
-  -- what is told where some block has a fault: the least such block, and its fault
-  pub record First (n : ℕ) (t : Tally) : Type 0 where
-    pub in-image : t .first < n
-    pub its-fault : t .fault ≡ f (t .first)
-    pub faulty : t .fault ≡ 0 → ⊥
-    pub least : (k : ℕ) → k < n → (f k ≡ 0 → ⊥) → t .first ≤ k
-    pub counted : t .count ≡ 0 → ⊥
-
-  pub tally-first : (n k : ℕ) → k < n → (f k ≡ 0 → ⊥) → First n (tallyOf f n)
+  pub tally-first : (n k : ℕ) → k < n → (f k ≡ 0 → ⊥) → First f n (tallyOf f n)
   unfolding tallyOf
   tally-first n k l h =
       let p = first-least n in

@@ -7,19 +7,16 @@ use lib.Dec.{eqb, ltb}
 use lib.ListN.{length}
 use Rattle.laws.specs.Choice.{pick, either}
 use Rattle.interpolation.specs.declared.Kind.{Kind}
-use Rattle.block_header.specs.Reasons.{when, firstOf}
+use Rattle.laws.specs.Reasons.{when, firstOf}
+use Rattle.image_size.specs.Sides.{badSide, blocksOf}
 use Rattle.image_layout.specs.declared.Tally.{Tally}
 use Rattle.image_layout.specs.declared.ImageAnswer.{ImageAnswer}
 use Rattle.image_layout.specs.declared.ImageAnswer.the-variants.{Refused, Decoded}
 use Rattle.image_layout.specs.declared.CheckedImage.{CheckedImage}
 use Rattle.image_layout.specs.declared.CheckedImage.the-variants.{Rejected, Accepted}
-use Rattle.image_layout.specs.Geometry.{sideLimit, gridOf, blocksOf}
+use Rattle.image_layout.specs.Geometry.{gridOf}
 use Rattle.image_layout.specs.Numbers.{faultAt, imageNumbers}
 use Rattle.image_layout.specs.Faulty.{tallyOf}
-
--- 3: "a picture side is 0 or above 4,096"
-unfoldable pub badSide : ℕ → Bool
-badSide n = either (eqb n 0) (ltb sideLimit n)
 
 -- "Refusals, tested in this order", of an image call with so many block bytes and places for numbers; 0 for none
 unfoldable pub imageRefusal : ℕ → ℕ → ℕ → ℕ → ℕ → ℕ
@@ -60,19 +57,17 @@ pub record Told : Type 0 where
   pub first : ℕ
   pub fault : ℕ
 
-abbrev pub toldWith : ℕ → Tally → Told
-toldWith e t = record { refusal = e; count = t .count; first = t .first; fault = t .fault }
-
-abbrev pub noTally : Tally
-noTally = record { count = 0; first = 0; fault = 0 }
+-- of an image that is decoded
+abbrev pub toldDecoded : Tally → Told
+toldDecoded t = record { refusal = 0; count = t .count; first = t .first; fault = t .fault }
 
 -- 01's numbers for each case of the answer
 abbrev pub toldOf : ImageAnswer → Told
-toldOf (Refused e) = toldWith e noTally
-toldOf (Decoded t) = toldWith 0 t
+toldOf (Refused e) = record { refusal = e; count = 0; first = 0; fault = 0 }
+toldOf (Decoded t) = toldDecoded t
 
 -- what a call tells: on a refusal "all other numbers told are 0"
 unfoldable pub imageTold : ℕ → ℕ → ℕ → List ℕ → ℕ → Told
 imageTold fp w h s places =
     let e = imageRefusal fp w h (length s) places in
-    toldWith e (pick (eqb e 0) (imageTally fp w h s) noTally)
+    pick (eqb e 0) (toldDecoded (imageTally fp w h s)) (record { refusal = e; count = 0; first = 0; fault = 0 })

@@ -1,7 +1,8 @@
 -- 01: "A picture call answers the count of blocks with a fault, and the raster index and fault of the first one (both 0 where there is none)".
 -- The faults are given as a function of the block's index, 0 for none.
 -- Assumes nothing.
-use Prim.Native.Nat.{ℕ, zero, suc, _+_}
+use mathlib.Core.Path.{_≡_}
+use Prim.Native.Nat.{ℕ, zero, suc, _+_, _≤_, _<_}
 use lib.Dec.{eqb, ltb}
 use Rattle.laws.specs.Choice.{pick}
 use Rattle.image_layout.specs.declared.Tally.{Tally}
@@ -27,3 +28,19 @@ module _ (fault : ℕ → ℕ) where
 
   unfoldable pub tallyOf : ℕ → Tally
   tallyOf n = record { count = faultCount n; first = ofFirst (λ b. b) n; fault = ofFirst fault n }
+
+  -- What these come to (theorems: proofs/Tallies.antt, `first-least`, `least-unique`, `tally-none`, `tally-first`).
+  -- r is the least number from i on, and below n, at which `fault` is not 0; n where there is none
+  pub record Least (i n r : ℕ) : Type 0 where
+    pub from : i ≤ r
+    pub most : r ≤ n
+    pub faulty : r < n → fault r ≡ 0 → ⊥
+    pub none-before : (k : ℕ) → i ≤ k → k < r → fault k ≡ 0
+
+  -- what is told where some block has a fault: the least such block, and its fault
+  pub record First (n : ℕ) (t : Tally) : Type 0 where
+    pub in-image : t .first < n
+    pub its-fault : t .fault ≡ fault (t .first)
+    pub faulty : t .fault ≡ 0 → ⊥
+    pub least : (k : ℕ) → k < n → (fault k ≡ 0 → ⊥) → t .first ≤ k
+    pub counted : t .count ≡ 0 → ⊥

@@ -1,16 +1,9 @@
--- 01, "What is covered": how many blocks an image has, and where a texel lies in them.
+-- 01, "What is covered": the blocks of an image, and where a texel lies in them.
 -- Assumes nothing.
-use Prim.Native.Nat.{ℕ, _+_, _-_, _*_, _/_}
+use Prim.Native.Nat.{ℕ, _+_, _*_, _/_}
 use Rattle.footprint.specs.Footprint.{widthOf, heightOf}
+use Rattle.image_size.specs.Sides.{blocksAcross}
 use Rattle.image_layout.specs.declared.ImageGrid.{ImageGrid}
-
--- "Picture sides are 1 to 4,096": the one limit of a side
-unfoldable pub sideLimit : ℕ
-sideLimit = 4096
-
--- blocks of n texels that cover a side: ceil(side / n)
-unfoldable pub blocksAcross : ℕ → ℕ → ℕ
-blocksAcross side n = (side + n - 1) / n
 
 -- an image's layout
 unfoldable pub gridOf : ℕ → ℕ → ℕ → ImageGrid
@@ -23,10 +16,6 @@ gridOf fp w h = record {
   across = blocksAcross w (widthOf fp);
   down = blocksAcross h (heightOf fp);
 }
-
--- how many blocks an image has
-unfoldable pub blocksOf : ℕ → ℕ → ℕ → ℕ
-blocksOf fp w h = blocksAcross h (heightOf fp) * blocksAcross w (widthOf fp)
 
 -- "blocks in raster order": the block that covers column x of row y
 unfoldable pub blockIndex : ℕ → ℕ → ℕ → ℕ → ℕ

@@ -2,3 +2,5 @@ pub mod Geometry
 pub mod Numbers
 pub mod Faulty
 pub mod Call
+pub mod OwnBlock
+pub mod inner

@@ -2,8 +2,9 @@
 ghost use mathlib.Core.Path.{_≡_};
 ghost use mathlib.Core.Bool.{false};
 ghost use Prim.Native.Nat.{_≤_, _<_};
-ghost use Rattle.image_layout.specs.Geometry.{blocksAcross, gridOf};
-ghost use Rattle.image_layout.specs.Call.{badSide, checkedOf};
+ghost use Rattle.image_layout.specs.Geometry.{gridOf};
+ghost use Rattle.image_size.specs.Sides.{blocksAcross, badSide};
+ghost use Rattle.image_layout.specs.Call.{checkedOf};
 
 // The layout of an image: its footprint, its sides in texels, a block's sides in texels, and how many blocks lie across and down.
 pub struct ImageGrid {
@@ -50,24 +51,6 @@ pub enum CheckedImage {
     Accepted(ImageGrid),
 }
 
-// "Picture sides are 1 to 4,096".
-const SIDE_LIMIT: u32 = 4096;
-
-// A side of 0, or above the limit.
-fn bad_side(n: u32) -> bool
-    ensures { λ r. ⌜ r ≡ badSide n ⌝ }
-{
-    n == 0 || SIDE_LIMIT < n
-}
-
-// Blocks of n texels that cover a side.
-fn blocks_across(side: usize, n: usize) -> usize
-    requires { ⌜ (0 < n) × (n ≤ 12) × (side ≤ 16384) ⌝ }
-    ensures { λ r. ⌜ r ≡ blocksAcross side n ⌝ }
-{
-    (side + n - 1) / n
-}
-
 // The layout of an image.
 fn grid_of(footprint: u8, width: u32, height: u32) -> ImageGrid
     requires { ⌜ (footprint < 14) × (badSide width ≡ false) × (badSide height ≡ false) ⌝ }
@@ -75,18 +58,18 @@ fn grid_of(footprint: u8, width: u32, height: u32) -> ImageGrid
 {
     let w = width as usize;
     let h = height as usize;
-    let columns = footprint::width(footprint) as usize;
-    let rows = footprint::height(footprint) as usize;
-    let across = blocks_across(w, columns);
-    let down = blocks_across(h, rows);
+    let columns = footprint::width(footprint);
+    let rows = footprint::height(footprint);
+    let across = image_size::blocks_across(width, columns);
+    let down = image_size::blocks_across(height, rows);
     ImageGrid {
         footprint,
         width: w,
         height: h,
-        columns,
-        rows,
-        across,
-        down,
+        columns: columns as usize,
+        rows: rows as usize,
+        across: across as usize,
+        down: down as usize,
     }
 }
 
@@ -103,10 +86,10 @@ pub fn check_image(
     if footprint > 13 {
         return CheckedImage::Rejected(1);
     }
-    if bad_side(width) {
+    if image_size::bad_side(width) {
         return CheckedImage::Rejected(3);
     }
-    if bad_side(height) {
+    if image_size::bad_side(height) {
         return CheckedImage::Rejected(3);
     }
     let g = grid_of(footprint, width, height);

@@ -1,6 +1,7 @@
 -- 01, "Packed numbers": "The writer takes the smallest code whose present digits are the wanted ones, and leaves spare bits 0."
 -- Assumes nothing.
-use Prim.Native.Nat.{ℕ, zero, suc, _+_, _-_, _*_, _/_, _%_, _^_, _<_}
+use mathlib.Core.Path.{_≡_}
+use Prim.Native.Nat.{ℕ, zero, suc, _+_, _-_, _*_, _/_, _%_, _^_, _≤_, _<_}
 use mathlib.Core.Bool.{Bool, true, false}
 use mathlib.Core.List.{List, [], _∷_, map}
 use lib.Dec.{eqb}
@@ -11,7 +12,7 @@ use Rattle.encoding.specs.Encoding.{groupSize, radix, codeBits, sequenceBits}
 use Rattle.encoding.specs.declared.Encoding.{Encoding}
 use Rattle.encoding.specs.declared.Stored.{Stored}
 use Rattle.integer_sequence.specs.Codes.{digit}
-use Rattle.integer_sequence.specs.Reading.{shareBits}
+use Rattle.integer_sequence.specs.Reading.{shareBits, codeAt}
 
 -- the digits of the code t from digit k on begin with ds
 abbrev pub begins : Encoding → ℕ → ℕ → List ℕ → Bool
@@ -60,3 +61,10 @@ values xs = map (λ (s : Stored). s .0) xs
 unfoldable pub withSequence : Encoding → ℕ → ℕ → ℕ → List ℕ → ℕ
 unfolding field packed
 withSequence e b B from xs = (field B 0 from + packed e b xs * 2 ^ from) % 2 ^ 128
+
+-- "the smallest code whose present digits are the wanted ones", without the search: of the codes of the sequence v of n numbers x with b
+-- bits each every present digit is the wanted one, and so it is with no smaller code
+pub record Smallest (e : Encoding) (b n : ℕ) (x : ℕ → ℕ) (v : ℕ) : Type 0 where
+  pub wanted : (i : ℕ) → i < n → digit e (codeAt e b v (i / groupSize e)) (i % groupSize e) ≡ x i / 2 ^ b
+  pub least : (g t : ℕ) → ((k : ℕ) → k < groupSize e → g * groupSize e + k < n → digit e t k ≡ x (g * groupSize e + k) / 2 ^ b)
+      → codeAt e b v g ≤ t

@@ -15,7 +15,7 @@ use Rattle.interpolation.specs.declared.Kind.{Kind}
 use Rattle.interpolation.specs.declared.Kind.the-variants.{Unorm16, Srgb8}
 use Rattle.interpolation.specs.Expansion.{replicated, centred, colourOf, alphaOf, expandOf, expandedEnd, expandedPair}
 use Rattle.interpolation.specs.Texel.{mixOf, weightOf, channelOf, texelOf}
-use Rattle.interpolation.specs.Line.{times, plus, minus, onLine, lowOf, addOf, startOf, slopeOf, lineOf, lineChannel, lineTexel}
+use Rattle.interpolation.specs.inner.Line.{times, plus, minus, onLine, lowOf, addOf, startOf, slopeOf, lineOf, lineChannel, lineTexel}
 
 -- a mix t of two bytes, in sixty-fourths, expanded: replicated and centred
 module _ (t : ℕ) (h : t ≤ 16320) where

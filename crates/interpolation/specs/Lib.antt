@@ -1,3 +1,3 @@
 pub mod Expansion
-pub mod Line
 pub mod Texel
+pub mod inner

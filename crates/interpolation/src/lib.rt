@@ -1,18 +1,14 @@
 // Endpoints mixed by weights into a texel of 16-bit numbers.
 ghost use mathlib.Core.Path.{_≡_};
 ghost use Prim.Native.Nat.{_*_, _/_};
-ghost use Rattle.interpolation.specs.Line.{
-  times,
-  minus,
-  onLine,
-  lowOf,
-  addOf,
-  lineOf,
-  lineTexel,
-};
+ghost use Rattle.endpoint_arithmetic.specs.declared.EndpointPair.{EndpointPair};
+ghost use Rattle.encoding.specs.Levels.{firstLevel, secondLevel};
+ghost use Rattle.interpolation.specs.declared.Kind.{Kind};
+ghost use Rattle.interpolation.specs.Texel.{Mixes};
+ghost use Rattle.interpolation.specs.inner.Line.{times, minus, onLine, lowOf, addOf, lineOf, lineTexel};
 ghost use lib.Dec.{eqb};
 ghost use Rattle.laws.specs.Choice.{pick};
-use encoding::Level;
+use encoding::LevelPair;
 use endpoint_arithmetic::EndpointPair;
 use std::num::wrapping_add_u16;
 use std::num::wrapping_sub_u16;
@@ -90,12 +86,15 @@ fn texel_on(l: [u16; 16], first: u16, second: u16, component: u8) -> Texel
     }
 }
 
-// A texel on the lines of its pair; the component that the component selector names (01: plane channel) takes the second weight, 4 or
+// A texel on the lines of its pair, from the weights of both planes; the component that the component selector names (01: plane channel) takes the second weight, 4 or
 // more standing for none.
-pub fn mix_line(l: [u16; 16], first: Level, second: Level, component: u8) -> Texel
-    ensures { λ r. ⌜ r ≡ lineTexel l (first .0) (second .0) component ⌝ }
+pub fn mix_line(l: [u16; 16], weights: LevelPair, component: u8) -> Texel
+    ensures { λ r. ⌜ r ≡ lineTexel l (firstLevel weights) (secondLevel weights) component ⌝ }
+    ensures { λ r. ⌜ ((kind : Kind) (p : EndpointPair) → l ≡ lineOf kind p → Mixes kind p (firstLevel weights) (secondLevel weights) component r) ⌝ }
 {
-    texel_on(l, first.0 as u16, second.0 as u16, component)
+    let first = (weights.0 % 256) as u16;
+    let second = (weights.0 / 65536) as u16;
+    texel_on(l, first, second, component)
 }
 
 // Where a channel's line starts: the first endpoint in sixty-fourths.

@@ -21,11 +21,11 @@ use Rattle.footprint.specs.Footprint.{texelsOf}
 use Rattle.interpolation.specs.declared.Kind.{Kind}
 use Rattle.block_fault.specs.Faults.{faultOf}
 use Rattle.interpolation.specs.Expansion.{shownOf}
-use Rattle.texel.specs.BlockTexel.{blockChannel, blockNumbers}
-use Rattle.block_core.specs.Held.{Held}
+use Rattle.texel.specs.BlockTexel.{blockChannel, blockNumbers, blockInto}
+use Rattle.block_core.proofs.Shows.{held}
 use Rattle.one_block.specs.declared.Answer.{Answer}
 use Rattle.one_block.specs.declared.Answer.the-variants.{Refused, Faulty, Done}
-use Rattle.one_block.specs.Calls.{blockRefusal, answerFor, blockAnswer, blockOut}
+use Rattle.one_block.specs.Calls.{blockRefusal, numberTold, answerFor, blockAnswer, blockTold, blockOut}
 
 -- ---- the reasons one by one
 
@@ -88,6 +88,21 @@ module _ (fp : ℕ) (s : List ℕ) (old : List ℕ) where
     unfolding blockOut
     written kind = rw (eq-eqb _ _ e)
 
+-- 01's number of an answer
+pub answer-told : (fp : ℕ) (s : List ℕ) (numbers : ℕ) → numberTold (blockAnswer fp s numbers) ≡ blockTold fp s numbers
+unfolding blockAnswer blockTold answerFor
+answer-told fp s numbers = go (eqb (blockRefusal fp (length s) numbers) 0) (eqb (faultOf fp (numberOf s)) 0) refl where
+  go : (a b : Bool) → eqb (faultOf fp (numberOf s)) 0 ≡ b
+      → numberTold (pick a (pick b Done (Faulty (faultOf fp (numberOf s)))) (Refused (blockRefusal fp (length s) numbers))) ≡ pick a (faultOf fp (numberOf s)) (blockRefusal fp (length s) numbers)
+  go true true e = sym (eqb-true (faultOf fp (numberOf s)) 0 e)
+  go true false e = refl
+  go false b e = refl
+
+-- all that a call promises, from its answer and its buffer
+pub promised : (kind : Kind) (fp : ℕ) (s old : List ℕ) (r : Answer) (new : List ℕ) → r ≡ blockAnswer fp s (length old) → new ≡ blockOut kind fp s old
+    → (r ≡ blockAnswer fp s (length old)) × ((new ≡ blockOut kind fp s old) × (numberTold r ≡ blockTold fp s (length old)))
+promised kind fp s old r new e o = (e, (o, ap numberTold e ∙ answer-told fp s (length old)))
+
 -- sixteen bytes are one number of 128 bits
 pub loaded : (s : List ℕ) → Bytes s → length s ≡ 16 → field (numberOf s) 0 128 ≡ numberOf s
 loaded s b e =
@@ -102,14 +117,14 @@ module _ (fp : ℕ) (s old : List ℕ) (b : Bytes s) (B : ℕ) (l : B ≡ field 
   pub told : answerFor (faultOf fp B) ≡ blockAnswer fp s (length old)
   told = ap (λ (x : ℕ). answerFor (faultOf fp x)) number ∙ answered fp s old e
 
-  pub copied : (kind : Kind) (buffer : List ℕ) (show : ℕ → ℕ) → ((x : ℕ) → show x ≡ shownOf kind x) → Held fp kind B buffer
+  pub copied : (kind : Kind) (buffer : List ℕ) (show : ℕ → ℕ) → ((x : ℕ) → show x ≡ shownOf kind x) → (start : List ℕ) → length start ≡ 576 → buffer ≡ blockInto fp kind B start
       → tab (λ k. show (getD buffer k 0)) (length old) ≡ blockOut kind fp s old
   unfolding blockNumbers
-  copied kind buffer show same h =
+  copied kind buffer show same start size into =
       ap (tab (λ k. show (getD buffer k 0))) (not-refused _ _ _ e .size)
       ∙ numbers
       ∙ ap (blockNumbers fp kind) number
       ∙ written fp s old e kind
     where
       numbers : tab (λ k. show (getD buffer k 0)) (4 * texelsOf fp) ≡ blockNumbers fp kind B
-      numbers = tab-ext _ _ 0 (4 * texelsOf fp) (λ k p. same _ ∙ ap (shownOf kind) (h .holds k p))
+      numbers = tab-ext _ _ 0 (4 * texelsOf fp) (λ k p. same _ ∙ ap (shownOf kind) (held fp kind B start buffer size into .holds k p))

@@ -9,7 +9,7 @@ use Rattle.laws.specs.Choice.{pick}
 use Rattle.bits.specs.Block.{numberOf}
 use Rattle.footprint.specs.Footprint.{texelsOf}
 use Rattle.interpolation.specs.declared.Kind.{Kind}
-use Rattle.block_header.specs.Reasons.{when, firstOf}
+use Rattle.laws.specs.Reasons.{when, firstOf}
 use Rattle.block_fault.specs.Faults.{faultOf}
 use Rattle.texel.specs.BlockTexel.{blockNumbers}
 use Rattle.one_block.specs.declared.Answer.{Answer}
@@ -36,6 +36,11 @@ unfoldable pub blockAnswer : ℕ → List ℕ → ℕ → Answer
 unfolding blockRefusal answerFor
 blockAnswer fp s numbers =
     pick (eqb (blockRefusal fp (length s) numbers) 0) (answerFor (faultOf fp (numberOf s))) (Refused (blockRefusal fp (length s) numbers))
+
+-- 01's number of it: the refusal, else the block's fault, 0 for neither
+unfoldable pub blockTold : ℕ → List ℕ → ℕ → ℕ
+unfolding blockRefusal
+blockTold fp s numbers = pick (eqb (blockRefusal fp (length s) numbers) 0) (faultOf fp (numberOf s)) (blockRefusal fp (length s) numbers)
 
 -- what the buffer holds then: the block's numbers, or on a refusal what it held
 unfoldable pub blockOut : Kind → ℕ → List ℕ → List ℕ → List ℕ

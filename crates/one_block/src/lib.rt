@@ -5,7 +5,7 @@ ghost use Prim.Native.Nat.{_/_, _≤_};
 ghost use lib.ListN.{length, getD};
 ghost use Rattle.laws.specs.Table.{tab};
 ghost use Rattle.interpolation.specs.declared.Kind.the-variants.{Unorm16, Srgb8};
-ghost use Rattle.one_block.specs.Calls.{blockRefusal, numberTold, answerFor, blockAnswer, blockOut};
+ghost use Rattle.one_block.specs.Calls.{blockRefusal, numberTold, answerFor, blockAnswer, blockTold, blockOut};
 
 // What a call comes to: refused or faulty, with 01's number, or done.
 pub enum Answer {
@@ -80,6 +80,7 @@ fn show_words(n: u8, fp: u8, block: &[u8], out: &mut [u16]) -> Answer
     requires { ⌜ n ≡ blockRefusal fp (length (now block)) (length (now out)) ⌝ }
     ensures { λ r. ⌜ r ≡ blockAnswer fp (now (block .entry)) (length (now (out .entry))) ⌝ }
     ensures { λ r. ⌜ now (out .exit) ≡ blockOut Unorm16 fp (now (block .entry)) (now (out .entry)) ⌝ }
+    ensures { λ r. ⌜ numberTold r ≡ blockTold fp (now (block .entry)) (length (now (out .entry))) ⌝ }
 {
     if n != 0 {
         return Answer::Refused(n);
@@ -94,6 +95,7 @@ fn show_words(n: u8, fp: u8, block: &[u8], out: &mut [u16]) -> Answer
 pub fn decode_unorm16(fp: u8, block: &[u8], out: &mut [u16]) -> Answer
     ensures { λ r. ⌜ r ≡ blockAnswer fp (now (block .entry)) (length (now (out .entry))) ⌝ }
     ensures { λ r. ⌜ now (out .exit) ≡ blockOut Unorm16 fp (now (block .entry)) (now (out .entry)) ⌝ }
+    ensures { λ r. ⌜ numberTold r ≡ blockTold fp (now (block .entry)) (length (now (out .entry))) ⌝ }
 {
     let n = refusal(fp, block.len(), out.len());
     show_words(n, fp, block, out)
@@ -104,6 +106,7 @@ fn show_bytes(n: u8, fp: u8, block: &[u8], out: &mut [u8]) -> Answer
     requires { ⌜ n ≡ blockRefusal fp (length (now block)) (length (now out)) ⌝ }
     ensures { λ r. ⌜ r ≡ blockAnswer fp (now (block .entry)) (length (now (out .entry))) ⌝ }
     ensures { λ r. ⌜ now (out .exit) ≡ blockOut Srgb8 fp (now (block .entry)) (now (out .entry)) ⌝ }
+    ensures { λ r. ⌜ numberTold r ≡ blockTold fp (now (block .entry)) (length (now (out .entry))) ⌝ }
 {
     if n != 0 {
         return Answer::Refused(n);
@@ -118,6 +121,7 @@ fn show_bytes(n: u8, fp: u8, block: &[u8], out: &mut [u8]) -> Answer
 pub fn decode_srgb8(fp: u8, block: &[u8], out: &mut [u8]) -> Answer
     ensures { λ r. ⌜ r ≡ blockAnswer fp (now (block .entry)) (length (now (out .entry))) ⌝ }
     ensures { λ r. ⌜ now (out .exit) ≡ blockOut Srgb8 fp (now (block .entry)) (now (out .entry)) ⌝ }
+    ensures { λ r. ⌜ numberTold r ≡ blockTold fp (now (block .entry)) (length (now (out .entry))) ⌝ }
 {
     let n = refusal(fp, block.len(), out.len());
     show_bytes(n, fp, block, out)

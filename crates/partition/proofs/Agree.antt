@@ -10,7 +10,7 @@ use borrow.Author.Tests.{lt-ltb, ltb-true}
 use Rattle.laws.specs.Choice.{pick}
 use Rattle.partition.specs.Hash.{hashOf}
 use Rattle.partition.specs.Select.{doubled, seedOf, lastSeedOf, sh1, sh2, sh3, laneOf, firstLargest, selectFrom, selectAt, partitionOf}
-use Rattle.partition.specs.Seeds.{laneBy, laneFor, laneUnless, seedsFrom, seedsOf, selectBy}
+use Rattle.partition.specs.inner.Seeds.{laneBy, laneFor, laneUnless, seedsFrom, seedsOf, selectBy}
 
 -- only the low six bits of the offset count
 low : (u t : ℕ) → (u + t % 64) % 64 ≡ (u + 0 + t) % 64

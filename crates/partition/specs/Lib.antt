@@ -1,3 +1,3 @@
 pub mod Hash
 pub mod Select
-pub mod Seeds
+pub mod inner

@@ -1,11 +1,12 @@
 // Which partition a texel belongs to: the seeds are made once for a block, the pattern is asked at each texel.
 ghost use mathlib.Core.Path.{_≡_};
-ghost use Prim.Native.Nat.{_<_, _≤_, max};
+ghost use mathlib.Core.Bool.{Bool};
+ghost use Prim.Native.Nat.{ℕ, _<_, _≤_, max};
 ghost use Rattle.laws.specs.Choice.{pick};
 ghost use Rattle.laws.specs.Table.{tab};
 ghost use Rattle.partition.specs.Hash.{hashOf};
-ghost use Rattle.partition.specs.Select.{bitShift, countShift, sh1, sh2, seedOf, firstLargest, doubled};
-ghost use Rattle.partition.specs.Seeds.{laneBy, laneFor, laneUnless, seedsFrom, seedsOf, selectBy};
+ghost use Rattle.partition.specs.Select.{bitShift, countShift, sh1, sh2, seedOf, firstLargest, doubled, partitionOf};
+ghost use Rattle.partition.specs.inner.Seeds.{laneBy, laneFor, laneUnless, seedsFrom, seedsOf, selectBy, Pattern};
 use std::num::wrapping_add_u32;
 use std::num::wrapping_sub_u32;
 
@@ -159,6 +160,7 @@ fn seeds_from(small: bool, rnum: u32, sh1: u32, sh2: u32, count: u8) -> Seeds
 // The seeds of a block with this partition index and so many partitions: with one there is nothing to choose, and no hash is made.
 pub fn partition_seeds(index: u16, count: u8, small: bool) -> Seeds
     ensures { λ r. ⌜ r ≡ seedsOf index count small ⌝ }
+    ensures { λ r. ⌜ Pattern index count small r ⌝ }
 {
     if count < 2 {
         let none = Lane {
@@ -210,6 +212,7 @@ fn first_largest(a: u16, b: u16, c: u16, d: u16) -> u16
 // The partition of the texel at x, y.
 pub fn partition_at(s: Seeds, x: u8, y: u8) -> u16
     ensures { λ r. ⌜ r ≡ selectBy s x y ⌝ }
+    ensures { λ r. ⌜ ((index count : ℕ) (small : Bool) → Pattern index count small s → r ≡ partitionOf index count small x y 0) ⌝ }
 {
     let a = s.a;
     let b = s.b;
@@ -227,6 +230,7 @@ pub fn partition_at(s: Seeds, x: u8, y: u8) -> u16
 // so many are found at once.
 pub fn partition_row(s: Seeds, y: u8) -> [u16; 16]
     ensures { λ r. ⌜ r ≡ tab (λ x. selectBy s x y) 16 ⌝ }
+    ensures { λ r. ⌜ ((index count : ℕ) (small : Bool) → Pattern index count small s → r ≡ tab (λ x. partitionOf index count small x y 0) 16) ⌝ }
 {
     let mut out = [0u16; 16];
     let mut x: u8 = 0;

@@ -14,8 +14,8 @@ use Rattle.laws.proofs.Computed.{both-left, both-right, each}
 use Rattle.quantization.specs.declared.Rule.{Rule}
 use Rattle.quantization.specs.Ranges.{mostAt}
 use Rattle.quantization.specs.Unquantise.{isEndpoint, isWeight, unquantEndpoint, unquantWeight}
-use Rattle.quantization.specs.Products.{byRule, Right}
-use Rattle.quantization.specs.Words.{byWords, RightWords}
+use Rattle.quantization.specs.inner.Products.{byRule, Right}
+use Rattle.quantization.specs.inner.Words.{byWords, RightWords}
 use Rattle.quantization.proofs.Ranges.{same-below, most-le, weight-most-le}
 
 endpoint-test : T (all (λ k. all (λ v. leb (unquantEndpoint k v) 255) 256) 21)

@@ -18,7 +18,7 @@ use Rattle.laws.proofs.Filling.{getD-tab}
 use Rattle.encoding.specs.declared.Encoding.{Encoding}
 use Rattle.encoding.specs.declared.Encoding.the-variants.{Bits, Trits, Quints}
 use Rattle.encoding.specs.Encoding.{radix, codeBits, sequenceBits}
-use Rattle.quantization.specs.Ranges.{encodings, bitCounts, encodingAt, bitsAt, mostAt, rangeBits, codesOf, largestTo, endpointRange}
+use Rattle.quantization.specs.Ranges.{encodings, bitCounts, encodingAt, bitsAt, mostAt, rangeBits, codesOf, largestTo, endpointRange, Largest}
 
 -- two functions whose tables of n values are the same, which antt computes, agree below n
 pub same-below : {A : Type 0} (f g : ℕ → A) (n : ℕ) (d : A) → tab f n ≡ tab g n → (k : ℕ) → k < n → f k ≡ g k
@@ -164,12 +164,6 @@ pub down : (n left i : ℕ) → 1 ≤ i → left < rangeBits (4 + i) n → large
 unfolding largestTo
 down n left zero p h = absurd (not-suc-le-zero p)
 down n left (suc i) p h = let e : suc i - 1 ≡ i = omega arith in rw (lt-leb _ _ h, e)
-
--- r is the largest of the endpoint ranges of which n numbers take at most the bits left: it fits, and no larger one does
-pub record Largest (n left r : ℕ) : Type 0 where
-  pub within : (4 ≤ r) × (r ≤ 20)
-  pub fits : rangeBits r n ≤ left
-  pub above : (k : ℕ) → r < k → k ≤ 20 → left < rangeBits k n
 
 largest-to : (n left top : ℕ) → rangeBits 4 n ≤ left
     → (rangeBits (largestTo n left top) n ≤ left) × ((k : ℕ) → largestTo n left top < k → k ≤ 4 + top → left < rangeBits k n)

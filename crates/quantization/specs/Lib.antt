@@ -1,4 +1,3 @@
 pub mod Ranges
 pub mod Unquantise
-pub mod Products
-pub mod Words
+pub mod inner

@@ -1,7 +1,7 @@
 -- The quantisation ranges, and the choice of the endpoint range.
 -- 01, "Bits of a block" (weight ranges) and "Packed numbers" (endpoint ranges).
 -- Assumes nothing.
-use Prim.Native.Nat.{ℕ, zero, suc, _+_, _-_, _*_, _^_}
+use Prim.Native.Nat.{ℕ, zero, suc, _+_, _-_, _*_, _^_, _≤_, _<_}
 use mathlib.Core.List.{List, [], _∷_}
 use lib.Dec.{leb}
 use lib.ListN.{getD}
@@ -51,3 +51,10 @@ largestTo n left (suc i) = pick (leb (rangeBits (4 + suc i) n) left) (4 + suc i)
 unfoldable pub endpointRange : ℕ → ℕ → ℕ
 unfolding largestTo
 endpointRange n left = largestTo n left 16
+
+-- What this comes to, without the search (theorem: proofs/Ranges.antt, `endpoint-range-largest`).
+-- r is the largest of the endpoint ranges of which n numbers take at most the bits left: it fits, and no larger one does
+pub record Largest (n left r : ℕ) : Type 0 where
+  pub within : (4 ≤ r) × (r ≤ 20)
+  pub fits : rangeBits r n ≤ left
+  pub above : (k : ℕ) → r < k → k ≤ 20 → left < rangeBits k n

@@ -1,16 +1,18 @@
 // Quantisation ranges, the choice of the endpoint range, and unquantising.
 use encoding::Encoding;
 use encoding::Level;
+use encoding::LevelPair;
 use encoding::Stored;
 ghost use mathlib.Core.Path.{_≡_};
-ghost use Prim.Native.Nat.{_+_, _-_, _≤_, min};
+ghost use Prim.Native.Nat.{ℕ, _+_, _-_, _≤_, min};
 ghost use lib.Dec.{eqb};
 ghost use Rattle.laws.specs.Choice.{pick};
 ghost use Rattle.encoding.specs.declared.Encoding.the-variants.{Bits, Trits, Quints};
+ghost use Rattle.encoding.specs.Levels.{levelPair};
 ghost use Rattle.quantization.specs.Ranges.{encodingAt, bitsAt, mostAt, rangeBits, codesOf, endpointRange};
 ghost use Rattle.quantization.specs.Unquantise.{unquantEndpoint, unquantWeight};
-ghost use Rattle.quantization.specs.Products.{byRule, Right};
-ghost use Rattle.quantization.specs.Words.{byWords, RightWords};
+ghost use Rattle.quantization.specs.inner.Products.{byRule, Right};
+ghost use Rattle.quantization.specs.inner.Words.{byWords, RightWords};
 
 // A choice between two numbers that are there already, which takes no branch.
 fn chosen(first: bool, x: u8, y: u8) -> u8
@@ -220,6 +222,20 @@ pub fn weight_by(words: &[u64; 4], s: Stored) -> Level
     let k = (v / 8 % 4) as usize;
     let level = ((words[k] >> (8 * ((v % 8) as u32))) % 256) as u8;
     Level(chosen(v < 32, level, 0))
+}
+
+// The levels of a point's stored weights in both planes by their range's words; with one plane the second does not count.
+pub fn weight_pair(words: &[u64; 4], planes: u8, first: Stored, second: Stored) -> LevelPair
+    ensures { λ r. ⌜ r ≡ levelPair (byWords (now (words .entry)) (first .0)) (pick (eqb planes 2) (byWords (now (words .entry)) (second .0)) 0) ⌝ }
+    ensures { λ r. ⌜ ((level : ℕ → ℕ) → RightWords level (now (words .entry)) → r ≡ levelPair (level (first .0)) (pick (eqb planes 2) (level (second .0)) 0)) ⌝ }
+{
+    let low = weight_by(words, first);
+    if planes == 2 {
+        let high = weight_by(words, second);
+        LevelPair((low.0 as u32) + 65536 * (high.0 as u32))
+    } else {
+        LevelPair(low.0 as u32)
+    }
 }
 
 // The level of a stored weight, 0..64.

@@ -27,7 +27,7 @@ use Rattle.symbolic_block.specs.Fields.{Sized}
 use Rattle.symbolic_block.specs.Refusals.{unknownFootprint, modeRefusals, voidRefusals, refusals, refusalOf, Acceptable}
 use Rattle.symbolic_block.specs.Writing.{blockOf}
 use Rattle.symbolic_block.specs.Reading.{readBlock}
-use Rattle.symbolic_block.proofs.Reasons.{reasonAt}
+use Rattle.laws.specs.Reasons.{reasonAt}
 use Rattle.symbolic_block.proofs.Demand.{demand-3}
 use Rattle.symbolic_reader.specs.declared.Reading.{Reading}
 use Rattle.symbolic_reader.specs.Answers.{readingIn, readingOf, done}

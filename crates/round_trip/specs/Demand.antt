@@ -18,7 +18,7 @@ use Rattle.symbolic_block.specs.Fields.{Sized}
 use Rattle.symbolic_block.specs.Refusals.{refusals, Acceptable}
 use Rattle.symbolic_block.specs.Picture.{pictureNumber}
 use Rattle.symbolic_block.specs.Reading.{ReadsAs}
-use Rattle.symbolic_block.proofs.Reasons.{reasonAt}
+use Rattle.laws.specs.Reasons.{reasonAt}
 use Rattle.symbolic_reader.specs.declared.Reading.{Reading}
 use Rattle.symbolic_reader.specs.Answers.{readingOf}
 use Rattle.symbolic_calls.specs.Writing.{writingOf}

@@ -21,7 +21,7 @@ use Rattle.block_header.specs.Counts.{extraBits}
 use Rattle.block_fault.specs.Bits.{modeOf}
 use Rattle.symbolic_block.specs.Refusals.{misfit, modesMisfit}
 use Rattle.symbolic_block.specs.Writing.{classBit, modesCode}
-use Rattle.symbolic_block.proofs.Reasons.{some-none, none-some}
+use Rattle.laws.proofs.Reasons.{some-none, none-some}
 
 -- ---- selector 0, and 1 to 3
 

@@ -17,7 +17,8 @@ use Rattle.symbolic_block.specs.declared.SymbolicBlock.{SymbolicBlock}
 use Rattle.symbolic_block.specs.Fields.{gridOf, headerOf, colourIn, extentIn, modeIn, endpointIn, weightIn}
 use Rattle.symbolic_block.specs.Refusals.{within, isNoMode, unknownFootprint, badMark, badWidth, badHeight, badRange, badPlanes, badComponent, badPartitions, badIndex, badSelector, badModes, someInUse, noBlockMode, modesMisfit, badEndpoints, badWeights, modeRefusals}
 use Rattle.symbolic_block.specs.Writing.{modeNumber}
-use Rattle.symbolic_block.proofs.Reasons.{None, reasonAt, none-at, either-none}
+use Rattle.laws.proofs.Reasons.{None, none-at, either-none}
+use Rattle.laws.specs.Reasons.{reasonAt}
 use Rattle.symbolic_block.proofs.Lists.{not-not}
 
 pub record Fine (fp : ℕ) (s : SymbolicBlock) : Type 0 where

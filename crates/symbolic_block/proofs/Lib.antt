@@ -1,6 +1,4 @@
-pub mod Reasons
 pub mod Lists
-pub mod Laid
 pub mod Classes
 pub mod Numbers
 pub mod Opened

@@ -15,7 +15,8 @@ use Rattle.block_mode.specs.declared.BlockMode.{BlockMode}
 use Rattle.block_mode.specs.declared.BlockMode.the-variants.{VoidExtent, Reserved, Grid}
 use Rattle.block_header.specs.declared.Header.{Header}
 use Rattle.block_header.specs.Counts.{weightCount, weightBits, endpointCount, endpointRangeOf}
-use Rattle.block_header.specs.Reasons.{Reason, firstOf, gridReasons, endpointReasons}
+use Rattle.block_header.specs.Reasons.{gridReasons, endpointReasons}
+use Rattle.laws.specs.Reasons.{Reason, firstOf}
 use Rattle.block_fault.specs.Bits.{modeAt, isVoid, isReserved, gridIn, partitionsAt, selectorAt, headerWith, headerAt, endpointsFrom, endpointAt, weightAt, extentAt, colourAt}
 use Rattle.block_fault.specs.Faults.{badVoidExtent, hdrVoidExtent, voidReasons, modeReasons, faultOf}
 use Rattle.interpolation.specs.declared.Kind.{Kind}
@@ -24,10 +25,10 @@ use Rattle.texel.specs.BlockTexel.{blockTexel}
 use Rattle.symbolic_block.specs.declared.SymbolicBlock.{SymbolicBlock}
 use Rattle.symbolic_block.specs.Refusals.{modeRefusals, voidRefusals, refusals, refusalOf}
 use Rattle.symbolic_block.specs.Picture.{solidPicture, mixedPicture, pictureOf}
-use Rattle.symbolic_block.specs.Cells.{laid}
+use Rattle.bits.specs.Cells.{laid}
 use Rattle.symbolic_block.specs.Writing.{modeCells, voidCells, blockOf}
 use Rattle.symbolic_block.specs.Reading.{modeBlock, voidBlock, readBlock}
-use Rattle.symbolic_block.proofs.Reasons.{None, none-first, first-none}
+use Rattle.laws.proofs.Reasons.{None, none-first, first-none}
 
 -- ---- a symbolic block
 

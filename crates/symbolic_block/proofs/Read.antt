@@ -29,7 +29,7 @@ use Rattle.symbolic_block.specs.declared.SymbolicBlock.{SymbolicBlock}
 use Rattle.symbolic_block.specs.Fields.{numberIn, Sized}
 use Rattle.symbolic_block.specs.Refusals.{within, outside, noBlockMode, modesMisfit, unknownFootprint, badMark, badWidth, badHeight, badRange, badPlanes, badComponent, badPartitions, badIndex, badSelector, badModes, badEndpoints, badWeights, modeRefusals}
 use Rattle.symbolic_block.specs.Reading.{modeBlock}
-use Rattle.symbolic_block.proofs.Reasons.{None, _also_, none-at, none-either}
+use Rattle.laws.proofs.Reasons.{None, _also_, none-at, none-either}
 use Rattle.symbolic_block.proofs.Lists.{is-within, all-within, stored-at, zeros-unused}
 use Rattle.symbolic_block.proofs.Classes.{mode-most, read-fits, fit-all}
 use Rattle.symbolic_block.proofs.Numbers.{number-most}

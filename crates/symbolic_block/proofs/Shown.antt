@@ -22,7 +22,7 @@ use Rattle.texel.specs.BlockTexel.{blockTexel}
 use Rattle.symbolic_block.specs.Fields.{numberIn}
 use Rattle.symbolic_block.specs.Picture.{solidPicture, pictureOf}
 use Rattle.symbolic_block.specs.Reading.{modeBlock, voidBlock, readBlock}
-use Rattle.symbolic_block.proofs.Reasons.{None, none-at}
+use Rattle.laws.proofs.Reasons.{None, none-at}
 use Rattle.symbolic_block.proofs.Lists.{stored-at, within-used}
 use Rattle.symbolic_block.proofs.Opened.{picture-void, picture-mode, read-void, read-mode, texel-void, texel-mode, modeFaults, no-mode-fault}
 use Rattle.symbolic_block.proofs.Read.{Settled, settled}

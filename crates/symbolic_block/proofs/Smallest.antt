@@ -16,7 +16,7 @@ use Rattle.encoding.specs.Encoding.{groupSize}
 use Rattle.quantization.specs.Ranges.{encodingAt, bitsAt, mostAt}
 use Rattle.integer_sequence.specs.Codes.{digit}
 use Rattle.integer_sequence.specs.Reading.{codeAt}
-use Rattle.integer_sequence.specs.Writing.{begins, digitsOf, groupCode, packed, values, InRange}
+use Rattle.integer_sequence.specs.Writing.{begins, digitsOf, groupCode, packed, values, InRange, Smallest}
 use Rattle.integer_sequence.proofs.Codes.{codes}
 use Rattle.integer_sequence.proofs.Places.{code-lt}
 use Rattle.integer_sequence.proofs.Search.{code-least}
@@ -24,13 +24,6 @@ use Rattle.integer_sequence.proofs.RoundTrip.{count, digit-at, code-is, digit-i
 use Rattle.symbolic_block.specs.Fields.{numberIn}
 use Rattle.symbolic_block.specs.Refusals.{within}
 use Rattle.symbolic_block.proofs.Numbers.{taken, in-range, value}
-
--- The codes of the sequence v of n numbers x with b bits each: every present digit is the wanted one,
--- and so it is with no smaller code
-pub record Smallest (e : Encoding) (b n : ℕ) (x : ℕ → ℕ) (v : ℕ) : Type 0 where
-  pub wanted : (i : ℕ) → i < n → digit e (codeAt e b v (i / groupSize e)) (i % groupSize e) ≡ x i / 2 ^ b
-  pub least : (g t : ℕ) → ((k : ℕ) → k < groupSize e → g * groupSize e + k < n → digit e t k ≡ x (g * groupSize e + k) / 2 ^ b)
-      → codeAt e b v g ≤ t
 
 -- digits that are those of ds
 begin : (e : Encoding) (t j : ℕ) (ds : List ℕ) → ((k : ℕ) → k < length ds → digit e t (j + k) ≡ getD ds k 0) → begins e t j ds ≡ true

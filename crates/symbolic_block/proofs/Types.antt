@@ -16,7 +16,7 @@ use Rattle.block_header.specs.Counts.{weightCount, endpointCount, endpointRange
 use Rattle.symbolic_block.specs.declared.SymbolicBlock.{SymbolicBlock}
 use Rattle.symbolic_block.specs.Fields.{gridOf, headerOf, colourIn, extentIn, modeIn, numberIn, endpointIn, weightIn, Sized, Typed}
 use Rattle.symbolic_block.specs.Refusals.{within, someInUse, voidRefusals}
-use Rattle.symbolic_block.proofs.Reasons.{None, none-at}
+use Rattle.laws.proofs.Reasons.{None, none-at}
 use Rattle.symbolic_block.proofs.Lists.{not-not, within-used, within-unused}
 use Rattle.symbolic_block.proofs.Room.{pick-le}
 use Rattle.symbolic_block.proofs.Fine.{Fine}

@@ -19,12 +19,13 @@ use Rattle.block_fault.specs.Faults.{badExtents, badVoidExtent, hdrVoidExtent, 
 use Rattle.symbolic_block.specs.declared.SymbolicBlock.{SymbolicBlock}
 use Rattle.symbolic_block.specs.Fields.{colourIn, extentIn, modeIn, endpointIn, weightIn, Sized}
 use Rattle.symbolic_block.specs.Refusals.{within, unknownFootprint, badColours, badExtentFields, someInUse, voidRefusals}
-use Rattle.symbolic_block.specs.Cells.{cell, laid}
+use Rattle.bits.specs.Cells.{cell, laid}
 use Rattle.symbolic_block.specs.Writing.{voidCells}
 use Rattle.symbolic_block.specs.Reading.{voidBlock, readBlock}
-use Rattle.symbolic_block.proofs.Reasons.{None, _also_, reasonAt, none-at, none-either, either-none}
+use Rattle.laws.proofs.Reasons.{None, _also_, none-at, none-either, either-none}
+use Rattle.laws.specs.Reasons.{reasonAt}
 use Rattle.symbolic_block.proofs.Lists.{not-not, is-within, within-used, all-within, tab-back, zeros-back, stored-zeros-back, zeros-unused, stored-zeros-unused}
-use Rattle.symbolic_block.proofs.Laid.{Apart, _below_, laid-at, laid-lt}
+use Rattle.bits.proofs.Laid.{Apart, _below_, laid-at, laid-lt}
 use Rattle.symbolic_block.proofs.Opened.{void-no-fault, no-void-fault, read-void}
 
 -- the first twelve bits that are written

@@ -23,15 +23,16 @@ use Rattle.block_fault.specs.Faults.{faultOf}
 use Rattle.symbolic_block.specs.declared.SymbolicBlock.{SymbolicBlock}
 use Rattle.symbolic_block.specs.Fields.{gridOf, headerOf, modeIn, endpointIn, weightIn, Sized}
 use Rattle.symbolic_block.specs.Refusals.{modeRefusals}
-use Rattle.symbolic_block.specs.Cells.{cell, laid}
+use Rattle.bits.specs.Cells.{cell, laid}
 use Rattle.symbolic_block.specs.Writing.{modeNumber, modesCode, endpointStream, weightStream, endpointsEnd, componentFrom, modeCells}
 use Rattle.symbolic_block.specs.Reading.{modeBlock, readBlock}
-use Rattle.symbolic_block.proofs.Reasons.{None, none-at}
+use Rattle.laws.proofs.Reasons.{None, none-at}
 use Rattle.symbolic_block.proofs.Lists.{within-used, padded-back, stored-back, zeros-back}
-use Rattle.symbolic_block.proofs.Laid.{Apart, _below_, laid-at, laid-lt}
+use Rattle.bits.proofs.Laid.{Apart, _below_, laid-at, laid-lt}
 use Rattle.symbolic_block.proofs.Classes.{code-lt, code-back, all-fit}
 use Rattle.symbolic_block.proofs.Numbers.{packed-size, packed-back, reverse-top}
-use Rattle.symbolic_block.proofs.Smallest.{Smallest, smallest}
+use Rattle.symbolic_block.proofs.Smallest.{smallest}
+use Rattle.integer_sequence.specs.Writing.{Smallest}
 use Rattle.symbolic_block.proofs.Opened.{modeFaults, mode-no-fault, read-mode, header-is, endpoint-is, weight-is}
 use Rattle.symbolic_block.proofs.Room.{from-is, index-lt, selector-lt, several, alone, component-lt, room, component-from-is}
 use Rattle.symbolic_block.proofs.Fine.{Fine}

@@ -1,6 +1,6 @@
 pub mod Fields
 pub mod Refusals
 pub mod Picture
-pub mod Cells
 pub mod Writing
 pub mod Reading
+pub mod Demand3

@@ -14,7 +14,8 @@ use Rattle.block_mode.specs.declared.ModeBits.the-variants.{Mode, NoMode}
 use Rattle.block_mode.specs.Back2D.{modeBits}
 use Rattle.block_header.specs.declared.Header.{Header}
 use Rattle.block_header.specs.Counts.{weightCount, endpointCount, endpointRangeOf}
-use Rattle.block_header.specs.Reasons.{Reason, when, firstOf, some, gridReasons, endpointReasons}
+use Rattle.block_header.specs.Reasons.{gridReasons, endpointReasons}
+use Rattle.laws.specs.Reasons.{Reason, when, firstOf, some}
 use Rattle.block_fault.specs.Faults.{badExtents}
 use Rattle.symbolic_block.specs.declared.SymbolicBlock.{SymbolicBlock}
 use Rattle.symbolic_block.specs.Fields.{gridOf, headerOf, colourIn, extentIn, modeIn, endpointIn, weightIn}

@@ -16,7 +16,7 @@ use Rattle.block_header.specs.Counts.{weightCount, weightBits, componentBits, i
 use Rattle.block_fault.specs.Bits.{endpointsFrom}
 use Rattle.symbolic_block.specs.declared.SymbolicBlock.{SymbolicBlock}
 use Rattle.symbolic_block.specs.Fields.{gridOf, headerOf, colourIn, extentIn}
-use Rattle.symbolic_block.specs.Cells.{Cell, cell, laid}
+use Rattle.bits.specs.Cells.{Cell, cell, laid}
 
 -- the bits of a mode; 0 where there is none
 abbrev pub modeNumber : ModeBits → ℕ

@@ -39,6 +39,10 @@ module _ (fp : ℕ) (s : SymbolicBlock) where
       by-refusal (λ a. ap (λ (w : Writing). numberTold (w .answer)) (sym (written a)) ∙ sym a)
       (λ h. ap (λ (w : Writing). numberTold (w .answer)) (sym (refused h)))
 
+  -- all that a call promises, from what it returns
+  pub promised : (r : Writing) → r ≡ writingOf fp s → (r ≡ writingOf fp s) × (numberTold (r .answer) ≡ refusalOf fp s)
+  promised r e = (e, ap (λ (w : Writing). numberTold (w .answer)) e ∙ told-number)
+
   -- from the numbers of the calls
   pub told : (n : ℕ) → n ≡ refusalOf fp s → (n ≡ 0 → ⊥) → wroteNothing n ≡ writingOf fp s
   told n e h = ap wroteNothing e ∙ refused (λ q. h (e ∙ q))

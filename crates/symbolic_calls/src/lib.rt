@@ -2,6 +2,8 @@
 use one_block::Answer;
 use symbolic_block::SymbolicBlock;
 ghost use mathlib.Core.Path.{_≡_};
+ghost use Rattle.one_block.specs.Calls.{numberTold};
+ghost use Rattle.symbolic_block.specs.Refusals.{refusalOf};
 ghost use Rattle.symbolic_calls.specs.Writing.{writingOf};
 
 // The answer, and the block's bytes: zeros unless the answer is Done.
@@ -13,6 +15,7 @@ pub struct Writing {
 // The block of a symbolic block at a footprint.
 pub fn write_symbolic(fp: u8, s: SymbolicBlock) -> Writing
     ensures { λ r. ⌜ r ≡ writingOf fp s ⌝ }
+    ensures { λ r. ⌜ numberTold (r .answer) ≡ refusalOf fp s ⌝ }
 {
     let n = symbolic_refusal::refusal(fp, s);
     if n != 0 {

@@ -18,16 +18,17 @@ use Rattle.integer_sequence.specs.Reading.{stored}
 use Rattle.block_mode.specs.declared.WeightGrid.{WeightGrid}
 use Rattle.block_header.specs.declared.Header.{Header}
 use Rattle.block_header.specs.Counts.{weightCount, endpointCount, endpointRangeOf}
-use Rattle.block_header.specs.Reasons.{firstOf, gridReasons, endpointFault}
+use Rattle.block_header.specs.Reasons.{gridReasons, endpointFault}
+use Rattle.laws.specs.Reasons.{firstOf}
 use Rattle.symbolic_block.specs.declared.SymbolicBlock.{SymbolicBlock}
 use Rattle.symbolic_block.specs.Fields.{gridOf, headerOf, modeIn, endpointIn, weightIn, Sized}
 use Rattle.symbolic_block.specs.Refusals.{within, unknownFootprint, badMark, badWidth, badHeight, badRange, badPlanes, badComponent, badPartitions, badIndex, badSelector, badModes, badColours, badExtentFields, someInUse, modesMisfit, badEndpoints, badWeights, modeRefusals, voidRefusals, refusals, refusalOf}
-use Rattle.symbolic_block.proofs.Reasons.{none-at, first-none, either-none}
+use Rattle.laws.proofs.Reasons.{none-at, first-none, either-none}
 use Rattle.symbolic_block.proofs.Lists.{not-not, stored-at, tab-back, stored-back, within-used, within-unused}
 use Rattle.symbolic_block.proofs.Room.{pick-le}
 use Rattle.symbolic_block.proofs.Opened.{refusal-is, refusals-void, refusals-mode}
 use Rattle.symbolic_block.proofs.Demand.{typed}
-use Rattle.symbolic_refusal.specs.Stages.{orElse, badGrid, badPartitioning, badLists, badFields, fieldReasons}
+use Rattle.symbolic_refusal.specs.inner.Stages.{orElse, badGrid, badPartitioning, badLists, badFields, fieldReasons}
 use Rattle.symbolic_refusal.proofs.Laws.{mode-stages}
 use Rattle.symbolic_calls.specs.Writing.{wroteNothing, writingOf}
 use Rattle.symbolic_calls.proofs.Laws.{refused, told}

@@ -6,7 +6,7 @@ use mathlib.Core.List.{List, [], _∷_}
 use lib.Dec.{eqb}
 use lib.ListN.{length}
 use Rattle.laws.specs.Choice.{pick, both}
-use Rattle.block_header.specs.Reasons.{when, firstOf}
+use Rattle.laws.specs.Reasons.{when, firstOf}
 use Rattle.one_block.specs.declared.Answer.{Answer}
 use Rattle.one_block.specs.declared.Answer.the-variants.{Refused, Faulty, Done}
 use Rattle.one_block.specs.Calls.{numberTold}

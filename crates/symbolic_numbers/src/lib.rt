@@ -10,7 +10,7 @@ ghost use Rattle.laws.specs.Choice.{pick};
 ghost use Rattle.laws.specs.Table.{tab};
 ghost use Rattle.integer_sequence.specs.Reading.{stored};
 ghost use Rattle.symbolic_block.specs.Refusals.{unknownFootprint};
-ghost use Rattle.symbolic_refusal.specs.Stages.{orElse};
+ghost use Rattle.symbolic_refusal.specs.inner.Stages.{orElse};
 ghost use Rattle.symbolic_calls.specs.Writing.{writingOf};
 ghost use Rattle.symbolic_numbers.specs.Numbers.{settingsOf, flatAt, flatOf, blockOver, blockFrom, clippedNumbers, endpointsFit};
 ghost use Rattle.symbolic_numbers.specs.Calls.{refusedOr5, readNumber, readNumbers, writeNumber, writeBlock};

@@ -14,21 +14,24 @@ use Rattle.laws.proofs.Filling.{tab-ext, padded-at}
 use Rattle.encoding.specs.declared.Encoding.{Encoding}
 use Rattle.encoding.specs.declared.Stored.{Stored}
 use Rattle.integer_sequence.specs.Reading.{number, numbers, stored}
-use Rattle.block_fault.specs.declared.Stage.{Stage}
-use Rattle.block_fault.specs.declared.Stage.the-variants.{Passed, Stopped}
-use Rattle.block_fault.specs.Settings.{stageOf}
+use Rattle.block_header.specs.declared.Stage.{Stage}
+use Rattle.block_header.specs.declared.Stage.the-variants.{Passed, Stopped}
+use Rattle.block_header.specs.Stages.{stageOf}
 use Rattle.bits.specs.Block.{numberOf}
 use Rattle.block_fault.specs.declared.Verdict.{Verdict}
 use Rattle.block_fault.specs.declared.Verdict.the-variants as verdict
 use Rattle.block_fault.specs.Settings.{verdictOf}
 use Rattle.block_fault.specs.Bits.{headerAt, endpointAt, weightAt, colourAt, extentAt}
 use Rattle.block_fault.specs.Faults.{faultOf}
-use Rattle.block_fault.proofs.Stages.{stage-passed, stage-stopped}
+use Rattle.block_header.proofs.Stages.{stage-passed, stage-stopped}
 use Rattle.block_fault.proofs.Verdicts.{told-fault, told-void, told-coded}
-use Rattle.one_block.specs.declared.Answer.the-variants.{Refused, Faulty}
-use Rattle.symbolic_block.specs.Reading.{modeBlock, voidBlock}
+use Rattle.one_block.specs.declared.Answer.the-variants.{Refused, Faulty, Done}
+use Rattle.one_block.specs.Calls.{numberTold}
+use Rattle.block_fault.specs.inner.Stages.{stageIn}
+use Rattle.symbolic_block.specs.Reading.{modeBlock, voidBlock, readBlock}
 use Rattle.symbolic_block.proofs.Opened.{read-void, read-mode}
-use Rattle.symbolic_reader.specs.Answers.{readRefusal, nothing, done, readingIn, readingOf, uncodedOf}
+use Rattle.symbolic_reader.specs.Answers.{readRefusal, nothing, done, readingIn, readingOf, readTold}
+use Rattle.symbolic_reader.specs.declared.Reading.{Reading}
 
 -- ---- refusals one by one
 
@@ -65,13 +68,13 @@ first-numbers e b v n = tab-ext _ _ (stored 0) 18 (λ i h. number-at e b v n i (
 -- ---- the reading of bytes that are not refused, stage by stage
 
 module _ (fp B : ℕ) where
-  fault-reading : (n : ℕ) → verdictOf fp B ≡ verdict.Fault n → nothing (Faulty n) ≡ readingIn fp B
+  pub fault-reading : (n : ℕ) → verdictOf fp B ≡ verdict.Fault n → nothing (Faulty n) ≡ readingIn fp B
   unfolding readingIn
   fault-reading n e =
       let k = told-fault fp B n e in
       rw (ne-eqb (faultOf fp B) 0 (k .1), k .0)
 
-  void-reading : verdictOf fp B ≡ verdict.VoidExtent → done (voidBlock (colourAt B) (extentAt B)) ≡ readingIn fp B
+  pub void-reading : verdictOf fp B ≡ verdict.VoidExtent → done (voidBlock (colourAt B) (extentAt B)) ≡ readingIn fp B
   unfolding readingIn
   void-reading e =
       let k = told-void fp B e in
@@ -82,11 +85,6 @@ module _ (fp B : ℕ) where
   coded-reading e =
       let k = told-coded fp B e in
       rw (eq-eqb (faultOf fp B) 0 (k .0), read-mode B (k .1))
-
-  pub uncoded-reading : (v : Verdict) → verdictOf fp B ≡ v → (v ≡ verdict.Coded → ⊥) → uncodedOf B v ≡ readingIn fp B
-  uncoded-reading verdict.Coded e h = absurd (h refl)
-  uncoded-reading verdict.VoidExtent e h = void-reading e
-  uncoded-reading (verdict.Fault n) e h = fault-reading n e
 
 module _ (fp : ℕ) (s : List ℕ) where
   -- a refusal at once with its number
@@ -108,3 +106,30 @@ module _ (fp : ℕ) (s : List ℕ) where
     go true b q r = absurd (omega arith)
     go false false q r = absurd (omega arith)
     go false true q r = eqb-true _ _ q
+
+  -- 01's number of the answer
+  number-told : numberTold (readingOf fp s .answer) ≡ readTold fp s
+  unfolding readingOf readingIn readTold
+  number-told = go (eqb (readRefusal fp (length s)) 0) (eqb (faultOf fp (numberOf s)) 0) refl where
+    go : (a b : Bool) → eqb (faultOf fp (numberOf s)) 0 ≡ b
+        → numberTold ((pick a (pick b (done (readBlock (numberOf s))) (nothing (Faulty (faultOf fp (numberOf s))))) (nothing (Refused (readRefusal fp (length s))))) .answer)
+        ≡ pick a (faultOf fp (numberOf s)) (readRefusal fp (length s))
+    go true true e = sym (eqb-true (faultOf fp (numberOf s)) 0 e)
+    go true false e = refl
+    go false b e = refl
+
+  -- all that a call promises, from what it returns
+  pub promised : (r : Reading) → r ≡ readingOf fp s → (r ≡ readingOf fp s) × (numberTold (r .answer) ≡ readTold fp s)
+  promised r e = (e, ap (λ (q : Reading). numberTold (q .answer)) e ∙ number-told)
+
+-- ---- the verdict, by the stage of faults
+
+pub stopped-verdict : (v : Verdict) (n : ℕ) → stageIn v ≡ Stopped n → v ≡ verdict.Fault n
+stopped-verdict verdict.Coded n e = let z : _≡_ {A = ℕ} 0 1 = cc in absurd (omega arith)
+stopped-verdict verdict.VoidExtent n e = let z : _≡_ {A = ℕ} 0 1 = cc in absurd (omega arith)
+stopped-verdict (verdict.Fault m) n e = let q : m ≡ n = cc in ap verdict.Fault q
+
+pub coded-verdict : (v : Verdict) → stageIn v ≡ Passed → (v ≡ verdict.VoidExtent → ⊥) → v ≡ verdict.Coded
+coded-verdict verdict.Coded e h = refl
+coded-verdict verdict.VoidExtent e h = absurd (h refl)
+coded-verdict (verdict.Fault m) e h = let z : _≡_ {A = ℕ} 0 1 = cc in absurd (omega arith)

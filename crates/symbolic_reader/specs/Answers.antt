@@ -7,18 +7,13 @@ use lib.Dec.{eqb, ltb}
 use lib.ListN.{length}
 use Rattle.laws.specs.Choice.{pick}
 use Rattle.bits.specs.Block.{numberOf}
-use Rattle.block_header.specs.Reasons.{when, firstOf}
-use Rattle.block_fault.specs.declared.Stage.{Stage}
-use Rattle.block_fault.specs.declared.Stage.the-variants.{Passed, Stopped}
-use Rattle.block_fault.specs.declared.Verdict.{Verdict}
-use Rattle.block_fault.specs.declared.Verdict.the-variants.{Coded, VoidExtent, Fault}
-use Rattle.block_fault.specs.Bits.{colourAt, extentAt}
+use Rattle.laws.specs.Reasons.{when, firstOf}
 use Rattle.block_fault.specs.Faults.{faultOf}
 use Rattle.one_block.specs.declared.Answer.{Answer}
 use Rattle.one_block.specs.declared.Answer.the-variants.{Refused, Faulty, Done}
 use Rattle.one_block.specs.Calls.{answerFor}
 use Rattle.symbolic_block.specs.declared.SymbolicBlock.{SymbolicBlock}
-use Rattle.symbolic_block.specs.Reading.{voidBlock, zeroBlock, readBlock}
+use Rattle.symbolic_block.specs.Reading.{zeroBlock, readBlock}
 use Rattle.symbolic_reader.specs.declared.Reading.{Reading}
 
 -- "The reader of sheets refuses 1 and 4"; 0 where it does not
@@ -42,15 +37,7 @@ unfoldable pub readingOf : ℕ → List ℕ → Reading
 unfolding readRefusal readingIn
 readingOf fp s = pick (eqb (readRefusal fp (length s)) 0) (readingIn fp (numberOf s)) (nothing (Refused (readRefusal fp (length s))))
 
--- ---- the stages of reading
-
--- the answer of a stage of refusals
-abbrev pub stopped : Stage → Answer
-stopped Passed = Done
-stopped (Stopped n) = Refused n
-
--- what is read of the block B where it is not coded
-abbrev pub uncodedOf : ℕ → Verdict → Reading
-uncodedOf B Coded = nothing Done
-uncodedOf B VoidExtent = done (voidBlock (colourAt B) (extentAt B))
-uncodedOf B (Fault n) = nothing (Faulty n)
+-- 01's number of the answer: the refusal, else the block's fault, 0 for neither
+unfoldable pub readTold : ℕ → List ℕ → ℕ
+unfolding readRefusal
+readTold fp s = pick (eqb (readRefusal fp (length s)) 0) (faultOf fp (numberOf s)) (readRefusal fp (length s))

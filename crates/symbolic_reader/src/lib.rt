@@ -1,8 +1,8 @@
 // The reader of symbolic blocks (01: sheets): a block's settings and numbers as plain numbers.
 use bits::PhysicalBlock;
-use block_fault::Stage;
 use block_fault::Verdict;
 use block_header::Header;
+use block_header::Stage;
 use encoding::Stored;
 use one_block::Answer;
 use symbolic_block::SymbolicBlock;
@@ -14,10 +14,12 @@ ghost use Rattle.bits.specs.Field.{field};
 ghost use Rattle.bits.specs.Block.{blockNumber};
 ghost use Rattle.integer_sequence.specs.Reading.{stored};
 ghost use Rattle.block_header.specs.Counts.{weightCount, endpointCount, endpointRangeOf};
-ghost use Rattle.block_fault.specs.Settings.{stageOf};
+ghost use Rattle.block_header.specs.Stages.{stageOf};
+ghost use Rattle.one_block.specs.Calls.{numberTold};
 ghost use Rattle.block_fault.specs.Bits.{endpointAt, weightAt, colourAt, extentAt, endpointsFrom};
 ghost use Rattle.symbolic_block.specs.Reading.{modeBlock, voidBlock, zeroBlock};
-ghost use Rattle.symbolic_reader.specs.Answers.{readRefusal, readingOf, nothing, done, stopped, uncodedOf};
+ghost use Rattle.symbolic_reader.specs.Answers.{readRefusal, readingOf, readTold, nothing, done};
+ghost use Rattle.symbolic_reader.specs.inner.Stages.{refusedAt, faultyAt};
 
 // The answer, and the symbolic block: zeros unless the answer is Done.
 pub struct Reading {
@@ -78,11 +80,20 @@ fn check(fp: u8, bytes: usize) -> Stage
 }
 
 fn refused(s: Stage) -> Answer
-    ensures { λ r. ⌜ r ≡ stopped s ⌝ }
+    ensures { λ r. ⌜ r ≡ refusedAt s ⌝ }
 {
     match s {
         Stage::Passed => Answer::Done,
         Stage::Stopped(n) => Answer::Refused(n),
+    }
+}
+
+fn faulty(s: Stage) -> Answer
+    ensures { λ r. ⌜ r ≡ faultyAt s ⌝ }
+{
+    match s {
+        Stage::Passed => Answer::Done,
+        Stage::Stopped(n) => Answer::Faulty(n),
     }
 }
 
@@ -118,17 +129,6 @@ fn void_block(b: PhysicalBlock) -> SymbolicBlock
         modes: [0u8; 4],
         endpoints: [Stored(0); 18],
         weights: [Stored(0); 64],
-    }
-}
-
-// A fault at once with its number, or a void extent.
-fn uncoded(b: PhysicalBlock, v: Verdict) -> Reading
-    ensures { λ r. ⌜ r ≡ uncodedOf (blockNumber b) v ⌝ }
-{
-    match v {
-        Verdict::Fault(n) => told(Answer::Faulty(n)),
-        Verdict::VoidExtent => read(void_block(b)),
-        Verdict::Coded => told(Answer::Done),
     }
 }
 
@@ -191,9 +191,10 @@ fn mode_block(b: PhysicalBlock, h: Header, numbers: u8, range: u8) -> SymbolicBl
     }
 }
 
-// A block's symbolic block at a footprint.
+// A block's symbolic block at a footprint. Each stage that stops tells its number at once.
 pub fn read_symbolic(fp: u8, block: &[u8]) -> Reading
     ensures { λ r. ⌜ r ≡ readingOf fp (now (block .entry)) ⌝ }
+    ensures { λ r. ⌜ numberTold (r .answer) ≡ readTold fp (now (block .entry)) ⌝ }
 {
     let stage = check(fp, block.len());
     let Stage::Passed = stage else {
@@ -202,8 +203,12 @@ pub fn read_symbolic(fp: u8, block: &[u8]) -> Reading
     let b = bits::load(block);
     let s = block_fault::read_settings(b, fp);
     let v = s.verdict;
-    let Verdict::Coded = v else {
-        return uncoded(b, v);
+    let sound = block_fault::stage_in(v);
+    let Stage::Passed = sound else {
+        return told(faulty(sound));
     };
+    if let Verdict::VoidExtent = v {
+        return read(void_block(b));
+    }
     read(mode_block(b, s.header, s.numbers, s.range))
 }

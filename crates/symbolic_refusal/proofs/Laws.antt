@@ -10,12 +10,13 @@ use borrow.Author.Tests.{ne-eqb}
 use Rattle.laws.specs.Choice.{pick, both, either}
 use Rattle.laws.proofs.Computed.{both-left, both-right}
 use Rattle.block_header.specs.declared.Header.{Header}
-use Rattle.block_header.specs.Reasons.{Reason, when, firstOf, gridFault, endpointFault, gridReasons, endpointReasons, gridTooLarge, tooManyWeights, weightBitsOutside, fourWithTwoPlanes}
+use Rattle.block_header.specs.Reasons.{gridFault, endpointFault, gridReasons, endpointReasons, gridTooLarge, tooManyWeights, weightBitsOutside, fourWithTwoPlanes}
+use Rattle.laws.specs.Reasons.{Reason, when, firstOf}
 use Rattle.symbolic_block.specs.declared.SymbolicBlock.{SymbolicBlock}
 use Rattle.symbolic_block.specs.Fields.{gridOf, headerOf, colourIn, extentIn}
 use Rattle.symbolic_block.specs.Refusals.{unknownFootprint, badMark, badWidth, badHeight, badRange, badPlanes, badComponent, badPartitions, badIndex, badSelector, badModes, someInUse, noBlockMode, modesMisfit, badEndpoints, badWeights, modeRefusals, voidRefusals}
-use Rattle.symbolic_block.proofs.Reasons.{numbered}
-use Rattle.symbolic_refusal.specs.Stages.{orElse, badGrid, badPartitioning, badLists, badFields, badShown, gridInUse, partitioningInUse, numbersInUse, badVoidFields, fieldReasons, voidStages}
+use Rattle.laws.proofs.Reasons.{numbered}
+use Rattle.symbolic_refusal.specs.inner.Stages.{orElse, badGrid, badPartitioning, badLists, badFields, badShown, gridInUse, partitioningInUse, numbersInUse, badVoidFields, fieldReasons, voidStages}
 
 -- a reason in front
 pub or-pick : (b : Bool) (n m : ℕ) → T (ltb 0 n) → orElse (pick b n 0) m ≡ pick b n m

@@ -8,11 +8,12 @@ ghost use mathlib.Core.Path.{_≡_};
 ghost use mathlib.Core.List.{[]};
 ghost use lib.ListN.{getD};
 ghost use Rattle.laws.specs.Choice.{pick, both, either};
-ghost use Rattle.block_header.specs.Reasons.{firstOf, gridReasons};
+ghost use Rattle.block_header.specs.Reasons.{gridReasons};
+ghost use Rattle.laws.specs.Reasons.{firstOf};
 ghost use Rattle.block_fault.specs.Faults.{badExtents};
 ghost use Rattle.symbolic_block.specs.Fields.{gridOf, headerOf, numberIn};
 ghost use Rattle.symbolic_block.specs.Refusals.{unknownFootprint, outside, within, noBlockMode, misfit, modesMisfit, badComponent, badIndex, badSelector, badEndpoints, badWeights, modeRefusals, voidRefusals, refusalOf};
-ghost use Rattle.symbolic_refusal.specs.Stages.{orElse, badGrid, badPartitioning, badLists, badFields, badShown, gridInUse, partitioningInUse, numbersInUse, badVoidFields, fieldReasons};
+ghost use Rattle.symbolic_refusal.specs.inner.Stages.{orElse, badGrid, badPartitioning, badLists, badFields, badShown, gridInUse, partitioningInUse, numbersInUse, badVoidFields, fieldReasons};
 
 fn both(a: bool, b: bool) -> bool
     ensures { λ r. ⌜ r ≡ both a b ⌝ }

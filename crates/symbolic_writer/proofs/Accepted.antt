@@ -11,7 +11,7 @@ use Rattle.symbolic_block.proofs.Fine.{Fine, fine}
 use Rattle.symbolic_block.proofs.Written as written
 use Rattle.symbolic_block.proofs.Void as void
 use Rattle.symbolic_block.proofs.Demand.{void-none, mode-none}
-use Rattle.symbolic_writer.specs.Piled.{piled, Packable}
+use Rattle.symbolic_writer.specs.inner.Piled.{piled, Packable}
 use Rattle.symbolic_writer.proofs.Piled.{piled-laid}
 
 module _ (fp : ℕ) (s : SymbolicBlock) (a : Acceptable fp s) where

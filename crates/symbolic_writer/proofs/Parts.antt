@@ -25,7 +25,7 @@ use Rattle.symbolic_block.specs.declared.SymbolicBlock.{SymbolicBlock}
 use Rattle.symbolic_block.specs.Fields.{gridOf, headerOf}
 use Rattle.symbolic_block.specs.Writing.{endpointStream, weightStream}
 use Rattle.symbolic_block.proofs.Numbers.{taken, packed-size, value, reverse-top}
-use Rattle.symbolic_writer.specs.Piled.{withValue, Packable}
+use Rattle.symbolic_writer.specs.inner.Piled.{withValue, Packable}
 use Rattle.symbolic_writer.proofs.Piled.{below-kept}
 
 -- the endpoint numbers in a list of 64

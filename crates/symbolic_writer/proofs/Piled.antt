@@ -10,9 +10,9 @@ use lib.Pow.{pow-pos, pow-add, pow-mono}
 use Rattle.bits.specs.Field.{field}
 use Rattle.bits.proofs.Fields.{field-lt}
 use Rattle.integer_sequence.proofs.Search.{append-next}
-use Rattle.symbolic_block.specs.Cells.{Cell, laid}
-use Rattle.symbolic_block.proofs.Laid.{Apart, cell-above}
-use Rattle.symbolic_writer.specs.Piled.{withValue, piled}
+use Rattle.bits.specs.Cells.{Cell, laid}
+use Rattle.bits.proofs.Laid.{Apart, cell-above}
+use Rattle.symbolic_writer.specs.inner.Piled.{withValue, piled}
 
 apart-le : (from to : ℕ) (cs : List Cell) → Apart from to cs → from ≤ to
 apart-le from to [] h = h

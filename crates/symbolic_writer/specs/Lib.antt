@@ -1,1 +1,1 @@
-pub mod Piled
+pub mod inner

@@ -18,7 +18,7 @@ ghost use Rattle.block_fault.specs.Bits.{endpointsFrom};
 ghost use Rattle.symbolic_block.specs.Fields.{gridOf, headerOf};
 ghost use Rattle.symbolic_block.specs.Refusals.{refusalOf};
 ghost use Rattle.symbolic_block.specs.Writing.{modeNumber, classBit, modesCode, endpointStream, weightStream, endpointsEnd, componentFrom, modeCells, voidCells, blockOf};
-ghost use Rattle.symbolic_writer.specs.Piled.{withValue, piled, Packable};
+ghost use Rattle.symbolic_writer.specs.inner.Piled.{withValue, piled, Packable};
 
 fn wide(x: u8) -> u64
     ensures { λ r. ⌜ (r ≡ x) × (r ≤ 255) ⌝ }

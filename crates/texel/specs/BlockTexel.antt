@@ -4,7 +4,7 @@ use Prim.Native.Nat.{ℕ, _*_, _/_, _%_}
 use mathlib.Core.List.{List}
 use lib.Dec.{eqb}
 use Rattle.laws.specs.Choice.{pick}
-use Rattle.laws.specs.Table.{tab}
+use Rattle.laws.specs.Table.{tab, replaced}
 use Rattle.footprint.specs.Footprint.{widthOf, texelsOf}
 use Rattle.interpolation.specs.declared.Kind.{Kind}
 use Rattle.interpolation.specs.declared.Texel.{Texel}
@@ -37,3 +37,8 @@ blockChannel fp kind B k = channel (blockTexel fp kind B (k / 4 % widthOf fp) (k
 unfoldable pub blockNumbers : ℕ → Kind → ℕ → List ℕ
 unfolding blockChannel tab
 blockNumbers fp kind B = tab (λ k. shownOf kind (blockChannel fp kind B k)) (4 * texelsOf fp)
+
+-- a lent buffer once a block is decoded into it: its first numbers are the block's, in 16 bits, the others as they were
+unfoldable pub blockInto : ℕ → Kind → ℕ → List ℕ → List ℕ
+unfolding blockChannel replaced
+blockInto fp kind B old = replaced 0 (blockChannel fp kind B) (4 * texelsOf fp) old

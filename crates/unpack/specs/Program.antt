@@ -4,7 +4,7 @@ use mathlib.Core.Bool.{not}
 use mathlib.Core.List.{[], _∷_}
 use Prim.Native.Nat.{ℕ}
 use lib.Dec.{eqb, ltb}
-use Rattle.block_header.specs.Reasons.{when, firstOf}
+use Rattle.laws.specs.Reasons.{when, firstOf}
 
 -- "It reads 18 bytes: footprint, kind, block. Any other length prints "refused 4"; then 1, then 2." 0 where it does not refuse.
 unfoldable pub programRefusal : ℕ → ℕ → ℕ → ℕ

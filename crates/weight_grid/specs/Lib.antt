@@ -1,3 +1,4 @@
-pub mod Bilinear
-pub mod Cell
 pub mod Place
+pub mod Cell
+pub mod Bilinear
+pub mod inner

@@ -2,7 +2,10 @@
 ghost use mathlib.Core.Path.{_≡_};
 ghost use Prim.Native.Nat.{_-_, _%_, _≤_, _<_};
 ghost use Rattle.weight_grid.specs.Place.{scaleOf, gridPlace};
-ghost use Rattle.weight_grid.specs.Bilinear.{bothOf, stepOf};
+ghost use Rattle.encoding.specs.Levels.{firstLevel, secondLevel, Bytes};
+ghost use Rattle.weight_grid.specs.Bilinear.{blendOf};
+ghost use Rattle.weight_grid.specs.inner.Points.{bothOf, stepOf};
+use encoding::LevelPair;
 
 fn less_one(n: u8) -> u32
     ensures { λ r. ⌜ r ≡ n - 1 ⌝ }
@@ -52,10 +55,18 @@ fn blend_both(fs: u32, ft: u32, p00: u32, p01: u32, p10: u32, p11: u32) -> u32
     (p00 * w00 + p01 * w01 + p10 * w10 + p11 * w11 + 524296) / 16
 }
 
-// The weights of both planes at gs, gt of a grid, packed, from those of its four neighbours there.
-pub fn infill_both(gs: u32, gt: u32, p00: u32, p01: u32, p10: u32, p11: u32) -> u32
-    requires { ⌜ (p00 ≤ 16711935) × (p01 ≤ 16711935) × (p10 ≤ 16711935) × (p11 ≤ 16711935) ⌝ }
-    ensures { λ r. ⌜ r ≡ bothOf (gs % 16) (gt % 16) p00 p01 p10 p11 ⌝ }
+// The weights of both planes at gs, gt of a grid, from those of its four neighbours there.
+pub fn infill_both(
+    gs: u32,
+    gt: u32,
+    p00: LevelPair,
+    p01: LevelPair,
+    p10: LevelPair,
+    p11: LevelPair,
+) -> LevelPair
+    requires { ⌜ Bytes p00 × Bytes p01 × Bytes p10 × Bytes p11 ⌝ }
+    ensures { λ r. ⌜ firstLevel r ≡ blendOf (gs % 16) (gt % 16) (firstLevel p00) (firstLevel p01) (firstLevel p10) (firstLevel p11) ⌝ }
+    ensures { λ r. ⌜ secondLevel r ≡ blendOf (gs % 16) (gt % 16) (secondLevel p00) (secondLevel p01) (secondLevel p10) (secondLevel p11) ⌝ }
 {
-    blend_both(gs % 16, gt % 16, p00, p01, p10, p11)
+    LevelPair(blend_both(gs % 16, gt % 16, p00.0, p01.0, p10.0, p11.0))
 }

@@ -2,32 +2,32 @@
 
 unsafe extern "C" {
     /// 0 (no fault), 11..20 (the block's fault), or 1, 4, 5 (refused, nothing written).
-    pub fn astc_decode_block_unorm16(
+    pub fn stallbrook_astc_decode_block_unorm16(
         footprint: u8, block: *const u8, block_len: usize, out: *mut u16, out_len: usize,
     ) -> u8;
-    pub fn astc_decode_block_srgb8(
+    pub fn stallbrook_astc_decode_block_srgb8(
         footprint: u8, block: *const u8, block_len: usize, out: *mut u8, out_len: usize,
     ) -> u8;
 
     /// 0 or 1, 3, 4, 5. Tally, of 3 numbers: count of faulty blocks, raster index and fault of the first; zeros on a refusal. A tally of
     /// another length: 1, 3, 4 or 5, nothing written.
-    pub fn astc_decode_image_unorm16(
+    pub fn stallbrook_astc_decode_image_unorm16(
         footprint: u8, width: u32, height: u32, blocks: *const u8, blocks_len: usize, out: *mut u16, out_len: usize,
         tally: *mut u64, tally_len: usize,
     ) -> u8;
-    pub fn astc_decode_image_srgb8(
+    pub fn stallbrook_astc_decode_image_srgb8(
         footprint: u8, width: u32, height: u32, blocks: *const u8, blocks_len: usize, out: *mut u8, out_len: usize,
         tally: *mut u64, tally_len: usize,
     ) -> u8;
 
     /// 0, a fault, or 1, 4; the 103 numbers are all 0 unless it answers 0. 5 where there are not 103, nothing written.
-    pub fn astc_read_symbolic(
+    pub fn stallbrook_astc_read_symbolic(
         footprint: u8, block: *const u8, block_len: usize, numbers: *mut u16, numbers_len: usize,
     ) -> u8;
 
     /// 0 or the first refusal; the 16 bytes are all 0 unless it answers 0. Where there are not 16 bytes or not 103 numbers, 1, 4 or 5,
     /// nothing written.
-    pub fn astc_write_symbolic(
+    pub fn stallbrook_astc_write_symbolic(
         footprint: u8, numbers: *const u16, numbers_len: usize, block: *mut u8, block_len: usize,
     ) -> u8;
 }

@@ -3,18 +3,18 @@
 use crate::ffi;
 
 pub fn decode_block_unorm16(footprint: u8, block: &[u8], out: &mut [u16]) -> u8 {
-    unsafe { ffi::astc_decode_block_unorm16(footprint, block.as_ptr(), block.len(), out.as_mut_ptr(), out.len()) }
+    unsafe { ffi::stallbrook_astc_decode_block_unorm16(footprint, block.as_ptr(), block.len(), out.as_mut_ptr(), out.len()) }
 }
 
 pub fn decode_block_srgb8(footprint: u8, block: &[u8], out: &mut [u8]) -> u8 {
-    unsafe { ffi::astc_decode_block_srgb8(footprint, block.as_ptr(), block.len(), out.as_mut_ptr(), out.len()) }
+    unsafe { ffi::stallbrook_astc_decode_block_srgb8(footprint, block.as_ptr(), block.len(), out.as_mut_ptr(), out.len()) }
 }
 
 pub fn decode_image_unorm16(
     footprint: u8, width: u32, height: u32, blocks: &[u8], out: &mut [u16], tally: &mut [u64],
 ) -> u8 {
     unsafe {
-        ffi::astc_decode_image_unorm16(
+        ffi::stallbrook_astc_decode_image_unorm16(
             footprint,
             width,
             height,
@@ -32,7 +32,7 @@ pub fn decode_image_srgb8(
     footprint: u8, width: u32, height: u32, blocks: &[u8], out: &mut [u8], tally: &mut [u64],
 ) -> u8 {
     unsafe {
-        ffi::astc_decode_image_srgb8(
+        ffi::stallbrook_astc_decode_image_srgb8(
             footprint,
             width,
             height,
@@ -47,9 +47,9 @@ pub fn decode_image_srgb8(
 }
 
 pub fn read_symbolic(footprint: u8, block: &[u8], numbers: &mut [u16]) -> u8 {
-    unsafe { ffi::astc_read_symbolic(footprint, block.as_ptr(), block.len(), numbers.as_mut_ptr(), numbers.len()) }
+    unsafe { ffi::stallbrook_astc_read_symbolic(footprint, block.as_ptr(), block.len(), numbers.as_mut_ptr(), numbers.len()) }
 }
 
 pub fn write_symbolic(footprint: u8, numbers: &[u16], block: &mut [u8]) -> u8 {
-    unsafe { ffi::astc_write_symbolic(footprint, numbers.as_ptr(), numbers.len(), block.as_mut_ptr(), block.len()) }
+    unsafe { ffi::stallbrook_astc_write_symbolic(footprint, numbers.as_ptr(), numbers.len(), block.as_mut_ptr(), block.len()) }
 }

@@ -7,8 +7,8 @@ use Rattle.block_fault.specs.Bits.{headerAt}
 use Rattle.block_fault.specs.Settings.{verdictOf}
 use Rattle.block_fault.proofs.Verdicts.{settings-verdict, told-fault, told-void, told-coded, coded-header, coded-counts, coded-limits, coded-numbers}
 use Rattle.texel.specs.Meaning.{magenta}
-use Rattle.block_core.specs.Prepared.{halves}
-use Rattle.block_core.proofs.Shows.{shown-held, shows-fault, shows-void, shows-coded}
+use Rattle.block_core.specs.inner.Prepared.{halves}
+use Rattle.block_core.proofs.Shows.{painted-into, shows-fault, shows-void, shows-coded}
 use borrow.Author.Needs.{needs}
 use Rattle.block_core.proofs.decode_halves.Statement.{statement}
 use Rattle.block_core.proofs.decode_halves.Tie as tie
@@ -57,20 +57,20 @@ unfolding magenta
 returns c =
     let r = c .before .before .before .before .before in
     let k = told-fault _ _ _ (verdict-is r ∙ c .before .before .before .v .given .1) in
-    (sym (k .0), λ e. shown-held _ _ _ _ _ (λ x y. shows-fault _ _ _ x y (k .1)) (c .flood .ensures e))
+    (sym (k .0), λ e. painted-into _ _ _ _ _ (λ x y. shows-fault _ _ _ x y (k .1)) (c .flood .ensures e))
 
 returns-2 : tie.Need-returns-2
 returns-2 c =
     let r = c .before .before .before .before .before in
     let k = told-void _ _ (verdict-is r ∙ c .before .before .before .enum-told .given .1) in
-    (sym (k .0), λ e. shown-held _ _ _ _ _ (λ x y. c .before .before .colours .ensures ∙ shows-void _ _ _ x y (k .0) (k .1)) (c .flood2 .ensures e))
+    (sym (k .0), λ e. painted-into _ _ _ _ _ (λ x y. c .before .before .colours .ensures ∙ shows-void _ _ _ x y (k .0) (k .1)) (c .flood2 .ensures e))
 
 returns-3 : tie.Need-returns-3
 returns-3 c =
     let r = c .before .before .before .before in
     let v = c .before .before .enum-told2 .given .1 in
     let k = told-coded _ _ (verdict-is r ∙ v) in
-    (sym (k .0), λ e. shown-held _ _ _ _ _ (λ x y. shows-coded _ _ _ x y (k .0) (k .1) _ (header-is r v)) (c .paint-coded .ensures e))
+    (sym (k .0), λ e. painted-into _ _ _ _ _ (λ x y. shows-coded _ _ _ x y (k .0) (k .1) _ (header-is r v)) (c .paint-coded .ensures e))
 
 pub decode-halves-spec : {M : Type 1} → statement M
 decode-halves-spec =

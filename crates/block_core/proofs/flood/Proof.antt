@@ -3,14 +3,14 @@ use Prim.Native.Nat.{ℕ, _-_, _+_, _*_, _≤_}
 use native.Mathlib.Omega.{arith}
 use borrow.Author.Needs.{needs}
 use lib.ListN.{length}
-use Rattle.footprint.specs.Footprint.{widthOf}
+use Rattle.footprint.specs.Footprint.{widthOf, texelsOf}
 use Rattle.footprint.proofs.Laws.{texels-le}
-use Rattle.block_core.proofs.Painting.{Laid, laid-more, laid-none, laid-shown}
+use Rattle.block_core.proofs.Painting.{Laid, laid-more, laid-none, laid-done}
 use Rattle.block_core.proofs.flood.Statement.{statement}
 use Rattle.block_core.proofs.flood.Tie as tie
 
 abbrev Inv-loop : tie.InvT-loop
-Inv-loop t fp out₀ count i₀ out i = (i ≤ count) × (length out₀ ≡ 576 → Laid (widthOf fp) (λ x y. t) out (4 * i))
+Inv-loop t fp out₀ count i₀ out i = (i ≤ count) × (length out₀ ≡ 576 → Laid (widthOf fp) (λ x y. t) out₀ out (4 * i))
 
 abbrev μ-loop : tie.MeasureT-loop
 μ-loop t fp out₀ count i₀ out i = count - i
@@ -25,7 +25,7 @@ cast-count : tie.Need-cast-count Inv-loop μ-loop
 cast-count c = omega arith
 
 loop-holds : tie.Need-loop-holds Inv-loop μ-loop
-loop-holds c = (omega arith, laid-none _ _ _)
+loop-holds c = (omega arith, λ e. laid-none _ _ _ (omega arith))
 
 mul-put : tie.Need-mul-put Inv-loop μ-loop
 mul-put c = omega arith
@@ -41,12 +41,13 @@ loop-less c = omega arith
 
 loop-again : tie.Need-loop-again Inv-loop μ-loop
 loop-again c =
-    (omega arith, λ e. rw (c .put .ensures) (laid-more _ (λ x y. c .before .before .before .before .before .args .t) (c .before .before .before .loop .out) (c .before .before .before .loop .i) (few (c .before .before)) refl (c .before .before .before .loop .inv .1 e)))
+    (omega arith, λ e. rw (c .put .ensures) (laid-more _ (λ x y. c .before .before .before .before .before .args .t) _ (c .before .before .before .loop .out) (c .before .before .before .loop .i) e (few (c .before .before)) refl (c .before .before .before .loop .inv .1 e)))
 
 returns : tie.Need-returns Inv-loop μ-loop
 returns c =
     let z : c .before .loop .i ≡ c .before .before .texels .result = omega arith in
-    λ e. laid-shown (c .before .before .before .args .fp) _ _ (c .before .loop .i) (z ∙ c .before .before .texels .ensures) (c .before .loop .inv .1 e)
+    let q = c .before .before .texels .ensures in
+    λ e. laid-done (widthOf (c .before .before .before .args .fp)) _ _ _ (texelsOf (c .before .before .before .args .fp)) (omega (arith, z, q)) (c .before .loop .inv .1 e)
 
 pub flood-spec : {M : Type 1} → statement M
 flood-spec =

@@ -1,6 +1,6 @@
 use mathlib.Core.Path.{_≡_}
 use borrow.Author.Needs.{needs}
-use Rattle.block_core.specs.Prepared.{frameOf}
+use Rattle.block_core.specs.inner.Prepared.{frameOf}
 use Rattle.block_core.proofs.frame_of.Statement.{statement}
 use Rattle.block_core.proofs.frame_of.Tie as tie
 

@@ -13,7 +13,7 @@ unfolding tab tabFrom
 returns c = rw (eq-eqb _ _ (c .if1 .taken))
 
 returns-2 : tie.Need-returns-2
-returns-2 c = rw (ne-eqb _ _ (c .before .if1 .left)) (c .partition-row .ensures)
+returns-2 c = rw (ne-eqb _ _ (c .before .if1 .left)) (c .partition-row .ensures .0)
 
 pub row-partitions-spec : {M : Type 1} → statement M
 row-partitions-spec = tie.close (tie.spec partition-row-requires returns returns-2)

@@ -1,6 +1,6 @@
 use borrow.Author.Tests.{eq-eqb, ne-eqb}
 use borrow.Author.Needs.{needs}
-use Rattle.image_layout.proofs.Tallies.{noted}
+use Rattle.image_layout.specs.inner.Noted.{noted}
 use Rattle.image.proofs.note.Statement.{statement}
 use Rattle.image.proofs.note.Tie as tie
 

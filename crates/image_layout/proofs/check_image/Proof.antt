@@ -3,7 +3,7 @@ use mathlib.Core.Path.{_≡_, sym, _∙_, subst}
 use Prim.Native.Nat.{_≤_}
 use native.Mathlib.Omega.{arith}
 use borrow.Author.Needs.{needs}
-use Rattle.image_layout.specs.Call.{badSide}
+use Rattle.image_size.specs.Sides.{badSide}
 use Rattle.image_layout.proofs.Calls.{Sound, sound, Sizes, sizes, refused-1, refused-3w, refused-3h, checked-rejected, wrong-bytes, wrong-places, right}
 use Rattle.image_layout.proofs.check_image.Statement.{statement}
 use Rattle.image_layout.proofs.check_image.Tie as tie

@@ -4,7 +4,7 @@ use mathlib.Core.List.{[], _∷_}
 use Prim.Native.Nat.{ℕ}
 use Rattle.endpoint_arithmetic.specs.declared.EndpointPair.{EndpointPair}
 use Rattle.interpolation.specs.declared.Kind.{Kind}
-use Rattle.interpolation.specs.Line.{lowOf, addOf, startOf, slopeOf, lineOf}
+use Rattle.interpolation.specs.inner.Line.{lowOf, addOf, startOf, slopeOf, lineOf}
 use borrow.Author.Needs.{needs}
 use Rattle.interpolation.proofs.line_of.Statement.{statement}
 use Rattle.interpolation.proofs.line_of.Tie as tie

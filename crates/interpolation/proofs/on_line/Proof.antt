@@ -1,7 +1,7 @@
 -- `interpolation::on_line` meets its contract.
 use mathlib.Core.Path.{_≡_}
 use Prim.Native.Nat.{ℕ, _/_}
-use Rattle.interpolation.specs.Line.{times, plus, onLine}
+use Rattle.interpolation.specs.inner.Line.{times, plus, onLine}
 use borrow.Author.Needs.{needs}
 use Rattle.interpolation.proofs.on_line.Statement.{statement}
 use Rattle.interpolation.proofs.on_line.Tie as tie

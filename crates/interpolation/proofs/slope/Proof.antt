@@ -2,7 +2,7 @@
 use mathlib.Core.Path.{_≡_}
 use Prim.Native.Nat.{ℕ, _+_, _%_, _^_, _<_, _≤_}
 use native.Mathlib.Omega.{arith}
-use Rattle.interpolation.specs.Line.{minus}
+use Rattle.interpolation.specs.inner.Line.{minus}
 use borrow.Author.Needs.{needs}
 use Rattle.interpolation.proofs.slope.Statement.{statement}
 use Rattle.interpolation.proofs.slope.Tie as tie

@@ -6,7 +6,7 @@ use lib.Dec.{eqb}
 use lib.ListN.{getD}
 use Rattle.laws.specs.Choice.{pick}
 use Rattle.interpolation.specs.declared.Texel.{Texel}
-use Rattle.interpolation.specs.Line.{onLine, lineChannel, lineTexel}
+use Rattle.interpolation.specs.inner.Line.{onLine, lineChannel, lineTexel}
 use borrow.Author.Needs.{needs}
 use Rattle.interpolation.proofs.texel_on.Statement.{statement}
 use Rattle.interpolation.proofs.texel_on.Tie as tie

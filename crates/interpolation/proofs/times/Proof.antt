@@ -3,7 +3,7 @@ use Prim.Native.Nat.{_*_, _≤_}
 use native.Mathlib.Nat.{mul-le-mul}
 use native.Mathlib.Omega.{arith}
 use mathlib.Core.Path.{refl}
-use Rattle.interpolation.specs.Line.{times}
+use Rattle.interpolation.specs.inner.Line.{times}
 use borrow.Author.Needs.{needs}
 use Rattle.interpolation.proofs.times.Statement.{statement}
 use Rattle.interpolation.proofs.times.Tie as tie

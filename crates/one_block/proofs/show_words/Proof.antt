@@ -9,7 +9,7 @@ use Rattle.interpolation.specs.declared.Kind.the-variants.{Unorm16}
 use Rattle.one_block.specs.declared.Answer.the-variants.{Refused}
 use Rattle.bits.proofs.Blocks.{Bytes}
 use Rattle.one_block.specs.Calls.{blockRefusal, answerFor}
-use Rattle.one_block.proofs.Laws.{refused, untouched, told, copied, fits-in}
+use Rattle.one_block.proofs.Laws.{refused, untouched, told, promised, copied, fits-in}
 use Rattle.one_block.proofs.show_words.Statement.{statement}
 use Rattle.one_block.proofs.show_words.Tie as tie
 
@@ -17,7 +17,7 @@ returns : tie.Need-returns
 returns c =
     let st = c .before .before .before .args in
     let h : blockRefusal (st .fp) (length (now (st .block))) (length (now (st .out))) ≡ 0 → ⊥ = λ q. c .if1 .taken (c .before .before .before .pre ∙ q) in
-    (ap Refused (c .before .before .before .pre) ∙ refused (st .fp) (now (st .block)) (now (st .out)) h, untouched (st .fp) (now (st .block)) (now (st .out)) h Unorm16)
+    promised Unorm16 (st .fp) (now (st .block)) (now (st .out)) _ _ (ap Refused (c .before .before .before .pre) ∙ refused (st .fp) (now (st .block)) (now (st .out)) h) (untouched (st .fp) (now (st .block)) (now (st .out)) h Unorm16)
 
 load-requires : tie.Need-load-requires
 load-requires c κs = search needs
@@ -45,11 +45,11 @@ returns-2 c =
     let bytes : Bytes (now (st .block)) = λ i. l .before .before .before .shared-slice-known .given i .fits in
     let e = none (l .before) in
     let s = now (st .block) in
-    let old = now (st .out) in (
-      c .answer-for .ensures ∙ ap answerFor (d .decode-into .ensures .0) ∙ told (st .fp) s old bytes _ (l .load .ensures) e,
-      c .before .before .before .copy-words .ensures
-          ∙ copied (st .fp) s old bytes _ (l .load .ensures) e Unorm16 _ (λ x. x) (λ x. refl) (d .decode-into .ensures .1 refl),
-    )
+    let old = now (st .out) in
+    promised Unorm16 (st .fp) s old _ _
+    (c .answer-for .ensures ∙ ap answerFor (d .decode-into .ensures .0) ∙ told (st .fp) s old bytes _ (l .load .ensures) e)
+    (c .before .before .before .copy-words .ensures
+    ∙ copied (st .fp) s old bytes _ (l .load .ensures) e Unorm16 _ (λ x. x) (λ x. refl) _ refl (d .decode-into .ensures .1 refl))
 
 pub show-words-spec : {M : Type 1} → statement M
 show-words-spec =

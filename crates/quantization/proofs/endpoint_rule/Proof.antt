@@ -6,7 +6,7 @@ use native.Mathlib.Decide.{decLt}
 use native.Mathlib.Omega.{arith}
 use lib.Dec.{ltb, ltb→lt}
 use Rattle.laws.specs.Table.{tab}
-use Rattle.quantization.specs.Products.{byRule}
+use Rattle.quantization.specs.inner.Products.{byRule}
 use Rattle.quantization.specs.Unquantise.{unquantEndpoint}
 use Rattle.quantization.proofs.Arms.{rest}
 use Rattle.quantization.proofs.Levels.{right, no-endpoint-low, no-endpoint-high}

@@ -3,7 +3,7 @@ use native.Mathlib.Nat.{mul-le-mul}
 use native.Mathlib.Omega.{arith}
 use lib.Bits.{bitXor, xor-lt}
 use borrow.Author.Tests.{lt-ltb, le-ltb}
-use Rattle.quantization.specs.Products.{byRule}
+use Rattle.quantization.specs.inner.Products.{byRule}
 use borrow.Author.Needs.{needs}
 use Rattle.quantization.proofs.unquantize.Statement.{statement}
 use Rattle.quantization.proofs.unquantize.Tie as tie

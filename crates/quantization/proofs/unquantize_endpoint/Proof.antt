@@ -1,5 +1,5 @@
 use mathlib.Core.Path.{_∙_}
-use Rattle.quantization.specs.Products.{Right}
+use Rattle.quantization.specs.inner.Products.{Right}
 use borrow.Author.Needs.{needs}
 use Rattle.quantization.proofs.unquantize_endpoint.Statement.{statement}
 use Rattle.quantization.proofs.unquantize_endpoint.Tie as tie

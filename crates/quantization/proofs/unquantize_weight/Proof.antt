@@ -1,5 +1,5 @@
 use mathlib.Core.Path.{_∙_}
-use Rattle.quantization.specs.Words.{RightWords}
+use Rattle.quantization.specs.inner.Words.{RightWords}
 use borrow.Author.Needs.{needs}
 use Rattle.quantization.proofs.unquantize_weight.Statement.{statement}
 use Rattle.quantization.proofs.unquantize_weight.Tie as tie

@@ -8,7 +8,7 @@ use lib.ListN.{getD}
 use denote.Ref.{now}
 use borrow.Author.Tests.{le-ltb}
 use Rattle.laws.specs.Choice.{pick}
-use Rattle.quantization.specs.Words.{byWords}
+use Rattle.quantization.specs.inner.Words.{byWords}
 use borrow.Author.Needs.{needs}
 use Rattle.quantization.proofs.weight_by.Statement.{statement}
 use Rattle.quantization.proofs.weight_by.Tie as tie

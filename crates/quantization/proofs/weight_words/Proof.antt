@@ -6,7 +6,7 @@ use Prim.Native.Nat.{ℕ}
 use native.Mathlib.Decide.{decLt}
 use native.Mathlib.Omega.{arith}
 use Rattle.laws.specs.Table.{tab}
-use Rattle.quantization.specs.Words.{byWords}
+use Rattle.quantization.specs.inner.Words.{byWords}
 use Rattle.quantization.specs.Unquantise.{unquantWeight}
 use Rattle.quantization.proofs.Arms.{rest}
 use Rattle.quantization.proofs.Levels.{right-words, no-words}

@@ -38,9 +38,9 @@ returns c =
     let old = now (a .out) in
     let old2 = now (a .again) in
     let e = four-together (a .fp) block (length old) (length old2) _ _ _ _
-    (r .read-symbolic .ensures) (w .write-symbolic .ensures) (d .decode-srgb8 .ensures .0) (d2 .decode-srgb82 .ensures .0) in
-    let f = d .decode-srgb8 .ensures .1 in
-    let g = d2 .decode-srgb82 .ensures .1 in
+    (r .read-symbolic .ensures .0) (w .write-symbolic .ensures .0) (d .decode-srgb8 .ensures .0) (d2 .decode-srgb82 .ensures .0) in
+    let f = d .decode-srgb8 .ensures .1 .0 in
+    let g = d2 .decode-srgb82 .ensures .1 .0 in
     (e, (f, (g, λ h. rewritten Srgb8 (a .fp) block old old2 _ _ h _ e f g)))
 
 pub rewrite-srgb8-spec : {M : Type 1} → statement M

@@ -43,8 +43,8 @@ returns c =
     let fp = z .args .fp in
     let s = z .args .s in
     let old = now (z .args .out) in
-    let e = together fp s (length old) _ _ _ (w .write-symbolic .ensures) (r .read-symbolic .ensures) (d .decode-srgb8 .ensures .0) in
-    (e, (d .decode-srgb8 .ensures .1, demanded Srgb8 fp s (sized z) old _ _ e (d .decode-srgb8 .ensures .1)))
+    let e = together fp s (length old) _ _ _ (w .write-symbolic .ensures .0) (r .read-symbolic .ensures .0) (d .decode-srgb8 .ensures .0) in
+    (e, (d .decode-srgb8 .ensures .1 .0, demanded Srgb8 fp s (sized z) old _ _ e (d .decode-srgb8 .ensures .1 .0)))
 
 pub round-trip-srgb8-spec : {M : Type 1} → statement M
 round-trip-srgb8-spec =

@@ -43,8 +43,8 @@ returns c =
     let fp = z .args .fp in
     let s = z .args .s in
     let old = now (z .args .out) in
-    let e = together fp s (length old) _ _ _ (w .write-symbolic .ensures) (r .read-symbolic .ensures) (d .decode-unorm16 .ensures .0) in
-    (e, (d .decode-unorm16 .ensures .1, demanded Unorm16 fp s (sized z) old _ _ e (d .decode-unorm16 .ensures .1)))
+    let e = together fp s (length old) _ _ _ (w .write-symbolic .ensures .0) (r .read-symbolic .ensures .0) (d .decode-unorm16 .ensures .0) in
+    (e, (d .decode-unorm16 .ensures .1 .0, demanded Unorm16 fp s (sized z) old _ _ e (d .decode-unorm16 .ensures .1 .0)))
 
 pub round-trip-unorm16-spec : {M : Type 1} → statement M
 round-trip-unorm16-spec =

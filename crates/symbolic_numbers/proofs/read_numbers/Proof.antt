@@ -20,7 +20,7 @@ returns c =
     let st = c .before .before .before .before .before .args in
     let h = c .before .if1 .taken in (
       c .refused-or-5 .ensures
-          ∙ ap (λ (r : Reading). refusedOr5 (r .answer)) (c .before .before .read-symbolic .ensures)
+          ∙ ap (λ (r : Reading). refusedOr5 (r .answer)) (c .before .before .read-symbolic .ensures .0)
           ∙ number-5 (st .footprint) (now (st .block)) (now (st .numbers)) h,
       numbers-kept (st .footprint) (now (st .block)) (now (st .numbers)) h,
     )
@@ -39,7 +39,7 @@ returns-2 c =
     let p = c .before .before .before in
     let st = p .before .before .before .before .before .before .args in
     let e = p .before .before .if1 .left in
-    let r = p .before .before .before .read-symbolic .ensures in (
+    let r = p .before .before .before .read-symbolic .ensures .0 in (
       c .number-told .ensures
           ∙ ap (λ (r : Reading). numberTold (r .answer)) r
           ∙ number-read (st .footprint) (now (st .block)) (now (st .numbers)) e,

@@ -3,7 +3,7 @@ use mathlib.Core.Path.{sym, ap, _∙_}
 use Prim.Native.Nat.{ℕ}
 use Rattle.laws.specs.Table.{tab, tabFrom}
 use Rattle.symbolic_block.specs.Refusals.{refusalOf}
-use Rattle.symbolic_refusal.specs.Stages.{orElse}
+use Rattle.symbolic_refusal.specs.inner.Stages.{orElse}
 use Rattle.symbolic_calls.specs.Writing.{wroteNothing, writingOf}
 use Rattle.symbolic_numbers.specs.Numbers.{blockFrom}
 use Rattle.symbolic_numbers.proofs.Clip.{written-clipped, refused-clipped}
@@ -26,7 +26,7 @@ returns c =
     let e = c .before .before in
     let a = e .before .before .before .args in
     let ns = now (a .numbers) in
-    c .write-symbolic .ensures
+    c .write-symbolic .ensures .0
     ∙ ap (writingOf (a .footprint)) (e .before .block-from .ensures ∙ from-clipped ns)
     ∙ written-clipped (a .footprint) (blockFrom ns) (from-sized ns) (sym (from-fits ns) ∙ sym (e .endpoints-fit .ensures) ∙ c .before .if1 .taken)
 

@@ -1,5 +1,5 @@
 use Rattle.symbolic_block.specs.Refusals.{badMark}
-use Rattle.symbolic_refusal.specs.Stages.{badFields}
+use Rattle.symbolic_refusal.specs.inner.Stages.{badFields}
 use borrow.Author.Needs.{needs}
 use Rattle.symbolic_refusal.proofs.bad_fields.Statement.{statement}
 use Rattle.symbolic_refusal.proofs.bad_fields.Tie as tie

@@ -1,5 +1,5 @@
 use Rattle.symbolic_block.specs.Refusals.{badWidth, badHeight, badRange, badPlanes}
-use Rattle.symbolic_refusal.specs.Stages.{badGrid}
+use Rattle.symbolic_refusal.specs.inner.Stages.{badGrid}
 use borrow.Author.Needs.{needs}
 use Rattle.symbolic_refusal.proofs.bad_grid.Statement.{statement}
 use Rattle.symbolic_refusal.proofs.bad_grid.Tie as tie

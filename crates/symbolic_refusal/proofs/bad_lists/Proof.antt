@@ -1,5 +1,5 @@
 use Rattle.symbolic_block.specs.Refusals.{badModes, someInUse}
-use Rattle.symbolic_refusal.specs.Stages.{badLists}
+use Rattle.symbolic_refusal.specs.inner.Stages.{badLists}
 use borrow.Author.Needs.{needs}
 use Rattle.symbolic_refusal.proofs.bad_lists.Statement.{statement}
 use Rattle.symbolic_refusal.proofs.bad_lists.Tie as tie

@@ -1,5 +1,5 @@
 use Rattle.symbolic_block.specs.Refusals.{badPartitions}
-use Rattle.symbolic_refusal.specs.Stages.{badPartitioning}
+use Rattle.symbolic_refusal.specs.inner.Stages.{badPartitioning}
 use borrow.Author.Needs.{needs}
 use Rattle.symbolic_refusal.proofs.bad_partitioning.Statement.{statement}
 use Rattle.symbolic_refusal.proofs.bad_partitioning.Tie as tie

@@ -1,5 +1,5 @@
 use Rattle.symbolic_block.specs.Refusals.{badColours, badExtentFields}
-use Rattle.symbolic_refusal.specs.Stages.{badShown}
+use Rattle.symbolic_refusal.specs.inner.Stages.{badShown}
 use borrow.Author.Needs.{needs}
 use Rattle.symbolic_refusal.proofs.bad_shown.Statement.{statement}
 use Rattle.symbolic_refusal.proofs.bad_shown.Tie as tie

@@ -1,4 +1,4 @@
-use Rattle.symbolic_refusal.specs.Stages.{badVoidFields}
+use Rattle.symbolic_refusal.specs.inner.Stages.{badVoidFields}
 use borrow.Author.Needs.{needs}
 use Rattle.symbolic_refusal.proofs.bad_void_fields.Statement.{statement}
 use Rattle.symbolic_refusal.proofs.bad_void_fields.Tie as tie

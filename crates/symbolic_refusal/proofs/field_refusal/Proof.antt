@@ -1,6 +1,6 @@
 use Rattle.symbolic_block.specs.Fields.{gridOf}
 use Rattle.symbolic_block.specs.Refusals.{unknownFootprint, noBlockMode}
-use Rattle.symbolic_refusal.specs.Stages.{badFields, fieldReasons}
+use Rattle.symbolic_refusal.specs.inner.Stages.{badFields, fieldReasons}
 use Rattle.symbolic_refusal.proofs.Laws.{three}
 use borrow.Author.Needs.{needs}
 use Rattle.symbolic_refusal.proofs.field_refusal.Statement.{statement}

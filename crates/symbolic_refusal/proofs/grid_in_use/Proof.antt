@@ -1,4 +1,4 @@
-use Rattle.symbolic_refusal.specs.Stages.{gridInUse}
+use Rattle.symbolic_refusal.specs.inner.Stages.{gridInUse}
 use borrow.Author.Needs.{needs}
 use Rattle.symbolic_refusal.proofs.grid_in_use.Statement.{statement}
 use Rattle.symbolic_refusal.proofs.grid_in_use.Tie as tie

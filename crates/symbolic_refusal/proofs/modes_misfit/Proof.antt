@@ -2,7 +2,7 @@ use mathlib.Core.Path.{_≡_, refl}
 use Prim.Native.Nat.{_-_, _≤_}
 use native.Mathlib.Numerals.{add-one}
 use lib.ListN.{getD}
-use Rattle.block_header.specs.Reasons.{some}
+use Rattle.laws.specs.Reasons.{some}
 use Rattle.symbolic_block.specs.Refusals.{misfit, modesMisfit}
 use borrow.Author.Needs.{needs}
 use native.Mathlib.Omega.{arith}

@@ -1,5 +1,5 @@
 use Rattle.symbolic_block.specs.Refusals.{someInUse}
-use Rattle.symbolic_refusal.specs.Stages.{numbersInUse}
+use Rattle.symbolic_refusal.specs.inner.Stages.{numbersInUse}
 use borrow.Author.Needs.{needs}
 use Rattle.symbolic_refusal.proofs.numbers_in_use.Statement.{statement}
 use Rattle.symbolic_refusal.proofs.numbers_in_use.Tie as tie

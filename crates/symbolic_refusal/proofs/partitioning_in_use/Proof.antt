@@ -1,4 +1,4 @@
-use Rattle.symbolic_refusal.specs.Stages.{partitioningInUse}
+use Rattle.symbolic_refusal.specs.inner.Stages.{partitioningInUse}
 use borrow.Author.Needs.{needs}
 use Rattle.symbolic_refusal.proofs.partitioning_in_use.Statement.{statement}
 use Rattle.symbolic_refusal.proofs.partitioning_in_use.Tie as tie

@@ -1,5 +1,5 @@
 use mathlib.Core.Path.{sym, ap, _∙_}
-use Rattle.block_header.specs.Reasons.{firstOf}
+use Rattle.laws.specs.Reasons.{firstOf}
 use Rattle.symbolic_block.proofs.Opened.{refusal-is, refusals-void, refusals-mode}
 use borrow.Author.Needs.{needs}
 use Rattle.symbolic_refusal.proofs.refusal.Statement.{statement}

@@ -2,7 +2,7 @@ use mathlib.Core.Path.{_∙_}
 use Rattle.block_fault.specs.Faults.{badExtents}
 use Rattle.symbolic_block.specs.Fields.{extentIn}
 use Rattle.symbolic_block.specs.Refusals.{unknownFootprint}
-use Rattle.symbolic_refusal.specs.Stages.{badVoidFields, voidStages}
+use Rattle.symbolic_refusal.specs.inner.Stages.{badVoidFields, voidStages}
 use Rattle.symbolic_refusal.proofs.Laws.{three, void-stages}
 use borrow.Author.Needs.{needs}
 use Rattle.symbolic_refusal.proofs.void_refusal.Statement.{statement}

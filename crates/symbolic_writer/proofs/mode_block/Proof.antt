@@ -4,7 +4,7 @@ use Prim.Native.Nat.{ℕ, _-_, _/_}
 use Rattle.block_header.specs.declared.Header.{Header}
 use Rattle.block_header.specs.Counts.{weightBits, extraBits}
 use Rattle.symbolic_block.specs.Writing.{modesCode, endpointsEnd, componentFrom, modeCells}
-use Rattle.symbolic_writer.specs.Piled.{piled}
+use Rattle.symbolic_writer.specs.inner.Piled.{piled}
 use Rattle.symbolic_writer.proofs.Piled.{placed, appended}
 use Rattle.symbolic_writer.proofs.mode_block.Statement.{statement}
 use Rattle.symbolic_writer.proofs.mode_block.Tie as tie

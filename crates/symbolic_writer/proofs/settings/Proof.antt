@@ -3,7 +3,7 @@ use Prim.Native.Nat.{ℕ, _+_, _-_, _%_}
 use Rattle.block_mode.specs.declared.WeightGrid.{WeightGrid}
 use Rattle.block_mode.specs.Back2D.{modeBits}
 use Rattle.symbolic_block.specs.Writing.{modeNumber, modesCode, modeCells}
-use Rattle.symbolic_writer.specs.Piled.{piled}
+use Rattle.symbolic_writer.specs.inner.Piled.{piled}
 use Rattle.symbolic_writer.proofs.Piled.{appended}
 use borrow.Author.Needs.{needs}
 use Rattle.symbolic_writer.proofs.settings.Statement.{statement}

@@ -3,7 +3,7 @@ use Rattle.bits.specs.Block.{blockNumber}
 use mathlib.Core.Path.{refl}
 use Rattle.symbolic_writer.proofs.Piled.{appended}
 use Rattle.symbolic_block.specs.Writing.{voidCells}
-use Rattle.symbolic_writer.specs.Piled.{withValue, piled}
+use Rattle.symbolic_writer.specs.inner.Piled.{withValue, piled}
 use borrow.Author.Needs.{needs}
 use Rattle.symbolic_writer.proofs.void_block.Statement.{statement}
 use Rattle.symbolic_writer.proofs.void_block.Tie as tie

@@ -1,0 +1,55 @@
+-- The texel of a block whose weights and endpoints are unquantised, its points packed, its pairs made lines and its partition seeds made:
+-- what is left to do for each texel.
+-- Assumes nothing.
+use Prim.Native.Nat.{ℕ, _-_, _*_, _≤_, _<_}
+use mathlib.Core.List.{List, []}
+use lib.Dec.{eqb}
+use lib.ListN.{getD}
+use Rattle.laws.specs.Choice.{pick}
+use Rattle.bits.specs.declared.PhysicalBlock.{PhysicalBlock}
+use Rattle.footprint.specs.Footprint.{widthOf, heightOf}
+use Rattle.block_mode.specs.declared.WeightGrid.{WeightGrid}
+use Rattle.block_mode.specs.Back2D.{Limits}
+use Rattle.block_header.specs.Counts.{weightCount}
+use Rattle.partition.specs.declared.Seeds.{Seeds}
+use Rattle.partition.specs.inner.Seeds.{selectBy}
+use Rattle.weight_grid.specs.Place.{scaleOf, gridPlace}
+use Rattle.encoding.specs.declared.LevelPair.{LevelPair}
+use Rattle.encoding.specs.Levels.{firstLevel, secondLevel, Bytes}
+use Rattle.weight_grid.specs.inner.Points.{noPoint, readOf}
+use Rattle.interpolation.specs.declared.Texel.{Texel}
+use Rattle.interpolation.specs.inner.Line.{lineTexel}
+use Rattle.block_core.specs.declared.Frame.{Frame}
+
+-- the sides of a footprint and the scales of a grid along them
+unfoldable pub frameOf : ℕ → Frame
+frameOf fp = record { width = widthOf fp; height = heightOf fp; across = scaleOf (widthOf fp); down = scaleOf (heightOf fp) }
+
+module _ (g : WeightGrid) (component : ℕ) (points : List LevelPair) (lines : List (List ℕ)) where
+  -- the texel of partition p at gs, gt of the grid; `component` takes the second weight, 4 standing for none
+  unfoldable pub texelAt : ℕ → ℕ → ℕ → Texel
+  texelAt p gs gt =
+      lineTexel (getD lines p []) (readOf firstLevel points (g .width) (g .height) gs gt) (readOf secondLevel points (g .width) (g .height) gs gt) component
+
+  -- the texel at x, y of a block
+  unfoldable pub texelIn : Seeds → ℕ → Frame → ℕ → ℕ → Texel
+  unfolding texelAt
+  texelIn seeds partitions f x y =
+      texelAt (pick (eqb partitions 1) 0 (selectBy seeds x y)) (gridPlace (f .across) x (g .width)) (gridPlace (f .down) y (g .height))
+
+-- the levels of each point are bytes
+abbrev pub ByteLevels : List LevelPair → Type 0
+ByteLevels points = (k : ℕ) → Bytes (getD points k noPoint)
+
+-- a block of two halves
+abbrev pub halves : ℕ → ℕ → PhysicalBlock
+halves lo hi = record { lo = lo; hi = hi }
+
+-- no place of the block lies past the grid's last point, and there is room for its weights and its texels
+pub record Inside (g : WeightGrid) (f : Frame) : Type 0 where
+  pub columns : (x : ℕ) → x < f .width → gridPlace (f .across) x (g .width) ≤ 16 * (g .width - 1)
+  pub rows : (y : ℕ) → y < f .height → gridPlace (f .down) y (g .height) ≤ 16 * (g .height - 1)
+  pub limits : Limits g
+  pub count : weightCount g ≤ 64
+  pub width-most : f .width ≤ 12
+  pub height-most : f .height ≤ 12

@@ -1,0 +1,28 @@
+-- The stages of reading a block's settings.
+-- Assumes nothing.
+use Prim.Native.Nat.{ℕ}
+use lib.Dec.{eqb}
+use Rattle.laws.specs.Choice.{pick}
+use Rattle.laws.specs.Reasons.{firstOf}
+use Rattle.block_header.specs.declared.Stage.{Stage}
+use Rattle.block_header.specs.declared.Stage.the-variants.{Passed, Stopped}
+use Rattle.block_fault.specs.declared.Verdict.{Verdict}
+use Rattle.block_fault.specs.declared.Verdict.the-variants.{Coded, VoidExtent, Fault}
+use Rattle.block_fault.specs.declared.Settings.{Settings}
+use Rattle.block_fault.specs.Faults.{voidReasons}
+use Rattle.block_fault.specs.Settings.{bareOf}
+
+-- what a stage that stops makes of a block
+abbrev pub verdictFrom : Stage → Verdict
+verdictFrom Passed = Coded
+verdictFrom (Stopped n) = Fault n
+
+-- the stage of a block whose settings are read: its fault, if it has one
+abbrev pub stageIn : Verdict → Stage
+stageIn Coded = Passed
+stageIn VoidExtent = Passed
+stageIn (Fault n) = Stopped n
+
+-- what a void extent comes to
+unfoldable pub voidSettings : ℕ → Settings
+voidSettings B = bareOf (pick (eqb (firstOf (voidReasons B)) 0) VoidExtent (Fault (firstOf (voidReasons B))))

@@ -1,0 +1,85 @@
+use mathlib.Core.Path.{_≡_, refl, sym, ap, _∙_}
+use Prim.Native.Nat.{ℕ, _-_, _≤_}
+use native.Mathlib.Omega.{arith}
+use lib.ListN.{getD}
+use Rattle.laws.specs.Table.{tab, padded}
+use Rattle.laws.proofs.Filling.{padded-none, padded-more}
+use Rattle.endpoint_arithmetic.specs.Pair.{zeroPair}
+use Rattle.interpolation.specs.Expansion.{noPair}
+use Rattle.interpolation.specs.inner.Line.{lineOf}
+use borrow.Author.Needs.{needs}
+use Rattle.block_levels.proofs.pair_lines.Statement.{statement}
+use Rattle.block_levels.proofs.pair_lines.Tie as tie
+
+abbrev Inv-loop : tie.InvT-loop
+Inv-loop kind n t out₀ p₀ out p = (p ≤ n) × (out ≡ padded 4 p (λ k. lineOf kind (getD t k noPair)) (lineOf kind zeroPair))
+
+abbrev μ-loop : tie.MeasureT-loop
+μ-loop kind n t out₀ p₀ out p = n - p
+
+zero-pair-requires : tie.Need-zero-pair-requires Inv-loop μ-loop
+zero-pair-requires c κs = search needs
+
+line-of-requires : tie.Need-line-of-requires Inv-loop μ-loop
+line-of-requires c κs = search needs
+
+loop-holds : tie.Need-loop-holds Inv-loop μ-loop
+unfolding tab
+loop-holds c = (omega arith, rw (c .line-of .ensures, c .before .zero-pair .ensures) (sym (padded-none (λ k. lineOf (c .before .before .args .kind) (getD (c .before .before .args .t2) k noPair)) (lineOf (c .before .before .args .kind) zeroPair) 4)))
+
+mul-line-of : tie.Need-mul-line-of Inv-loop μ-loop
+mul-line-of c = search needs
+
+array-copy-out-line-of : tie.Need-array-copy-out-line-of Inv-loop μ-loop
+array-copy-out-line-of c = omega (arith, c .loop-test .taken, c .before .before .before .before .pre)
+
+line-of-requires-2 : tie.Need-line-of-requires-2 Inv-loop μ-loop
+line-of-requires-2 c κs = search needs
+
+mul-out : tie.Need-mul-out Inv-loop μ-loop
+mul-out c = search needs
+
+array-set-from-out : tie.Need-array-set-from-out Inv-loop μ-loop
+array-set-from-out c = omega (arith, c .before .before .loop-test .taken, c .before .before .before .before .before .before .pre)
+
+add-p : tie.Need-add-p Inv-loop μ-loop
+add-p c = omega (arith, c .before .before .loop-test .taken)
+
+loop-less : tie.Need-loop-less Inv-loop μ-loop
+loop-less c = omega (arith, c .before .before .loop-test .taken)
+
+loop-again : tie.Need-loop-again Inv-loop μ-loop
+loop-again c =
+    let q = c .before .before in
+    let l = q .before .loop in
+    let s = q .before .before .before .before in (
+      omega (arith, q .loop-test .taken),
+      rw (l .inv .1)
+          (padded-more (λ k. lineOf (s .args .kind) (getD (s .args .t2) k noPair)) (lineOf (s .args .kind) zeroPair) 4 (l .p) _ (omega (arith, q .loop-test .taken, s .pre)) (c .line-of2 .ensures)),
+    )
+
+returns : tie.Need-returns Inv-loop μ-loop
+returns c =
+    let l = c .before .loop in
+    let s = c .before .before .before .before in
+    let e : l .p ≡ s .args .n = omega (arith, c .loop-test .left, l .inv .0) in
+    l .inv .1 ∙ ap (λ (m : ℕ). padded 4 m (λ k. lineOf (s .args .kind) (getD (s .args .t2) k noPair)) (lineOf (s .args .kind) zeroPair)) e
+
+pub pair-lines-spec : {M : Type 1} → statement M
+pair-lines-spec =
+    tie.close
+    (tie.spec
+    Inv-loop
+    μ-loop
+    zero-pair-requires
+    line-of-requires
+    loop-holds
+    mul-line-of
+    array-copy-out-line-of
+    line-of-requires-2
+    mul-out
+    array-set-from-out
+    add-p
+    loop-less
+    loop-again
+    returns)

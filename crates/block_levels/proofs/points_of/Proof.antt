@@ -1,0 +1,63 @@
+use mathlib.Core.Path.{_≡_, ap, _∙_}
+use mathlib.Core.List.{List}
+use Prim.Native.Nat.{_*_}
+use native.Mathlib.Omega.{arith}
+use Rattle.laws.specs.Table.{padded}
+use Rattle.encoding.specs.declared.Level.{Level}
+use Rattle.quantization.specs.Ranges.{encodingAt, bitsAt}
+use Rattle.weight_grid.specs.inner.Points.{noPoint, pointOf, pointsOf}
+use Rattle.block_header.specs.Counts.{weightCount}
+use Rattle.texel.specs.Meaning.{weightLevels}
+use Rattle.block_levels.proofs.Levels.{weights-read, points-le}
+use borrow.Author.Needs.{needs}
+use Rattle.block_levels.proofs.points_of.Statement.{statement}
+use Rattle.block_levels.proofs.points_of.Tie as tie
+
+weight-count-requires : tie.Need-weight-count-requires
+weight-count-requires c κs = search needs
+
+cast-n : tie.Need-cast-n
+cast-n c = search needs
+
+reversed-requires : tie.Need-reversed-requires
+reversed-requires c κs = search needs
+
+read-sequence-requires : tie.Need-read-sequence-requires
+read-sequence-requires c κs = search needs
+
+cast-grid-points : tie.Need-cast-grid-points
+cast-grid-points c = search needs
+
+cast-grid-points-2 : tie.Need-cast-grid-points-2
+cast-grid-points-2 c = search needs
+
+mul-grid-points : tie.Need-mul-grid-points
+mul-grid-points c = let s = c .before .before .before .before .before in omega (arith, points-le (s .args .g) (s .pre .0) (s .pre .1))
+
+grid-points-requires : tie.Need-grid-points-requires
+unfolding weightCount
+grid-points-requires c κs = let s = c .before .before .before .before .before in (s .pre .0 .planes-low, s .pre .1)
+
+returns : tie.Need-returns
+unfolding weightLevels pointsOf
+returns c =
+    let q = c .before .before .before in
+    let a = q .before .before .before .args in
+    let k = a .g .range in
+    let e = q .before .before .weight-count .ensures .0 in
+    rw (← e, ← q .before .reversed .ensures)
+    (c .grid-points .ensures ∙ rw (q .read-sequence .ensures) (ap (λ (l : List Level). padded 64 (a .g .width * a .g .height) (pointOf l (a .g .planes)) noPoint) (weights-read k (encodingAt k) (bitsAt k) _ _)))
+
+pub points-of-spec : {M : Type 1} → statement M
+points-of-spec =
+    tie.close
+    (tie.spec
+    weight-count-requires
+    cast-n
+    reversed-requires
+    read-sequence-requires
+    cast-grid-points
+    cast-grid-points-2
+    mul-grid-points
+    grid-points-requires
+    returns)

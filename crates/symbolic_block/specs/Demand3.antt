@@ -1,0 +1,65 @@
+-- DEMAND 3, over the definitions: for all footprints, symbolic blocks (01: sheets) and blocks. Theorem: proofs/Demand.antt, `demand-3`.
+-- 01, "Words of demand 3".
+-- Assumes nothing.
+use mathlib.Core.Path.{_≡_}
+use mathlib.Core.Logic.{_↔_}
+use mathlib.Core.Bool.{true, false}
+use Prim.Native.Nat.{ℕ, _+_, _-_, _^_, _≤_, _<_}
+use Rattle.laws.specs.Reasons.{reasonAt}
+use Rattle.bits.specs.Field.{field, reverse}
+use Rattle.quantization.specs.Ranges.{encodingAt, bitsAt}
+use Rattle.integer_sequence.specs.Reading.{sequenceAt}
+use Rattle.integer_sequence.specs.Writing.{Smallest}
+use Rattle.interpolation.specs.declared.Kind.{Kind}
+use Rattle.block_header.specs.Counts.{weightCount, weightBits, componentBits, extraBits, endpointCount, endpointRangeOf}
+use Rattle.block_fault.specs.Bits.{modeAt, isVoid, headerAt, endpointsFrom}
+use Rattle.block_fault.specs.Faults.{faultOf}
+use Rattle.texel.specs.BlockTexel.{blockTexel, blockNumberAt}
+use Rattle.symbolic_block.specs.declared.SymbolicBlock.{SymbolicBlock}
+use Rattle.symbolic_block.specs.Fields.{gridOf, headerOf, endpointIn, weightIn, Sized, Typed}
+use Rattle.symbolic_block.specs.Refusals.{refusals, refusalOf, Acceptable}
+use Rattle.symbolic_block.specs.Picture.{pictureOf, pictureNumber}
+use Rattle.symbolic_block.specs.Writing.{endpointsEnd, componentFrom, blockOf}
+use Rattle.symbolic_block.specs.Reading.{readBlock, ReadsAs}
+
+pub record Demand3 : Type 0 where
+  -- "A sheet is acceptable at a footprint when none of its refusals holds there": it is refused exactly when a listed reason holds,
+  pub refused-exactly : (fp : ℕ) (s : SymbolicBlock) → Acceptable fp s ↔ ((i : ℕ) → reasonAt (refusals fp s) i .holds ≡ false)
+  -- and the first is told
+  pub first-is-told : (fp : ℕ) (s : SymbolicBlock) (i : ℕ) → reasonAt (refusals fp s) i .holds ≡ true
+      → ((j : ℕ) → j < i → reasonAt (refusals fp s) j .holds ≡ false) → refusalOf fp s ≡ reasonAt (refusals fp s) i .told
+  -- what is written for an acceptable one is a block without fault
+  pub written-fits : (fp : ℕ) (s : SymbolicBlock) → Sized s → Acceptable fp s → blockOf s < 2 ^ 128
+  pub written-no-fault : (fp : ℕ) (s : SymbolicBlock) → Sized s → Acceptable fp s → faultOf fp (blockOf s) ≡ 0
+  -- that reads back as the same: all fields are equal
+  pub written-reads-back : (fp : ℕ) (s : SymbolicBlock) → Sized s → Acceptable fp s → readBlock (blockOf s) ≡ s
+  -- and shows its picture, in every kind and at every place
+  pub written-shows : (fp : ℕ) (s : SymbolicBlock) → Sized s → Acceptable fp s
+      → (kind : Kind) (x y : ℕ) → blockTexel fp kind (blockOf s) x y ≡ pictureOf fp kind s x y
+  -- so in the numbers that the one-block calls write
+  pub written-shows-numbers : (fp : ℕ) (s : SymbolicBlock) → Sized s → Acceptable fp s
+      → (kind : Kind) (x y c : ℕ) → blockNumberAt fp kind (blockOf s) x y c ≡ pictureNumber fp kind s x y c
+  -- a block without fault reads as one that is acceptable,
+  pub read-sized : (fp B : ℕ) → faultOf fp B ≡ 0 → Sized (readBlock B)
+  pub read-typed : (fp B : ℕ) → fp ≤ 13 → faultOf fp B ≡ 0 → Typed (readBlock B)
+  pub read-acceptable : (fp B : ℕ) → fp ≤ 13 → faultOf fp B ≡ 0 → Acceptable fp (readBlock B)
+  pub reads-as : (fp B : ℕ) → faultOf fp B ≡ 0 → ReadsAs B (readBlock B)
+  -- and as no other
+  pub reads-as-one : (fp B : ℕ) (s : SymbolicBlock) → faultOf fp B ≡ 0 → Sized s → ReadsAs B s → s ≡ readBlock B
+  -- no two parts of such a block share a bit: not the extra mode bits and the low ones either
+  pub parts-apart : (fp B : ℕ) → isVoid (modeAt B) ≡ false → faultOf fp B ≡ 0 → endpointsEnd (headerAt B)
+      + (weightBits (headerAt B .grid) + componentBits (headerAt B .grid .planes) + extraBits (headerAt B .partitions) (headerAt B .selector)) ≤ 128
+  -- what is written for it shows the same
+  pub rewritten-shows : (fp B : ℕ) → fp ≤ 13 → faultOf fp B ≡ 0
+      → (kind : Kind) (x y : ℕ) → blockTexel fp kind (blockOf (readBlock B)) x y ≡ blockTexel fp kind B x y
+  pub rewritten-shows-numbers : (fp B : ℕ) → fp ≤ 13 → faultOf fp B ≡ 0
+      → (kind : Kind) (x y c : ℕ) → blockNumberAt fp kind (blockOf (readBlock B)) x y c ≡ blockNumberAt fp kind B x y c
+  -- "The writer takes the smallest code whose present digits are the wanted ones, and leaves spare bits 0."
+  pub smallest-endpoint-codes : (fp : ℕ) (s : SymbolicBlock) → Sized s → Acceptable fp s → s .mark ≡ 0
+      → Smallest (encodingAt (endpointRangeOf (headerOf s))) (bitsAt (endpointRangeOf (headerOf s))) (endpointCount (headerOf s)) (endpointIn s)
+      (sequenceAt (encodingAt (endpointRangeOf (headerOf s))) (bitsAt (endpointRangeOf (headerOf s))) (blockOf s) (endpointsFrom (s .partitions)) (endpointCount (headerOf s)))
+  pub smallest-weight-codes : (fp : ℕ) (s : SymbolicBlock) → Sized s → Acceptable fp s → s .mark ≡ 0
+      → Smallest (encodingAt (s .range)) (bitsAt (s .range)) (weightCount (gridOf s)) (weightIn s)
+      (sequenceAt (encodingAt (s .range)) (bitsAt (s .range)) (reverse 128 (blockOf s)) 0 (weightCount (gridOf s)))
+  pub spare-bits : (fp : ℕ) (s : SymbolicBlock) → Sized s → Acceptable fp s → s .mark ≡ 0
+      → field (blockOf s) (endpointsEnd (headerOf s)) (componentFrom (headerOf s) - endpointsEnd (headerOf s)) ≡ 0

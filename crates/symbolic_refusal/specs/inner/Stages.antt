@@ -1,0 +1,61 @@
+-- 01, "Refusals of a sheet, in order", in stages: the tests of a symbolic block that tell the same number, joined.
+-- Assumes nothing.
+use mathlib.Core.Bool.{Bool}
+use mathlib.Core.List.{List, [], _∷_}
+use Prim.Native.Nat.{ℕ}
+use lib.Dec.{eqb}
+use Rattle.laws.specs.Choice.{pick, either}
+use Rattle.laws.specs.Reasons.{Reason, when}
+use Rattle.block_fault.specs.Faults.{badExtents}
+use Rattle.symbolic_block.specs.declared.SymbolicBlock.{SymbolicBlock}
+use Rattle.symbolic_block.specs.Fields.{gridOf, colourIn, extentIn, modeIn, endpointIn, weightIn}
+use Rattle.symbolic_block.specs.Refusals.{inUse, unknownFootprint, badMark, badWidth, badHeight, badRange, badPlanes, badComponent, badPartitions, badIndex, badSelector, badModes, badColours, badExtentFields, someInUse, noBlockMode}
+
+-- the first of two told numbers, where 0 tells nothing
+abbrev pub orElse : ℕ → ℕ → ℕ
+orElse a b = pick (eqb a 0) b a
+
+-- ---- 31 of a mode sheet
+
+unfoldable pub badGrid : SymbolicBlock → Bool
+badGrid s = either (badWidth s) (either (badHeight s) (either (badRange s) (badPlanes s)))
+
+unfoldable pub badPartitioning : SymbolicBlock → Bool
+badPartitioning s = either (badComponent s) (either (badPartitions s) (either (badIndex s) (badSelector s)))
+
+unfoldable pub badLists : SymbolicBlock → Bool
+badLists s = either (badModes s) (either (someInUse 4 (colourIn s)) (someInUse 4 (extentIn s)))
+
+unfoldable pub badFields : SymbolicBlock → Bool
+unfolding badGrid badPartitioning badLists
+badFields s = either (badMark s) (either (badGrid s) (either (badPartitioning s) (badLists s)))
+
+-- ---- 31 of a void extent
+
+unfoldable pub badShown : SymbolicBlock → Bool
+badShown s = either (badColours s) (badExtentFields s)
+
+unfoldable pub gridInUse : SymbolicBlock → Bool
+gridInUse s = either (inUse (s .width)) (either (inUse (s .height)) (either (inUse (s .range)) (inUse (s .planes))))
+
+unfoldable pub partitioningInUse : SymbolicBlock → Bool
+partitioningInUse s = either (inUse (s .component)) (either (inUse (s .partitions)) (either (inUse (s .index)) (inUse (s .selector))))
+
+unfoldable pub numbersInUse : SymbolicBlock → Bool
+numbersInUse s = either (someInUse 4 (modeIn s)) (either (someInUse 18 (endpointIn s)) (someInUse 64 (weightIn s)))
+
+unfoldable pub badVoidFields : SymbolicBlock → Bool
+unfolding badShown gridInUse partitioningInUse numbersInUse
+badVoidFields s = either (badShown s) (either (gridInUse s) (either (partitioningInUse s) (numbersInUse s)))
+
+-- ---- the stages
+
+-- 1, 31 and 32
+unfoldable pub fieldReasons : ℕ → SymbolicBlock → List Reason
+unfolding badFields
+fieldReasons fp s = when (unknownFootprint fp) 1 ∷ when (badFields s) 31 ∷ when (noBlockMode (gridOf s)) 32 ∷ []
+
+-- 1, 31 and 12
+unfoldable pub voidStages : ℕ → SymbolicBlock → List Reason
+unfolding badVoidFields
+voidStages fp s = when (unknownFootprint fp) 1 ∷ when (badVoidFields s) 31 ∷ when (badExtents (extentIn s)) 12 ∷ []
