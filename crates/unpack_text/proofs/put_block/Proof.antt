@@ -1,0 +1,27 @@
+use mathlib.Core.Path.{_≡_, refl, _∙_}
+use native.Mathlib.Omega.{arith}
+use denote.Ref.{now}
+use borrow.Author.Needs.{needs}
+use Rattle.bits.specs.Block.{numberOf, blockNumber}
+use Rattle.bits.proofs.Blocks.{Bytes}
+use Rattle.block_core.proofs.Shows.{held}
+use Rattle.one_block.proofs.Laws.{loaded}
+use Rattle.unpack_text.specs.Text.{blockText}
+use Rattle.unpack_text.specs.inner.Written.{Puts}
+use Rattle.unpack_text.proofs.Laws.{puts-then, puts-as, block-text}
+use Rattle.unpack_text.proofs.put_block.Statement.{statement}
+use Rattle.unpack_text.proofs.put_block.Tie as tie
+
+whole : (c : tie.After-slice-known3) → let a = c .before .before .before .before .before .before .before .before .before .before .before .before .before .before .before .args in Puts (now (a .out)) 0 (blockText (a .fp) (a .kind) (numberOf (now (a .block)))) (c .before .before .put-texels .last .0) (c .before .before .put-texels .result)
+whole c =
+    let s = c .before .before .before .before .before .before .before .before .before .before .before .before .before .before .before in
+    let d = c .before .before .before .before .before .before .before .before .before .before .decode-into .ensures in
+    let bytes : Bytes (now (s .args .block)) = λ i. c .before .before .before .before .before .before .before .before .before .before .before .before .before .shared-slice-known .given i .fits in
+    let e = c .before .before .before .before .before .before .before .before .before .before .before .before .load .ensures ∙ loaded (now (s .args .block)) bytes (s .pre .1) in
+    puts-as (block-text (s .args .fp) (s .args .kind) (blockNumber (c .before .before .before .before .before .before .before .before .before .before .before .before .load .result)) (numberOf (now (s .args .block))) _ e (d .0) (held _ _ _ _ _ refl (d .1 refl)))
+    (puts-then (c .before .before .before .before .before .before .before .put-told .ensures .1) (c .before .before .put-texels .ensures))
+
+pub put-block-spec : {M : Type 1} → statement M
+put-block-spec =
+    tie.close
+    (tie.spec (λ c κs. search needs) (λ c κs. search needs) (λ c. search needs) (λ c κs. search needs) (λ c κs. search needs) (λ c. whole c .same) whole)
