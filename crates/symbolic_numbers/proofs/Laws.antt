@@ -131,9 +131,9 @@ module _ (fp : ℕ) (numbers old : List ℕ) where
       unfolding writeNumber lentRefusal
       write-5 = rw (eq-eqb _ _ e, ne-eqb _ _ h) (after-1 (unknownFootprint fp) 5 _ (λ q. absurd (omega (arith, q))))
 
-      pub kept-5 : old ≡ writeBlock fp numbers old
+      pub zeros-5 : tab (λ k. 0) 16 ≡ writeBlock fp numbers old
       unfolding writeBlock
-      kept-5 = rw (eq-eqb _ _ e, ne-eqb _ _ h)
+      zeros-5 = rw (eq-eqb _ _ e, ne-eqb _ _ h)
 
     module _ (l : length numbers ≡ 103) where
       pub write-told : numberTold (writingOf fp (blockFrom numbers) .answer) ≡ writeNumber fp numbers (length old)

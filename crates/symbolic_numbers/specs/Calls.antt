@@ -5,7 +5,8 @@ use mathlib.Core.Bool.{not}
 use mathlib.Core.List.{List, [], _∷_}
 use lib.Dec.{eqb}
 use lib.ListN.{length}
-use Rattle.laws.specs.Choice.{pick, both}
+use Rattle.laws.specs.Choice.{pick}
+use Rattle.laws.specs.Table.{tab}
 use Rattle.laws.specs.Reasons.{when, firstOf}
 use Rattle.one_block.specs.declared.Answer.{Answer}
 use Rattle.one_block.specs.declared.Answer.the-variants.{Refused, Faulty, Done}
@@ -48,8 +49,9 @@ writeNumber fp numbers n =
     let e = lentRefusal fp (length numbers) n in
     pick (eqb e 0) (numberTold (writingOf fp (blockFrom numbers) .answer)) e
 
--- what the block holds then: the bytes written, "all 0 on a refusal"; what it held where it is not of 16 bytes, or the list not of 103 numbers
+-- what the block holds then: the bytes written, "all 0 on a refusal", also of a list that is not of 103 numbers; what it held where it is not
+-- of 16 bytes
 unfoldable pub writeBlock : ℕ → List ℕ → List ℕ → List ℕ
 unfolding blockOver writingOf
 writeBlock fp numbers old =
-    pick (both (eqb (length old) 16) (eqb (length numbers) 103)) (writingOf fp (blockFrom numbers) .bytes) old
+    pick (eqb (length old) 16) (pick (eqb (length numbers) 103) (writingOf fp (blockFrom numbers) .bytes) (tab (λ k. 0) 16)) old

@@ -235,7 +235,7 @@ fn after_1(footprint: u8, n: u8) -> u8
     if 13 < footprint { 1 } else { n }
 }
 
-// The block of a list: 0, the refusal with zeros in `block`, or 1, 4 or 5 with `block` as it was where a length is wrong.
+// The block of a list: 0, or the refusal with zeros in `block`; where `block` is not of 16 bytes it stays as it was, 1 or 4 being told.
 pub fn write_numbers(footprint: u8, numbers: &[u16], block: &mut [u8]) -> u8
     ensures { λ r. ⌜ r ≡ writeNumber footprint (now (numbers .entry)) (length (now (block .entry))) ⌝ }
     ensures { λ r. ⌜ now (block .exit) ≡ writeBlock footprint (now (numbers .entry)) (now (block .entry)) ⌝ }
@@ -244,6 +244,7 @@ pub fn write_numbers(footprint: u8, numbers: &[u16], block: &mut [u8]) -> u8
         return after_1(footprint, 4);
     }
     if numbers.len() != 103 {
+        put_block([0u8; 16], block);
         return after_1(footprint, 5);
     }
     let writing = writing_of(footprint, numbers);

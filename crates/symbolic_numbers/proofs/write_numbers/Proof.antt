@@ -6,7 +6,7 @@ use Rattle.one_block.specs.Calls.{numberTold}
 use Rattle.symbolic_calls.specs.declared.Writing.{Writing}
 use Rattle.symbolic_calls.specs.Writing.{writingOf}
 use Rattle.symbolic_numbers.specs.Numbers.{blockFrom}
-use Rattle.symbolic_numbers.proofs.Laws.{write-4, kept-4, write-5, kept-5, write-told, block-written, whole-block}
+use Rattle.symbolic_numbers.proofs.Laws.{write-4, kept-4, write-5, zeros-5, write-told, block-written, whole-block}
 use borrow.Author.Needs.{needs}
 use Rattle.symbolic_numbers.proofs.write_numbers.Statement.{statement}
 use Rattle.symbolic_numbers.proofs.write_numbers.Tie as tie
@@ -20,26 +20,24 @@ returns c =
     let h = c .before .if1 .taken in
     (c .after-1 .ensures ∙ write-4 (a .footprint) (now (a .numbers)) (now (a .block)) h, kept-4 (a .footprint) (now (a .numbers)) (now (a .block)) h)
 
-after-1-requires-2 : tie.Need-after-1-requires-2
-after-1-requires-2 c κs = search needs
-
 returns-2 : tie.Need-returns-2
+unfolding tab
 returns-2 c =
-    let a = c .before .before .before .before .before .args in
-    let e = c .before .before .if1 .left in
-    let h = c .before .if2 .taken in
-    (c .after-12 .ensures ∙ write-5 (a .footprint) (now (a .numbers)) (now (a .block)) e h, kept-5 (a .footprint) (now (a .numbers)) (now (a .block)) e h)
+    let a = c .before .before .before .before .before .before .before .before .before .args in
+    let e = c .before .before .before .before .before .before .if1 .left in
+    let h = c .before .before .before .before .before .if2 .taken in
+    (c .after-12 .ensures ∙ write-5 (a .footprint) (now (a .numbers)) (now (a .block)) e h, c .before .before .before .put-block .ensures ∙ zeros-5 (a .footprint) (now (a .numbers)) (now (a .block)) e h)
 
 writing-of-requires : tie.Need-writing-of-requires
 writing-of-requires c κs = search needs
 
-put-block-requires : tie.Need-put-block-requires
+put-block-requires : tie.Need-put-block-requires-2
 put-block-requires c κs = search needs
 
 number-told-requires : tie.Need-number-told-requires
 number-told-requires c κs = search needs
 
-same-length : tie.Need-same-length
+same-length : tie.Need-same-length-2
 same-length c = search needs
 
 returns-3 : tie.Need-returns-3
@@ -52,7 +50,7 @@ returns-3 c =
     let s = blockFrom (now (a .numbers)) in
     let done : w .writing-of .result ≡ writingOf (a .footprint) s = w .writing-of .ensures in (
       c .number-told .ensures ∙ ap (λ (x : Writing). numberTold (x .answer)) done ∙ write-told (a .footprint) (now (a .numbers)) (now (a .block)) e l,
-      p .put-block .ensures
+      p .put-block2 .ensures
           ∙ ap (λ (x : Writing). tab (λ k. getD (x .bytes) k 0) 16) done
           ∙ whole-block (a .footprint) s
           ∙ block-written (a .footprint) (now (a .numbers)) (now (a .block)) e l,
@@ -64,7 +62,9 @@ write-numbers-spec =
     (tie.spec
     after-1-requires
     returns
-    after-1-requires-2
+    (λ c κs. search needs)
+    (λ c κs. search needs)
+    (λ c. search needs)
     returns-2
     writing-of-requires
     put-block-requires
