@@ -21,6 +21,7 @@ use Rattle.image_layout.specs.Geometry.{blockIndex}
 use Rattle.image_size.specs.Sides.{blocksAcross}
 use Rattle.image_layout.specs.Numbers.{blockBytes, blockAt, imageNumberAt}
 use Rattle.image_layout.proofs.Covering.{place-within}
+use Rattle.texel.proofs.Places.{number-at}
 use Rattle.image_layout.specs.OwnBlock.{place}
 use Rattle.image_layout.proofs.Regions.{Cropped, Placed, Tile, tile-of}
 
@@ -30,15 +31,6 @@ quotient q n d h = let p : 0 < n = omega arith in mul-add-div-right p q d ∙ (r
 
 pub remainder : (q n d : ℕ) → d < n → (q * n + d) % n ≡ d
 remainder q n d h = mul-add-mod-self-right q n d ∙ mod-eq-of-lt h
-
--- the number at a place of a block, by its place in the block's list of numbers
-pub number-at : (fp : ℕ) (kind : Kind) (B dx dy c : ℕ) → dx < widthOf fp → c < 4
-    → shownOf kind (blockChannel fp kind B (place (widthOf fp) dx dy c)) ≡ blockNumberAt fp kind B dx dy c
-unfolding blockNumberAt blockChannel shownChannel
-number-at fp kind B dx dy c hx hc =
-    let e : (4 * (dy * widthOf fp + dx) + c) / 4 ≡ dy * widthOf fp + dx = omega arith in
-    let m : (4 * (dy * widthOf fp + dx) + c) % 4 ≡ c = omega arith in
-    rw (e, m, quotient dy (widthOf fp) dx hx, remainder dy (widthOf fp) dx hx)
 
 -- the image's number in the block (bx, by), by its place in the block
 pub number-in : (fp : ℕ) (kind : Kind) (w : ℕ) (s : List ℕ) (bx by dx dy c : ℕ) → dx < widthOf fp → dy < heightOf fp

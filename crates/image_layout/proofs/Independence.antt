@@ -24,7 +24,8 @@ use Rattle.image_layout.specs.Call.{imageRefusal, imageOut}
 use Rattle.image_layout.proofs.Covering.{place-within, below-row}
 use Rattle.image_layout.specs.OwnBlock.{place, OwnBlock}
 use Rattle.image_size.proofs.Laws.{across-covers}
-use Rattle.image_layout.proofs.Blocks.{quotient, remainder, number-at, sixteen, byte-of}
+use Rattle.image_layout.proofs.Blocks.{quotient, remainder, sixteen, byte-of}
+use Rattle.texel.proofs.Places.{number-at}
 use Rattle.image_layout.proofs.Calls.{accept, decoded-out}
 
 -- agreement byte by byte is agreement of the sixteen bytes
