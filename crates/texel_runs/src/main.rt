@@ -1,0 +1,107 @@
+// Texels of blocks as Arm's astcenc shows them: 17 bytes for each block, its footprint and its sixteen bytes. For four texels of each a line
+// "k R G B A r g b": the top eleven significant bits of kind 0's numbers, which is what a half float keeps of them, and kind 1's colours.
+use libc::STDIN_FILENO;
+use libc::STDOUT_FILENO;
+
+fn number(n: u16) {
+    io::write_all(STDOUT_FILENO, b" ");
+    io::print_decimal(STDOUT_FILENO, n as u64);
+}
+
+fn byte(n: u8) {
+    number(n as u16);
+}
+
+// The number without the bits below its eleven highest; 65535 stays.
+fn kept(n: u16) -> u16 {
+    if n == 65535 {
+        return n;
+    }
+    if n < 2048 {
+        return n;
+    }
+    if n < 4096 {
+        return n / 2 * 2;
+    }
+    if n < 8192 {
+        return n / 4 * 4;
+    }
+    if n < 16384 {
+        return n / 8 * 8;
+    }
+    if n < 32768 {
+        return n / 16 * 16;
+    }
+    n / 32 * 32
+}
+
+// Texel k, rows first.
+fn texel(k: usize, numbers: &[u16; 576], bytes: &[u8; 576]) {
+    if 144 <= k {
+        return;
+    }
+    io::print_decimal(STDOUT_FILENO, k as u64);
+    let i = 4 * k;
+    number(kept(numbers[i]));
+    number(kept(numbers[i + 1]));
+    number(kept(numbers[i + 2]));
+    number(kept(numbers[i + 3]));
+    byte(bytes[i]);
+    byte(bytes[i + 1]);
+    byte(bytes[i + 2]);
+    io::write_all(STDOUT_FILENO, b"\n");
+}
+
+// The first texel, the last one of its row, one between, and the last.
+fn texels(fp: u8, numbers: &[u16; 576], bytes: &[u8; 576]) {
+    let width = footprint::width(fp) as usize;
+    let count = footprint::texels(fp) as usize;
+    if width == 0 {
+        return;
+    }
+    if count == 0 {
+        return;
+    }
+    texel(0, numbers, bytes);
+    texel(width - 1, numbers, bytes);
+    texel(2 * count / 5, numbers, bytes);
+    texel(count - 1, numbers, bytes);
+}
+
+fn record(fp: u8, block: &[u8]) {
+    let mut numbers = [0u16; 576];
+    let mut bytes = [0u8; 576];
+    let n = 4 * (footprint::texels(fp) as usize);
+    let a = one_block::decode_unorm16(fp, block, &mut numbers[..n]);
+    let b = one_block::decode_srgb8(fp, block, &mut bytes[..n]);
+    io::write_all(STDOUT_FILENO, b"footprint");
+    byte(fp);
+    io::write_all(STDOUT_FILENO, b" fault");
+    byte(one_block::number_told(a));
+    byte(one_block::number_told(b));
+    io::write_all(STDOUT_FILENO, b"\n");
+    texels(fp, &numbers, &bytes);
+}
+
+// The record at a place of the input.
+fn record_at(input: &[u8], at: usize) {
+    if 1007 < at {
+        return;
+    }
+    if input.len() < at + 17 {
+        return;
+    }
+    record(input[at], &input[at + 1..at + 17]);
+}
+
+fn main() {
+    let mut input = [0u8; 1024];
+    let n = io::read_full(STDIN_FILENO, &mut input);
+    let mut at: usize = 0;
+    while at < 1007 {
+        if at + 17 <= n {
+            record_at(&input, at);
+        }
+        at += 17;
+    }
+}
