@@ -1,4 +1,4 @@
-/* Stallbrook: ASTC blocks to texels, and to symbolic blocks. Link libstallbrook.a.
+/* Stallbrook: ASTC blocks to texels, and to symbolic blocks; PVRTC1 images to texels. Link libstallbrook.a.
  *
  * A list is lent as pointer and length, the length in elements. The pointer must be aligned, and good for that many elements
  * (any aligned pointer but NULL where the length is 0); lists that a call writes must not overlap any other list of the same call.
@@ -28,6 +28,10 @@
  *   32 no block mode has this grid, range and planes
  *   33 endpoint modes that do not fit the selector
  *   34 an endpoint number or weight above its range, or an unused one not 0
+ * Refusals of a PVRTC1 image, the first that holds:
+ *   61 a side is not a power of two from 4 to 4096
+ *    4 bytes of words not exactly 8 for each word
+ *    5 result bytes not exactly 4 for each texel
  */
 #ifndef STALLBROOK_H
 #define STALLBROOK_H
@@ -67,6 +71,11 @@ uint8_t stallbrook_astc_read_symbolic(uint8_t footprint, const uint8_t *block, s
  * Where block is not of 16 bytes or numbers not of 103 it answers 1, 4 (block) or 5 (numbers), the first that holds, and leaves block as
  * it was. */
 uint8_t stallbrook_astc_write_symbolic(uint8_t footprint, const uint16_t *numbers, size_t numbers_len, uint8_t *block, size_t block_len);
+
+/* A PVRTC1 image of 4 bits per pixel: words of 8 bytes in reflected Morton order, one for each 4 x 4 texels, to 4 bytes R, G, B, A for each
+ * texel, rows first, without sRGB curve. At the edges neighbours are those of the opposite side.
+ * Answers 0, or the refusal 61, 4 or 5, which leaves out as it was. */
+uint8_t stallbrook_pvrtc_decode_image(uint32_t width, uint32_t height, const uint8_t *words, size_t words_len, uint8_t *out, size_t out_len);
 
 #ifdef __cplusplus
 }

@@ -1,4 +1,6 @@
-// The calls exported to C. A slice crosses as pointer and length.
+// The calls exported to C. A slice crosses as pointer and length. Those of each other format stand in a module of their own.
+mod pvrtc;
+
 use image_layout::CheckedImage;
 use image_layout::ImageAnswer;
 use image_layout::Tally;

@@ -34,7 +34,7 @@ pub fn shrink<C: Case>(mut case: C) -> C {
 }
 
 /// A number of a lent buffer.
-trait Number: Copy + PartialEq + fmt::Debug {
+pub trait Number: Copy + PartialEq + fmt::Debug {
     const MARK: Self;
     fn other(self) -> Self;
 }
@@ -65,7 +65,7 @@ const GUARD: usize = 8;
 /// Lends a buffer and tells where it differs from what is expected afterwards. Where something
 /// is expected (`Some`) the buffer starts with other numbers everywhere, else it must stay as it was.
 /// `row` is the texels in a row, where the buffer holds texels.
-fn lend<T: Number>(
+pub fn lend<T: Number>(
     len: usize, expected: Option<&[T]>, row: Option<usize>, what: &str, expected_answer: u8,
     call: impl FnOnce(&mut [T]) -> u8,
 ) -> Option<String> {

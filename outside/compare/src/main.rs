@@ -2,6 +2,7 @@
 
 mod cases;
 mod make;
+mod pvrtc;
 mod seen;
 
 use std::time::{SystemTime, UNIX_EPOCH};
@@ -133,6 +134,7 @@ fn main() {
         }
         run.image(make::image(&mut r));
     }
+    pvrtc::run(&mut run, &mut r);
     let never = run.seen.report();
     for line in &never {
         println!("{line}");

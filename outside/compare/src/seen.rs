@@ -44,10 +44,11 @@ impl Seen {
         seen.require("endpoint range", ENDPOINT_RANGES.iter().map(|e| e.most as u32));
         seen.require("void extent", 0..2);
         seen.require("block is what the writer makes", 0..2);
+        crate::pvrtc::require(&mut seen);
         seen
     }
 
-    fn require(&mut self, sort: &'static str, numbers: impl IntoIterator<Item = u32>) {
+    pub fn require(&mut self, sort: &'static str, numbers: impl IntoIterator<Item = u32>) {
         for number in numbers {
             self.0.insert((sort, number), 0);
         }

@@ -14,6 +14,7 @@
 //! ```
 
 mod ffi;
+pub mod pvrtc;
 pub mod raw;
 
 /// Why a call has no result, with 01's number.
@@ -37,6 +38,7 @@ impl Error {
 impl std::fmt::Display for Error {
     fn fmt(&self, f: &mut std::fmt::Formatter) -> std::fmt::Result {
         match self {
+            Error::Refused(61) => write!(f, "refused: reason 61, a side is not a power of two from 4 to 4,096"),
             Error::Refused(number) => write!(f, "refused: reason {number}"),
             Error::Faulty(number) => write!(f, "faulty block: fault {number}"),
         }

@@ -6,6 +6,7 @@
 mod block;
 mod colour;
 mod decode;
+pub mod pvrtc;
 pub mod random;
 mod refusals;
 mod sequence;

@@ -1,0 +1,13 @@
+-- 02, k: "Prove that the word order reaches every word exactly once." The statement; its proof is proofs/Once.
+-- Assumes nothing.
+use mathlib.Core.Path.{_≡_}
+use Prim.Native.Nat.{ℕ, _*_, _^_, _<_}
+use Rattle.pvrtc_order.specs.Order.{wordPlace, columnOf, rowOf}
+
+-- an image of 2 ^ a columns and 2 ^ b rows of words: each word has a place among as many, and each place is that of one word and of no other
+pub record Once (a b : ℕ) : Type 0 where
+  pub inside : (X Y : ℕ) → X < 2 ^ a → Y < 2 ^ b → wordPlace a b X Y < 2 ^ a * 2 ^ b
+  pub column : (n : ℕ) → n < 2 ^ a * 2 ^ b → columnOf a b n < 2 ^ a
+  pub row : (n : ℕ) → n < 2 ^ a * 2 ^ b → rowOf a b n < 2 ^ b
+  pub reached : (n : ℕ) → n < 2 ^ a * 2 ^ b → wordPlace a b (columnOf a b n) (rowOf a b n) ≡ n
+  pub by-one : (n X Y : ℕ) → X < 2 ^ a → Y < 2 ^ b → wordPlace a b X Y ≡ n → (X ≡ columnOf a b n) × (Y ≡ rowOf a b n)

@@ -1,0 +1,4 @@
+pub mod Word
+pub mod Texel
+pub mod Image
+pub mod Counting
