@@ -34,24 +34,24 @@ all-taken (suc n) [] e = absurd (omega (arith, e))
 all-taken (suc n) (x ∷ l) e = ap (λ k. x ∷ k) (all-taken n l (omega (arith, e)))
 
 -- a list's first n, written out
-pub first : ℕ → List ℕ → List ℕ
+unfoldable pub first : ℕ → List ℕ → List ℕ
 unfolding tab tabFrom
 first n s = tab (λ k. getD s k 0) n
 
-first-of : (n : ℕ) (s : List ℕ) → n ≤ length s → take n s ≡ first n s
+pub first-of : (n : ℕ) (s : List ℕ) → n ≤ length s → take n s ≡ first n s
 unfolding first
 first-of n s h =
     let m : length (take n s) ≡ n = length-take n s ∙ omega arith in
     ext-getD 0 (take n s) (tab (λ k. getD s k 0) n) (m ∙ sym (length-tab (λ k. getD s k 0) n))
     (λ k l. let i : k < n = omega (arith, m) in getD-take n s k 0 i ∙ sym (getD-tab (λ k. getD s k 0) n k 0 i))
 
-spelt : (n : ℕ) (s : List ℕ) → n ≤ length s → s ≡ first n s ++ drop n s
+pub spelt : (n : ℕ) (s : List ℕ) → n ≤ length s → s ≡ first n s ++ drop n s
 spelt n s h = sym (take-append-drop n s) ∙ ap (λ (l : List ℕ). l ++ drop n s) (first-of n s h)
 
 -- ---- bytes that complete nothing
 
 -- k bytes of a block are held
-abbrev inBlock : List ℕ → ℕ → ℕ → ℕ → ℕ → Frame → Clip
+abbrev pub inBlock : List ℕ → ℕ → ℕ → ℕ → ℕ → Frame → Clip
 inBlock h k i j l f = record { phase = Blocks; have = k; held = h; index = i; block = j; last = l; frame = f }
 
 -- k bytes of a frame's ten are held
