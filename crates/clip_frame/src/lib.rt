@@ -1,7 +1,7 @@
 // A frame of a clip (02, j): what its ten bytes say, and the refusals of its reader and its writer.
 ghost use mathlib.Core.Path.{_≡_};
-ghost use Prim.Native.Nat.{_^_, _<_};
-ghost use Rattle.clip_frame.specs.Frame.{lengthIn, frameIn, headBytes, ownRefusal, frameRefusal, writeRefusal};
+ghost use Prim.Native.Nat.{_<_};
+ghost use Rattle.clip_frame.specs.Frame.{lengthIn, frameIn, ownRefusal, frameRefusal, writeRefusal};
 
 // What a frame says of itself.
 pub struct Frame {
@@ -34,25 +34,6 @@ pub fn frame_in(s: [u8; 16]) -> Frame
         width: wide(s[6]) * 256 + wide(s[7]),
         height: wide(s[8]) * 256 + wide(s[9]),
     }
-}
-
-// The ten bytes before a frame's blocks, n being the length that they tell.
-pub fn head_of(n: u64, footprint: u8, kind: u8, width: u32, height: u32) -> [u8; 10]
-    requires { ⌜ (n < 2 ^ 32) × (width < 65536) × (height < 65536) ⌝ }
-    ensures { λ r. ⌜ r ≡ headBytes n (record { footprint = footprint; kind = kind; width = width; height = height }) ⌝ }
-{
-    [
-        (n / 256 / 256 / 256) as u8,
-        (n / 256 / 256 % 256) as u8,
-        (n / 256 % 256) as u8,
-        (n % 256) as u8,
-        footprint,
-        kind,
-        (width / 256) as u8,
-        (width % 256) as u8,
-        (height / 256) as u8,
-        (height % 256) as u8,
-    ]
 }
 
 // ---- refusals, 0 for none
