@@ -28,6 +28,10 @@ module _ (i j l : ℕ) (f : Frame) (h0 h1 h2 h3 h4 h5 h6 h7 h8 h9 ha hb hc hd he
   unfolding goOn stepOf blockStep past
   sixteen-fed = refl
 
+pub spelt-16 : (h : List ℕ) → length h ≡ 16 → h ≡ first 16 h
+unfolding first tab tabFrom
+spelt-16 h e = spelt 16 h (omega (arith, e)) ∙ ap (λ (k : List ℕ). first 16 h ++ k) (none (drop 16 h) (length-drop 16 h ∙ omega (arith, e)))
+
 module _ (h : List ℕ) (i j l : ℕ) (f : Frame) (s : List ℕ) (eh : length h ≡ 16) (es : 16 ≤ length s) where
   abbrev y : ℕ → ℕ
   y k = getD h k 0
@@ -35,16 +39,12 @@ module _ (h : List ℕ) (i j l : ℕ) (f : Frame) (s : List ℕ) (eh : length h 
   abbrev x : ℕ → ℕ
   x k = getD s k 0
 
-  held : h ≡ first 16 h
-  unfolding first tab tabFrom
-  held = spelt 16 h (omega (arith, eh)) ∙ ap (λ (k : List ℕ). first 16 h ++ k) (none (drop 16 h) (length-drop 16 h ∙ omega (arith, eh)))
-
   block-fed : goOn (inBlock h 0 i j l f) s ≡ wholeFed (inBlock h 0 i j l f) (take 16 s)
   unfolding first tab tabFrom past
   block-fed =
-      ap (λ (k : List ℕ). goOn (inBlock k 0 i j l f) s) held ∙ ap (goOn (inBlock (first 16 h) 0 i j l f)) (spelt 16 s es)
+      ap (λ (k : List ℕ). goOn (inBlock k 0 i j l f) s) (spelt-16 h eh) ∙ ap (goOn (inBlock (first 16 h) 0 i j l f)) (spelt 16 s es)
       ∙ sixteen-fed i j l f (y 0) (y 1) (y 2) (y 3) (y 4) (y 5) (y 6) (y 7) (y 8) (y 9) (y 10) (y 11) (y 12) (y 13) (y 14) (y 15) (x 0) (x 1) (x 2) (x 3) (x 4) (x 5) (x 6) (x 7) (x 8) (x 9) (x 10) (x 11) (x 12) (x 13) (x 14) (x 15) (drop 16 s)
-      ∙ ap (wholeFed (inBlock (first 16 h) 0 i j l f)) (sym (first-of 16 s es)) ∙ ap (λ (k : List ℕ). wholeFed (inBlock k 0 i j l f) (take 16 s)) (sym held)
+      ∙ ap (wholeFed (inBlock (first 16 h) 0 i j l f)) (sym (first-of 16 s es)) ∙ ap (λ (k : List ℕ). wholeFed (inBlock k 0 i j l f) (take 16 s)) (sym (spelt-16 h eh))
 
 -- of any state that waits for a block and holds none of its bytes
 pub whole-fed : (c : Clip) (s : List ℕ) → c .phase ≡ Blocks → c .have ≡ 0 → length (c .held) ≡ 16 → 16 ≤ length s → goOn c s ≡ wholeFed c (take 16 s)

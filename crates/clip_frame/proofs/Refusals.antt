@@ -9,7 +9,7 @@ use native.Mathlib.Nat.{mul-le-mul, mul-le-mul-left, mul-le-mul-right, div-mul-l
 use native.Mathlib.Omega.{arith}
 use lib.Dec.{eqb, ltb}
 use lib.ListN.{length}
-use borrow.Author.Tests.{eq-eqb, ne-eqb, eqb-true, lt-ltb, le-ltb}
+use borrow.Author.Tests.{eq-eqb, ne-eqb, eqb-true, not-false, lt-ltb, le-ltb}
 use Rattle.laws.specs.Choice.{pick, either}
 use Rattle.laws.specs.Reasons.{Reason, when, firstOf}
 use Rattle.laws.proofs.Reasons.{None, first-none}
@@ -119,10 +119,6 @@ pub record Accepted (f : Frame) (bytes room : ℕ) : Type 0 where
   pub blocks : bytes ≡ 16 * blocksIn f
   pub buffer : room ≡ 10 + bytes
   pub readable : frameRefusal f (6 + bytes) ≡ 0
-
-not-false : (b : Bool) → not b ≡ false → b ≡ true
-not-false true e = refl
-not-false false e = sym e
 
 pub accepted : (f : Frame) (bytes room : ℕ) → writeRefusal f bytes room ≡ 0 → Accepted f bytes room
 unfolding writeRefusal ownRefusal frameRefusal
