@@ -1,6 +1,7 @@
 //! Compares the proved library with the vectors and the reference: compare [--seed N] [--blocks N]
 
 mod cases;
+mod clip;
 mod make;
 mod seen;
 
@@ -133,6 +134,7 @@ fn main() {
         }
         run.image(make::image(&mut r));
     }
+    clip::cases(&mut run, &mut r, blocks / 50);
     let never = run.seen.report();
     for line in &never {
         println!("{line}");

@@ -44,6 +44,9 @@ impl Seen {
         seen.require("endpoint range", ENDPOINT_RANGES.iter().map(|e| e.most as u32));
         seen.require("void extent", 0..2);
         seen.require("block is what the writer makes", 0..2);
+        for (sort, numbers) in crate::clip::SORTS {
+            seen.require(sort, numbers.iter().copied());
+        }
         seen
     }
 

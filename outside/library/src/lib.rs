@@ -13,6 +13,7 @@
 //! # Ok::<(), stallbrook::Error>(())
 //! ```
 
+pub mod clip;
 mod ffi;
 pub mod raw;
 
