@@ -5,6 +5,8 @@
 //! CPU time, median of the rounds; where the processor changes its pace between rounds, the median of the rounds' own ratios
 //! is steadier. Buffers are filled once before the first round and not cleared between calls.
 
+mod clip;
+
 use reference::random::{Random, mode_block};
 use reference::{FOOTPRINTS, decode_image_u8, decode_image_u16};
 
@@ -130,4 +132,5 @@ fn main() {
         );
     }
     println!("largest ratio {:.2} (by rounds {:.2})", worst[0], worst[1]);
+    clip::measure(rounds.min(7));
 }
