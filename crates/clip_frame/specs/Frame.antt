@@ -1,6 +1,7 @@
 -- 02, j: a frame of a clip, its bytes both ways, and why a reader and a writer refuse it.
 -- Assumes nothing.
 use Prim.Native.Nat.{ℕ, _+_, _*_, _/_, _%_}
+use mathlib.Core.Path.{_≡_}
 use mathlib.Core.Bool.{Bool, not}
 use mathlib.Core.List.{List, [], _∷_, _++_}
 use lib.Dec.{eqb, ltb}
@@ -61,3 +62,11 @@ writeRefusal f bytes room =
 -- what the writer's result buffer holds then: the frame, or on a refusal what it held
 unfoldable pub frameOut : Frame → List ℕ → List ℕ → List ℕ
 frameOut f blocks old = pick (eqb (writeRefusal f (length blocks) (length old)) 0) (frameBytes f blocks) old
+
+-- ---- what is proved of the bytes (`head-back` in proofs/Bytes)
+
+-- the ten bytes are read as they were written, and their length is that "of the rest"
+pub record HeadBack : Type 0 where
+  pub frame-back : (n : ℕ) (f : Frame) (s : List ℕ) → frameIn (headBytes n f ++ s) ≡ f
+  pub length-back : (n : ℕ) (f : Frame) (s : List ℕ) → lengthIn (headBytes n f ++ s) ≡ n
+  pub of-the-rest : (f : Frame) (s : List ℕ) → length (frameBytes f s) ≡ 4 + lengthIn (frameBytes f s)

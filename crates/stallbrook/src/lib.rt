@@ -1,4 +1,6 @@
 // The calls exported to C. A slice crosses as pointer and length.
+mod clips;
+
 use image_layout::CheckedImage;
 use image_layout::ImageAnswer;
 use image_layout::Tally;

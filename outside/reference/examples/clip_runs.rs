@@ -9,6 +9,9 @@ use reference::{ClipFrame, FOOTPRINTS, clip_frame, parse_clip};
 /// Sizes of the pieces that the program feeds.
 const CUTS: [usize; 4] = [1, 7, 16, 400];
 
+/// Bytes of a record.
+const RECORD: usize = 409;
+
 fn main() {
     let dir = std::env::args().nth(1).expect("a directory");
     let dir = Path::new(&dir);
@@ -36,12 +39,13 @@ fn spaced(bytes: &[u8]) -> String {
 }
 
 fn record(sort: u8, f: &ClipFrame, bytes: &[u8]) -> Vec<u8> {
-    assert!(bytes.len() <= 600);
     let mut record = vec![sort, f.footprint, f.kind];
     for n in [f.width as u16, f.height as u16, bytes.len() as u16] {
         record.extend(n.to_be_bytes());
     }
     record.extend(bytes);
+    assert!(record.len() <= RECORD);
+    record.resize(RECORD, 0);
     record
 }
 
@@ -135,7 +139,7 @@ fn frames(r: &mut Random) -> Vec<(ClipFrame, Vec<u8>, u8)> {
         frames.push((f, vec![1; 17], 3));
     }
     for more in [1, 2, 7] {
-        let f = ClipFrame { width: 256, height: 2, ..good };
+        let f = ClipFrame { width: 136, height: 2, ..good };
         frames.push((f, blocks(r, &f), more));
     }
     frames
