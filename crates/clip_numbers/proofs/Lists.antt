@@ -21,7 +21,7 @@ use Rattle.clip.specs.declared.Fed.{Fed}
 use Rattle.clip.specs.Step.{past, nextBlock, nextFrame}
 use Rattle.clip.specs.Feed.{feedIn, feedOf}
 use Rattle.clip.specs.Frames.{waits}
-use Rattle.clip.proofs.Timely.{first, first-of}
+use Rattle.clip.proofs.Timely.{first}
 use Rattle.clip.proofs.Whole.{spelt-16, wholeFed, whole-fed}
 use Rattle.clip_numbers.specs.Numbers.{phaseNumber, phaseTold, numbersOf, phaseOf, frameOf, heldOf, clipOf, blockNumbers, feedNumbers, numberIn, feedRefusal, feedNumber, feedState, feedBlock, feedTold}
 
@@ -36,10 +36,6 @@ numbers-spelt c e = ap (λ (h : List ℕ). phaseNumber (c .phase) ∷ phaseTold 
 pub tab-self : (l : List ℕ) (n : ℕ) → length l ≡ n → tab (λ k. getD l k 0) n ≡ l
 unfolding Filled
 tab-self l n e = sym (filled-all (λ k. getD l k 0) 0 l n e (λ k h. refl))
-
-pub tab-first : (l : List ℕ) → 16 ≤ length l → tab (λ k. getD l k 0) 16 ≡ take 16 l
-unfolding first
-tab-first l h = sym (first-of 16 l h)
 
 -- ---- a whole block
 

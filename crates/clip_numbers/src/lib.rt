@@ -10,7 +10,7 @@ ghost use mathlib.Core.Bool.{true};
 ghost use mathlib.Core.List.{_∷_};
 ghost use Prim.Native.Nat.{ℕ, _≤_, _<_, _%_};
 ghost use lib.Dec.{eqb};
-ghost use lib.ListN.{length, getD, take};
+ghost use lib.ListN.{length, getD};
 ghost use Rattle.clip.specs.declared.Event.the-variants.{Nothing, Block};
 ghost use Rattle.clip.specs.Step.{past};
 ghost use Rattle.clip.specs.Frames.{waits};
@@ -192,18 +192,6 @@ fn put_told(from: [u64; 8], told: &mut [u64])
     }
 }
 
-// The first sixteen bytes of a piece.
-fn copy_block(piece: &[u8], block: &mut [u8])
-    requires { ⌜ (length (now block) ≡ 16) × (16 ≤ length (now piece)) ⌝ }
-    ensures { λ r. ⌜ now (block .exit) ≡ take 16 (now (piece .entry)) ⌝ }
-{
-    let mut i: usize = 0;
-    while i < 16 {
-        block[i] = piece[i];
-        i += 1;
-    }
-}
-
 // ---- what a feed tells
 
 fn block_told(taken: usize, index: u32, block: u32, f: Frame) -> [u64; 8]
@@ -336,7 +324,7 @@ fn whole_block(state: &mut [u32], piece: &[u8], block: &mut [u8], told: &mut [u6
     let f = frame_of(state);
     let next = next_numbers(index, at, state[5], f);
     put_numbers(next, state);
-    copy_block(piece, block);
+    put_block(clip_reader::first_block(piece), block);
     put_told(block_told(16, index, at, f), told);
 }
 

@@ -287,7 +287,7 @@ fn go_on(c: Clip, piece: &[u8]) -> Fed
 }
 
 // The first sixteen bytes of a piece.
-fn first_block(piece: &[u8]) -> [u8; 16]
+pub fn first_block(piece: &[u8]) -> [u8; 16]
     requires { ⌜ 16 ≤ length (now piece) ⌝ }
     ensures { λ r. ⌜ r ≡ take 16 (now (piece .entry)) ⌝ }
 {
