@@ -68,6 +68,7 @@ impl Clip {
 
     /// Takes bytes from the front of a piece, up to the one that completes a block or a refusal, and leaves the rest in it.
     /// `Ok(None)`: nothing is handed out; the piece is then used up, unless the clip was finished, after which nothing is taken.
+    #[inline]
     pub fn feed(&mut self, piece: &mut &[u8]) -> Result<Option<Block>, Error> {
         let mut bytes = [0; 16];
         let mut told = [0; 8];
@@ -80,6 +81,7 @@ impl Clip {
     }
 
     /// The blocks that a piece completes, and a refusal as the last.
+    #[inline]
     pub fn blocks<'a>(&'a mut self, piece: &'a [u8]) -> Blocks<'a> {
         Blocks { clip: self, rest: piece, over: false }
     }
@@ -100,6 +102,7 @@ pub struct Blocks<'a> {
 impl Iterator for Blocks<'_> {
     type Item = Result<Block, Error>;
 
+    #[inline]
     fn next(&mut self) -> Option<Self::Item> {
         if self.over {
             return None;

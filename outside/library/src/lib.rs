@@ -131,6 +131,7 @@ fn of_block(number: u8) -> Result<(), Error> {
 }
 
 /// Any number but 0 is a refusal.
+#[inline]
 fn refused(number: u8) -> Result<(), Error> {
     if number == 0 { Ok(()) } else { Err(Error::Refused(number)) }
 }

@@ -60,6 +60,7 @@ pub fn clip_start(state: &mut [u32]) -> u8 {
     unsafe { ffi::stallbrook_clip_start(state.as_mut_ptr(), state.len()) }
 }
 
+#[inline]
 pub fn clip_feed(state: &mut [u32], piece: &[u8], block: &mut [u8], told: &mut [u64]) -> u8 {
     unsafe {
         ffi::stallbrook_clip_feed(
