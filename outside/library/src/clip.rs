@@ -20,6 +20,11 @@
 //! clip.finish()?;
 //! assert_eq!(handed.len(), 2);
 //! assert_eq!((handed[1].frame_index, handed[1].index, handed[1].frame), (0, 1, frame));
+//! // inside a frame `finish` is refused
+//! let mut cut_off = Clip::new();
+//! assert_eq!(cut_off.blocks(&bytes[..20]).count(), 0);
+//! let error = cut_off.finish().unwrap_err();
+//! assert_eq!(error.to_string(), "refused by 53: the clip ends inside a frame or before its version byte");
 //! # Ok::<(), stallbrook::Error>(())
 //! ```
 
