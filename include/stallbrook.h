@@ -77,6 +77,44 @@ uint8_t stallbrook_astc_write_symbolic(uint8_t footprint, const uint16_t *number
  * Answers 0, or the refusal 61, 4 or 5, which leaves out as it was. */
 uint8_t stallbrook_pvrtc_decode_image(uint32_t width, uint32_t height, const uint8_t *words, size_t words_len, uint8_t *out, size_t out_len);
 
+/* ---- Clips: frames of blocks that arrive in pieces of any size.
+ *
+ * A clip is the version byte 1 and frames. A frame is ten bytes, numbers with the high byte first, and its blocks: a length of 4 bytes, of the
+ * rest, which is 6 plus 16 for each block; footprint and kind (0 unorm16, 1 srgb8), a byte each; width and height, 2 bytes each.
+ *
+ * Refusals of a clip that is read, told at the byte that shows them:
+ *   51 another version; at the first byte
+ *    1 footprint above 13, 2 kind above 1, 3 a side is 0 or above 4096, 52 a wrong length, the first that holds; at a frame's tenth byte
+ *   53 the end inside a frame or before the version byte; told by stallbrook_clip_finish
+ * After a refusal, and after the end, nothing is taken until a fresh start and the same number is told again.
+ *
+ * The reader's state is a list of 26 numbers that the caller keeps and lends. What they are need not be known; every content is taken, one that
+ * no call has written too. */
+enum { STALLBROOK_CLIP_STATE = 26, STALLBROOK_CLIP_TOLD = 8 };
+
+/* A fresh start. Answers 0, or 5 where state is not of 26 numbers, which are then as they were. */
+uint8_t stallbrook_clip_start(uint32_t *state, size_t state_len);
+
+/* Feeds a piece, which may be empty. A feed stops at the byte that completes a block or a refusal; feed the rest of the piece anew.
+ * Answers the refusal that is told, else 0. block is of 16 bytes: the block that is handed out, else zeros. told is of 8 numbers: how many
+ * bytes were taken, 1 where a block is handed out and else 0, the block's frame index (modulo 2^32) and its index in the frame,
+ * and footprint, kind, width and height of its frame.
+ * Where nothing is handed out or refused, the piece is used up. After the end was told as 0 a feed takes nothing and answers 0: a loop that
+ * waits until a piece is used up must not be entered after stallbrook_clip_finish.
+ * Where state, block or told is not of 26, 16 or 8 it answers 5 and leaves them as they were. */
+uint8_t stallbrook_clip_feed(uint32_t *state, size_t state_len, const uint8_t *piece, size_t piece_len, uint8_t *block, size_t block_len,
+    uint64_t *told, size_t told_len);
+
+/* Says that the clip is finished. Answers 0, 53 inside a frame or before the version byte, or the refusal that was told; 5 where state is not of
+ * 26 numbers, which are then as they were. */
+uint8_t stallbrook_clip_finish(uint32_t *state, size_t state_len);
+
+/* The bytes of a frame, for after the caller's version byte or another frame: ten bytes and the blocks.
+ * Answers 0, or the refusal, which leaves out as it was: 1, 2, 3, 4 where blocks are not exactly 16 bytes for each block of the image, 5 where
+ * out is not exactly 10 bytes longer. */
+uint8_t stallbrook_clip_write_frame(uint8_t footprint, uint8_t kind, uint32_t width, uint32_t height, const uint8_t *blocks, size_t blocks_len,
+    uint8_t *out, size_t out_len);
+
 #ifdef __cplusplus
 }
 #endif

@@ -1,4 +1,5 @@
-// The calls exported to C. A slice crosses as pointer and length. Those of each other format stand in a module of their own.
+// The calls exported to C. A slice crosses as pointer and length. Those of each other format and of clips stand in a module of their own.
+mod clips;
 mod pvrtc;
 
 use image_layout::CheckedImage;

@@ -6,6 +6,7 @@
 //! is steadier. Buffers are filled once before the first round and not cleared between calls.
 
 mod pvrtc;
+mod clip;
 
 use reference::random::{Random, mode_block};
 use reference::{FOOTPRINTS, decode_image_u8, decode_image_u16};
@@ -133,4 +134,5 @@ fn main() {
     }
     worst = largest(worst, pvrtc::ratios(rounds));
     println!("largest ratio {:.2} (by rounds {:.2})", worst[0], worst[1]);
+    clip::measure(rounds.min(7));
 }

@@ -30,4 +30,23 @@ unsafe extern "C" {
     pub fn stallbrook_astc_write_symbolic(
         footprint: u8, numbers: *const u16, numbers_len: usize, block: *mut u8, block_len: usize,
     ) -> u8;
+
+    /// Clips. 0, or 5 where there are not 26 numbers, nothing written.
+    pub fn stallbrook_clip_start(state: *mut u32, state_len: usize) -> u8;
+
+    /// The number told, 0 for none. Told, of 8 numbers: bytes taken, whether a block is handed out, frame index, block index, and the
+    /// frame's footprint, kind, width and height. The 16 bytes are the block's, else 0. 5 where a length is wrong, nothing written.
+    pub fn stallbrook_clip_feed(
+        state: *mut u32, state_len: usize, piece: *const u8, piece_len: usize, block: *mut u8, block_len: usize,
+        told: *mut u64, told_len: usize,
+    ) -> u8;
+
+    /// The number told, or 5 where there are not 26 numbers, nothing written.
+    pub fn stallbrook_clip_finish(state: *mut u32, state_len: usize) -> u8;
+
+    /// 0 or 1 to 5, nothing written.
+    pub fn stallbrook_clip_write_frame(
+        footprint: u8, kind: u8, width: u32, height: u32, blocks: *const u8, blocks_len: usize, out: *mut u8,
+        out_len: usize,
+    ) -> u8;
 }

@@ -13,6 +13,7 @@
 //! # Ok::<(), stallbrook::Error>(())
 //! ```
 
+pub mod clip;
 mod ffi;
 pub mod pvrtc;
 pub mod raw;
@@ -38,14 +39,43 @@ impl Error {
 impl std::fmt::Display for Error {
     fn fmt(&self, f: &mut std::fmt::Formatter) -> std::fmt::Result {
         match self {
-            Error::Refused(61) => write!(f, "refused: reason 61, a side is not a power of two from 4 to 4,096"),
-            Error::Refused(number) => write!(f, "refused: reason {number}"),
-            Error::Faulty(number) => write!(f, "faulty block: fault {number}"),
+            Error::Refused(number) => write!(f, "refused by {number}: {}", words(*number)),
+            Error::Faulty(number) => write!(f, "faulty block, {number}: {}", words(*number)),
         }
     }
 }
 
 impl std::error::Error for Error {}
+
+/// What a number means.
+fn words(number: u8) -> &'static str {
+    match number {
+        1 => "footprint above 13",
+        2 => "kind above 1",
+        3 => "a side is 0 or above 4,096",
+        4 => "block bytes not exactly 16 for each block",
+        5 => "a buffer is not exactly as long as said",
+        11 => "reserved block mode",
+        12 => "void extent with bad bits or extents",
+        13 => "HDR void extent",
+        14 => "weight grid larger than the footprint",
+        15 => "more than 64 weights",
+        16 => "weight bits below 24 or above 96",
+        17 => "two planes with four partitions",
+        18 => "more than 18 endpoint numbers",
+        19 => "too few endpoint bits",
+        20 => "an HDR endpoint mode",
+        31 => "a field outside its limits, or an unused one not 0",
+        32 => "no block mode has this grid, range and planes",
+        33 => "endpoint modes that do not fit the selector",
+        34 => "an endpoint number or weight above its range, or an unused one not 0",
+        51 => "a clip of another version",
+        52 => "a frame's length is not 6 plus 16 for each block",
+        53 => "the clip ends inside a frame or before its version byte",
+        61 => "a side is not a power of two from 4 to 4,096",
+        _ => "unknown",
+    }
+}
 
 /// What an image call tells of blocks with a fault: their count, and the raster index and fault of the first (0 where there is none).
 #[derive(Clone, Copy, PartialEq, Eq, Debug, Default)]
@@ -132,6 +162,7 @@ fn of_block(number: u8) -> Result<(), Error> {
 }
 
 /// Any number but 0 is a refusal.
+#[inline]
 fn refused(number: u8) -> Result<(), Error> {
     if number == 0 { Ok(()) } else { Err(Error::Refused(number)) }
 }

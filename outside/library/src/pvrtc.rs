@@ -32,7 +32,7 @@ pub mod raw {
 /// let mut few = [7u8; 4 * 8];
 /// let refused = stallbrook::pvrtc::decode_image(4, 2, &word, &mut few).unwrap_err();
 /// assert_eq!(refused, stallbrook::Error::Refused(61));
-/// assert_eq!(refused.to_string(), "refused: reason 61, a side is not a power of two from 4 to 4,096");
+/// assert_eq!(refused.to_string(), "refused by 61: a side is not a power of two from 4 to 4,096");
 /// assert_eq!(few, [7; 4 * 8]);
 /// # Ok::<(), stallbrook::Error>(())
 /// ```

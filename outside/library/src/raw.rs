@@ -53,3 +53,44 @@ pub fn read_symbolic(footprint: u8, block: &[u8], numbers: &mut [u16]) -> u8 {
 pub fn write_symbolic(footprint: u8, numbers: &[u16], block: &mut [u8]) -> u8 {
     unsafe { ffi::stallbrook_astc_write_symbolic(footprint, numbers.as_ptr(), numbers.len(), block.as_mut_ptr(), block.len()) }
 }
+
+// ---- clips
+
+pub fn clip_start(state: &mut [u32]) -> u8 {
+    unsafe { ffi::stallbrook_clip_start(state.as_mut_ptr(), state.len()) }
+}
+
+#[inline]
+pub fn clip_feed(state: &mut [u32], piece: &[u8], block: &mut [u8], told: &mut [u64]) -> u8 {
+    unsafe {
+        ffi::stallbrook_clip_feed(
+            state.as_mut_ptr(),
+            state.len(),
+            piece.as_ptr(),
+            piece.len(),
+            block.as_mut_ptr(),
+            block.len(),
+            told.as_mut_ptr(),
+            told.len(),
+        )
+    }
+}
+
+pub fn clip_finish(state: &mut [u32]) -> u8 {
+    unsafe { ffi::stallbrook_clip_finish(state.as_mut_ptr(), state.len()) }
+}
+
+pub fn clip_write_frame(footprint: u8, kind: u8, width: u32, height: u32, blocks: &[u8], out: &mut [u8]) -> u8 {
+    unsafe {
+        ffi::stallbrook_clip_write_frame(
+            footprint,
+            kind,
+            width,
+            height,
+            blocks.as_ptr(),
+            blocks.len(),
+            out.as_mut_ptr(),
+            out.len(),
+        )
+    }
+}

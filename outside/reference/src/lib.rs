@@ -4,6 +4,7 @@
 //! its "widen" is unquantise (stored numbers) or expand (endpoints to 16 bits).
 
 mod block;
+mod clip;
 mod colour;
 mod decode;
 pub mod pvrtc;
@@ -14,6 +15,7 @@ mod symbolic;
 pub mod tables;
 
 pub use block::fault;
+pub use clip::{ClipBlock, ClipFrame, ParsedClip, clip_frame, parse_clip};
 pub use decode::{decode, decode_image_u8, decode_image_u16, decode_u8, decode_u16};
 pub use refusals::{block_refusal, image_refusal, read_refusal};
 pub use symbolic::{NUMBERS, SymbolicBlock, picture, read, refusal, write};

@@ -1,0 +1,4 @@
+pub mod Cut
+pub mod Timely
+pub mod ReadBack
+pub mod Whole

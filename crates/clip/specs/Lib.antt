@@ -1,0 +1,5 @@
+pub mod Step
+pub mod Feed
+pub mod Pieces
+pub mod Frames
+pub mod Theorems

@@ -1,0 +1,20 @@
+-- 02, j: calls one after the other are feeds one after the other: the list that a call leaves stands for the state that the definition gives.
+-- Assumes nothing.
+use Prim.{Unit}
+use Prim.Native.Nat.{ℕ, _<_}
+use mathlib.Core.Path.{_≡_}
+use mathlib.Core.List.{List, [], _∷_}
+use Rattle.clip.specs.Step.{freshOf}
+use Rattle.clip.specs.Feed.{feedOf, finishOf}
+use Rattle.clip_numbers.specs.Numbers.{numbersOf, clipOf}
+
+-- a list of bytes
+abbrev pub Bytes : List ℕ → Type 0
+Bytes [] = Unit {0}
+Bytes (b ∷ s) = (b < 256) × Bytes s
+
+-- proved as `kept` in proofs/Kept
+pub record Kept : Type 0 where
+  pub started : clipOf (numbersOf freshOf) ≡ freshOf
+  pub fed : (s p : List ℕ) → Bytes p → clipOf (numbersOf (feedOf (clipOf s) p .clip)) ≡ feedOf (clipOf s) p .clip
+  pub finished : (s : List ℕ) → clipOf (numbersOf (finishOf (clipOf s) .clip)) ≡ finishOf (clipOf s) .clip

@@ -1,0 +1,25 @@
+use mathlib.Core.Path.{_≡_, refl, sym, ap, _∙_}
+use Rattle.clip.specs.Feed.{finishOf}
+use borrow.Author.Needs.{needs}
+use Rattle.clip_reader.proofs.finish.Statement.{statement}
+use Rattle.clip_reader.proofs.finish.Tie as tie
+use Rattle.clip_reader.proofs.finish.Reads as reads
+use Rattle.clip_reader.proofs.finish.Lts as lts
+use Rattle.clip_reader.proofs.enter.Reads as enter-reads
+use Rattle.clip_reader.proofs.finish_number.Reads as finish-number-reads
+
+-- src/lib.rt:397:9
+finish-number-requires : tie.Need-finish-number-requires
+finish-number-requires c κs = search needs
+
+-- src/lib.rt:399:15
+enter-requires : tie.Need-enter-requires
+enter-requires c κs = search needs
+
+-- src/lib.rt:394:1
+returns : tie.Need-returns
+unfolding finishOf
+returns c = rw (c .enter .ensures, c .before .finish-number .ensures)
+
+pub finish-spec : {M : Type 1} → statement M
+finish-spec = tie.close (tie.spec finish-number-requires enter-requires returns)
