@@ -12,8 +12,7 @@ use lib.ListN.{List·getD-eq-default}
 use borrow.Author.Tests.{lt-ltb, le-ltb}
 use Rattle.laws.specs.Choice.{both, all}
 use Rattle.laws.proofs.Computed.{both-left, both-right, each}
-use Rattle.footprint.specs.declared.MaybeFootprint.the-variants.{Known, Unknown}
-use Rattle.footprint.specs.Footprint.{footprints, sidesOf, footprintOf, widthOf, heightOf, texelsOf}
+use Rattle.footprint.specs.Footprint.{footprints, sidesOf, widthOf, heightOf, texelsOf}
 
 -- the fourteen: both sides 4 to 12, 16 to 144 texels
 pub record Bounds (fp : ℕ) : Type 0 where
@@ -81,11 +80,3 @@ height-le fp = both-le fp .1
 pub texels-le : (fp : ℕ) → texelsOf fp ≤ 144
 unfolding texelsOf
 texels-le fp = mul-le-mul {n₂ = 12} {m₂ = 12} (width-le fp) (height-le fp)
-
-pub known : (fp : ℕ) → fp < 14 → footprintOf fp ≡ Known (sidesOf fp)
-unfolding footprintOf
-known fp h = rw (lt-ltb fp 14 h)
-
-pub unknown : (fp : ℕ) → 14 ≤ fp → footprintOf fp ≡ Unknown
-unfolding footprintOf
-unknown fp h = rw (le-ltb fp 14 h)

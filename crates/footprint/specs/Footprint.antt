@@ -5,10 +5,7 @@ use mathlib.Core.Bool.{Bool}
 use mathlib.Core.List.{List, [], _∷_}
 use lib.Dec.{ltb}
 use lib.ListN.{getD}
-use Rattle.laws.specs.Choice.{pick}
 use Rattle.footprint.specs.declared.Footprint.{Footprint}
-use Rattle.footprint.specs.declared.MaybeFootprint.{MaybeFootprint}
-use Rattle.footprint.specs.declared.MaybeFootprint.the-variants.{Known, Unknown}
 
 abbrev pub by : ℕ → ℕ → List ℕ
 by w h = w ∷ h ∷ []
@@ -27,10 +24,6 @@ heightOf fp = getD (getD footprints fp []) 1 0
 
 unfoldable pub sidesOf : ℕ → Footprint
 sidesOf fp = record { width = widthOf fp; height = heightOf fp }
-
--- what a number stands for
-unfoldable pub footprintOf : ℕ → MaybeFootprint
-footprintOf fp = pick (ltb fp 14) (Known (sidesOf fp)) Unknown
 
 unfoldable pub texelsOf : ℕ → ℕ
 texelsOf fp = widthOf fp * heightOf fp

@@ -3,17 +3,12 @@ ghost use mathlib.Core.Path.{_≡_};
 ghost use Prim.Native.Nat.{_*_, _/_, _%_, _^_};
 ghost use lib.Dec.{ltb};
 ghost use Rattle.laws.specs.Choice.{pick};
-ghost use Rattle.footprint.specs.Footprint.{footprintOf, sidesOf, widthOf, heightOf, texelsOf, isSmall};
+ghost use Rattle.footprint.specs.Footprint.{sidesOf, widthOf, heightOf, texelsOf, isSmall};
 
 // A block's sides in texels.
 pub struct Footprint {
     pub width: u8,
     pub height: u8,
-}
-
-pub enum MaybeFootprint {
-    Known(Footprint),
-    Unknown,
 }
 
 // 01, "What is covered": the widths of footprints 0 to 13, four bits each, footprint 0 lowest; then the heights.
@@ -39,17 +34,6 @@ pub fn sides_of(fp: u8) -> Footprint
     Footprint {
         width: side_in(WIDTHS, fp),
         height: side_in(HEIGHTS, fp),
-    }
-}
-
-// The footprint that a number stands for.
-pub fn footprint_of(fp: u8) -> MaybeFootprint
-    ensures { λ r. ⌜ r ≡ footprintOf fp ⌝ }
-{
-    if fp < 14 {
-        MaybeFootprint::Known(sides_of(fp))
-    } else {
-        MaybeFootprint::Unknown
     }
 }
 

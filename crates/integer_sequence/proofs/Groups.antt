@@ -21,7 +21,8 @@ use Rattle.encoding.specs.declared.Encoding.{Encoding}
 use Rattle.encoding.specs.declared.Encoding.the-variants.{Bits, Trits, Quints}
 use Rattle.encoding.specs.Encoding.{groupSize, radix, codeBits, sequenceBits}
 use Rattle.encoding.proofs.Laws.{size-pos}
-use Rattle.integer_sequence.specs.Codes.{digit, digitWidth, digitsEntry}
+use Rattle.integer_sequence.specs.Codes.{digit}
+use Rattle.integer_sequence.specs.inner.Entries.{digitWidth, digitsEntry}
 use Rattle.integer_sequence.specs.Reading.{shareBits, share, codeAt, number, Narrow}
 use Rattle.integer_sequence.proofs.Codes.{digit-lt, codes}
 use Rattle.integer_sequence.proofs.Places.{bits-zero, bits-group, share-group, place-next, place-mono, code-lt}

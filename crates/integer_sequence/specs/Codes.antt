@@ -6,8 +6,7 @@ use mathlib.Core.List.{List, [], _∷_, _++_}
 use lib.Dec.{eqb}
 use lib.ListN.{getD}
 use Rattle.laws.specs.Choice.{pick, both}
-use Rattle.bits.specs.Field.{field, stream}
-use Rattle.encoding.specs.Encoding.{groupSize}
+use Rattle.bits.specs.Field.{field}
 use Rattle.encoding.specs.declared.Encoding.{Encoding}
 use Rattle.encoding.specs.declared.Encoding.the-variants.{Bits, Trits, Quints}
 
@@ -53,14 +52,3 @@ unfolding tritsOf quintsOf
 digit Bits t k = 0
 digit Trits t k = getD (tritsOf t) k 0
 digit Quints t k = getD (quintsOf t) k 0
-
--- the bits that hold a digit in the constant tables of the code
-abbrev pub digitWidth : Encoding → ℕ
-digitWidth Bits = 0
-digitWidth Trits = 2
-digitWidth Quints = 3
-
--- all digits of a code as one number, digit k at bit k * digitWidth: an entry of the constant tables
-unfoldable pub digitsEntry : Encoding → ℕ → ℕ
-unfolding stream digit
-digitsEntry e t = stream (λ k. digitWidth e * k) (digit e t) (groupSize e)

@@ -10,7 +10,7 @@ ghost use Rattle.bits.specs.Field.{field};
 ghost use Rattle.bits.specs.Block.{blockNumber};
 ghost use Rattle.encoding.specs.declared.Encoding.the-variants.{Bits, Trits, Quints};
 ghost use Rattle.encoding.specs.declared.Stored.{Stored};
-ghost use Rattle.integer_sequence.specs.Codes.{digitsEntry};
+ghost use Rattle.integer_sequence.specs.inner.Entries.{digitsEntry};
 ghost use Rattle.integer_sequence.specs.Reading.{codeAt, number, numbers, stored, Narrow};
 
 // The w bits of g from bit p on.

@@ -3,7 +3,7 @@ ghost use mathlib.Core.Path.{_≡_};
 ghost use Prim.Native.Nat.{_<_};
 ghost use Rattle.laws.specs.Table.{tab};
 ghost use Rattle.encoding.specs.declared.Encoding.the-variants.{Bits, Trits, Quints};
-ghost use Rattle.integer_sequence.specs.Codes.{digitsEntry};
+ghost use Rattle.integer_sequence.specs.inner.Entries.{digitsEntry};
 
 // The trits of each code, two bits each, the first lowest.
 const TRITS: [u16; 256] = [

@@ -18,7 +18,8 @@ use Rattle.laws.proofs.Filling.{getD-tab}
 use Rattle.encoding.specs.declared.Encoding.{Encoding}
 use Rattle.encoding.specs.declared.Encoding.the-variants.{Bits, Trits, Quints}
 use Rattle.encoding.specs.Encoding.{radix, codeBits, sequenceBits}
-use Rattle.quantization.specs.Ranges.{encodings, bitCounts, encodingAt, bitsAt, mostAt, rangeBits, codesOf, largestTo, endpointRange, Largest}
+use Rattle.quantization.specs.Ranges.{encodings, bitCounts, encodingAt, bitsAt, mostAt, rangeBits, largestTo, endpointRange, Largest}
+use Rattle.quantization.specs.inner.CodeBits.{codesOf}
 
 -- two functions whose tables of n values are the same, which antt computes, agree below n
 pub same-below : {A : Type 0} (f g : ℕ → A) (n : ℕ) (d : A) → tab f n ≡ tab g n → (k : ℕ) → k < n → f k ≡ g k

@@ -8,7 +8,7 @@ use lib.ListN.{getD}
 use Rattle.laws.specs.Choice.{pick}
 use Rattle.encoding.specs.declared.Encoding.{Encoding}
 use Rattle.encoding.specs.declared.Encoding.the-variants.{Bits, Trits, Quints}
-use Rattle.encoding.specs.Encoding.{radix, codeBits, sequenceBits}
+use Rattle.encoding.specs.Encoding.{radix, sequenceBits}
 
 -- One table of twenty-one ranges by their reach: 0 to 11 are the weight ranges (1, 2, 3, 4, 5, 7, 9, 11, 15, 19, 23, 31),
 -- 4 to 20 the endpoint ranges (5, 7, 9, 11, 15, 19, 23, 31, 39, 47, 63, 79, 95, 127, 159, 191, 255).
@@ -37,10 +37,6 @@ mostAt k = radix (encodingAt k) * 2 ^ bitsAt k - 1
 -- the bits that n numbers of the range take
 unfoldable pub rangeBits : ℕ → ℕ → ℕ
 rangeBits k n = sequenceBits (encodingAt k) (bitsAt k) n
-
--- the code bits of n numbers without a digit, with trits and with quints
-abbrev pub codesOf : ℕ → List ℕ
-codesOf n = codeBits Bits n ∷ codeBits Trits n ∷ codeBits Quints n ∷ []
 
 -- 01: "The endpoint range is the largest of the seventeen that fits into the bits left over."
 -- the largest of the ranges 4 to 4 + i of which n numbers take at most that many bits; 4 where none does

@@ -1,2 +1,3 @@
+pub mod CodeBits
 pub mod Products
 pub mod Words

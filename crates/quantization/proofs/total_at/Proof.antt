@@ -4,7 +4,8 @@ use native.Mathlib.Nat.{mul-le-mul}
 use native.Mathlib.Omega.{arith}
 use lib.ListN.{getD}
 use Rattle.laws.specs.Table.{tabFrom, tab}
-use Rattle.quantization.specs.Ranges.{encodingAt, bitsAt, rangeBits, codesOf}
+use Rattle.quantization.specs.Ranges.{encodingAt, bitsAt, rangeBits}
+use Rattle.quantization.specs.inner.CodeBits.{codesOf}
 use Rattle.quantization.proofs.Ranges.{packed-lt, packed-le, packed-total, code-most}
 use borrow.Author.Needs.{needs}
 use Rattle.quantization.proofs.total_at.Statement.{statement}
