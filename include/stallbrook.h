@@ -2,7 +2,8 @@
  *
  * A list is lent as pointer and length, the length in elements. The pointer must be aligned, and good for that many elements
  * (any aligned pointer but NULL where the length is 0); lists that a call writes must not overlap any other list of the same call.
- * Every call takes every number: nothing is undefined beyond that.
+ * Every call takes every number: nothing is undefined beyond that. On a refusal texels stay as they were; lists in which a call tells numbers
+ * (tally, numbers, a written block) are all 0, unless they themselves have another length than said.
  *
  * Footprints 0 to 13: 4x4, 5x4, 5x5, 6x5, 6x6, 8x5, 8x6, 8x8, 10x5, 10x6, 10x8, 10x10, 12x10, 12x12.
  * Texels are R, G, B, A, rows first; in 16 bits (unorm16), or in bytes before the sRGB curve (srgb8).
@@ -67,9 +68,9 @@ uint8_t stallbrook_astc_decode_image_srgb8(uint8_t footprint, uint32_t width, ui
 uint8_t stallbrook_astc_read_symbolic(uint8_t footprint, const uint8_t *block, size_t block_len, uint16_t *numbers, size_t numbers_len);
 
 /* The block of a symbolic block, with the smallest codes and spare bits 0: 103 numbers in the order above, whatever they are, to 16 bytes.
- * Answers 0, or the first refusal in the order 1, 31, 32, 14 to 17, 33, 18 to 20, 34 (with mark 1: 1, 31, 12), all 16 bytes being 0 then.
- * Where block is not of 16 bytes or numbers not of 103 it answers 1, 4 (block) or 5 (numbers), the first that holds, and leaves block as
- * it was. */
+ * Answers 0, or the first refusal in the order 1, 4 (block not of 16 bytes), 5 (numbers not of 103), 31, 32, 14 to 17, 33, 18 to 20, 34 (with
+ * mark 1: 1, 4, 5, 31, 12). On every refusal block is 16 zeros when it has 16 bytes, also where numbers has a wrong length; a block of
+ * another length is left as it was. */
 uint8_t stallbrook_astc_write_symbolic(uint8_t footprint, const uint16_t *numbers, size_t numbers_len, uint8_t *block, size_t block_len);
 
 /* A PVRTC1 image of 4 bits per pixel: words of 8 bytes in reflected Morton order, one for each 4 x 4 texels, to 4 bytes R, G, B, A for each

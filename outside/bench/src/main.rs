@@ -83,8 +83,21 @@ fn measure(name: &str, rounds: usize, mut ours: impl FnMut(), mut theirs: impl F
     [ratio, by_round]
 }
 
+const HELP: &str = "bench [ROUNDS]
+
+Times the library's calls against the reference's in one process, and feeding a clip against decoding its blocks; prints the ratios of
+thread CPU time. ROUNDS of each measure, 61 unless given. It is no test: it fails only where the two do not show the same.";
+
 fn main() {
-    let rounds: usize = std::env::args().nth(1).map_or(61, |n| n.parse().expect("bench [ROUNDS]"));
+    let argument = std::env::args().nth(1);
+    if matches!(argument.as_deref(), Some("--help" | "-h")) {
+        println!("{HELP}");
+        return;
+    }
+    let rounds: usize = argument.map_or(Some(61), |n| n.parse().ok().filter(|&n| n > 0)).unwrap_or_else(|| {
+        eprintln!("{HELP}");
+        std::process::exit(2)
+    });
     println!(
         "{SIDE} by {SIDE}, mixed mode blocks by the library's writer, seed {SEED}, {rounds} rounds, \
          medians of thread CPU time, buffers not cleared between calls"
