@@ -1,10 +1,20 @@
-//! 01's program by the second decoder: the stored outputs in tests/unpack are its.
+//! 01's program by the second decoder. The stored outputs in tests/unpack are its.
+//!
+//! - `unpack` reads standard input and writes the program's output.
+//! - `unpack DIR` makes inputs and outputs there: for each footprint and both kinds a block of random settings, `coded_WxH_kind_K`, and for
+//!   each fault from 14 on a block that has it, `coded_fault_N`. The other inputs in tests/unpack were made by hand.
 use std::fmt::Write;
+use std::fs::write as store;
 use std::io::Read;
+use std::path::Path;
 
-use reference::{FOOTPRINTS, Kind, decode};
+use reference::random::{Random, block_of_any_mode, fault20_block, footprint, mode_block};
+use reference::{FOOTPRINTS, Kind, decode, fault, write};
 
 fn main() {
+    if let Some(dir) = std::env::args().nth(1) {
+        return make(Path::new(&dir));
+    }
     let mut input = Vec::new();
     std::io::stdin().read_to_end(&mut input).expect("standard input");
     print!("{}", unpacked(&input));
@@ -30,4 +40,35 @@ fn unpacked(input: &[u8]) -> String {
         writeln!(text, "{} {} {} {} {} {}", k % width, k / width, t[0], t[1], t[2], t[3]).expect("text");
     }
     text
+}
+
+fn make(dir: &Path) {
+    let mut r = Random(2026);
+    for (f, (w, h)) in FOOTPRINTS.iter().enumerate() {
+        for kind in 0..2 {
+            let block = write(f, &mode_block(&mut r, f)).expect("an acceptable symbolic block");
+            put(dir, &format!("coded_{w}x{h}_kind_{kind}"), f, kind, &block);
+        }
+    }
+    for wanted in 14..=20 {
+        let (f, block) = faulty(&mut r, wanted);
+        put(dir, &format!("coded_fault_{wanted}"), f, r.below(2) as u8, &block);
+    }
+}
+
+/// A block that has the fault, at a random footprint.
+fn faulty(r: &mut Random, wanted: u8) -> (usize, [u8; 16]) {
+    loop {
+        let f = footprint(r);
+        let block = if wanted == 20 { fault20_block(r, f).0 } else { block_of_any_mode(r) };
+        if fault(f, &block) == wanted {
+            return (f, block);
+        }
+    }
+}
+
+fn put(dir: &Path, name: &str, footprint: usize, kind: u8, block: &[u8; 16]) {
+    let input = [&[footprint as u8, kind], &block[..]].concat();
+    store(dir.join(format!("{name}.out")), unpacked(&input)).expect("the output");
+    store(dir.join(format!("{name}.in")), input).expect("the input");
 }
