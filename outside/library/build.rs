@@ -5,6 +5,7 @@ use std::path::{Path, PathBuf};
 
 fn main() {
     println!("cargo:rerun-if-env-changed=STALLBROOK_LIB");
+    println!("cargo:rerun-if-env-changed=PWD");
     let named = std::env::var("STALLBROOK_LIB").expect("STALLBROOK_LIB: the directory of libstallbrook.a");
     let directory = found(Path::new(&named)).unwrap_or_else(|| panic!("STALLBROOK_LIB: no libstallbrook.a in {named}"));
     println!("cargo:rerun-if-changed={}", directory.join("libstallbrook.a").display());
