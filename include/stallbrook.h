@@ -116,6 +116,24 @@ uint8_t stallbrook_clip_finish(uint32_t *state, size_t state_len);
 uint8_t stallbrook_clip_write_frame(uint8_t footprint, uint8_t kind, uint32_t width, uint32_t height, const uint8_t *blocks, size_t blocks_len,
     uint8_t *out, size_t out_len);
 
+/* ---- BC7 (BPTC RGBA): blocks of 16 bytes, 4x4 texels of 4 bytes each (R, G, B, A, rows first).
+ * 71 is a block's fault: a first byte of 0. 72 and 73 are refusals of a sheet: a mode above 7; then a field or an anchor index beyond its
+ * bits in that mode, or an unused one not 0. */
+
+/* A block's texels: 16 bytes to 64. Answers 0; 71, and all 64 bytes are 0; or 4, then 5, which leave out as it was. */
+uint8_t stallbrook_bc7_decode_block(const uint8_t *block, size_t block_len, uint8_t *out, size_t out_len);
+
+/* A block's sheet: its fields as stored and in the block's order, as 60 numbers. With their places: mode (0), partition (1), rotation (2),
+ * index selection (3), 18 endpoints (4 to 21: red of the first subset's two ends, of the second's, of the third's, then green, blue and
+ * alpha alike), 6 P bits (22 to 27), 16 primary (28 to 43) and 16 secondary indices (44 to 59); those that the mode lacks are 0.
+ * Answers 0, or 4 or 71, and the numbers are all 0 (a sheet of zeros is acceptable here: the answer alone tells). A list of another length
+ * is refused by 5, after 4, and left as it was. */
+uint8_t stallbrook_bc7_read_symbolic(const uint8_t *block, size_t block_len, uint8_t *numbers, size_t numbers_len);
+
+/* The block of a sheet. Answers 0, or 72 or 73, and the block is 16 zeros. 4 where block is not of 16 bytes, then 5 where there are not 60
+ * numbers: nothing is written. Reading and writing are inverse on blocks without fault. */
+uint8_t stallbrook_bc7_write_symbolic(const uint8_t *numbers, size_t numbers_len, uint8_t *block, size_t block_len);
+
 #ifdef __cplusplus
 }
 #endif

@@ -5,6 +5,7 @@
 //! CPU time, median of the rounds; where the processor changes its pace between rounds, the median of the rounds' own ratios
 //! is steadier. Buffers are filled once before the first round and not cleared between calls.
 
+mod bc7;
 mod pvrtc;
 mod clip;
 
@@ -146,6 +147,7 @@ fn main() {
         );
     }
     worst = largest(worst, pvrtc::ratios(rounds));
+    worst = largest(worst, bc7::run(rounds));
     println!("largest ratio {:.2} (by rounds {:.2})", worst[0], worst[1]);
     clip::measure(rounds.min(7));
 }

@@ -1,5 +1,6 @@
 //! Compares the proved library with the vectors and the reference: compare [--seed N] [--blocks N]
 
+mod bc7;
 mod cases;
 mod clip;
 mod make;
@@ -167,7 +168,8 @@ fn main() {
         println!("{line}");
     }
     println!("seed {seed}, {} blocks", run.blocks);
-    let failed = run.failed + never.len() as u64;
-    println!("{} passed, {failed} failed", run.passed);
+    let bc7 = bc7::run(seed, blocks / 4);
+    let failed = run.failed + never.len() as u64 + bc7.failed;
+    println!("{} passed, {failed} failed", run.passed + bc7.passed);
     std::process::exit((failed != 0) as i32);
 }

@@ -13,6 +13,7 @@
 //! # Ok::<(), stallbrook::Error>(())
 //! ```
 
+pub mod bc7;
 pub mod clip;
 mod ffi;
 pub mod pvrtc;

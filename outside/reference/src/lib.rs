@@ -3,6 +3,7 @@
 //! Words: 01's "sheet" is a symbolic block here, its "solid" block a void extent,
 //! its "widen" is unquantise (stored numbers) or expand (endpoints to 16 bits).
 
+pub mod bc7;
 mod block;
 mod clip;
 mod colour;

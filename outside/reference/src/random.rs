@@ -35,7 +35,7 @@ impl Random {
     }
 
     /// A number of 0..=most, the ends more often.
-    fn number(&mut self, most: u16) -> u16 {
+    pub fn number(&mut self, most: u16) -> u16 {
         match self.below(8) {
             0 => 0,
             1 => most,

@@ -1,0 +1,50 @@
+-- The two sets of indices while a block's texels are painted.
+-- Assumes nothing.
+use mathlib.Core.Path.{_≡_}
+use Prim.Native.Nat.{ℕ, _+_, _-_, _/_, _^_, _<_}
+use lib.Dec.{eqb, ltb}
+use Rattle.laws.specs.Choice.{pick, both, either}
+use Rattle.bits.specs.Field.{field}
+use Rattle.bc7_layout.specs.Modes.{indexBits, secondaryBits, selectionBits}
+use Rattle.bc7_layout.specs.Layout.{placeOf, modeAt, partitionAt, fieldAt}
+use Rattle.bc7_block.specs.Picture.{texelOf}
+use Rattle.bc7_ends.specs.inner.Lanes.{laneByte}
+use Rattle.bc7_core.specs.declared.IndexSet.{IndexSet}
+
+-- the bits of an index that is no anchor, in the set whose first index is field k
+unfoldable pub setBits : ℕ → ℕ → ℕ
+unfolding indexBits secondaryBits
+setBits m k = pick (eqb k 28) (indexBits m) (secondaryBits m)
+
+-- the sets of the colours and of alpha
+unfoldable pub colourSet : ℕ → (ℕ → ℕ) → ℕ
+unfolding selectionBits
+colourSet m v = pick (both (eqb (selectionBits m) 1) (eqb (v 3) 1)) 44 28
+
+unfoldable pub alphaSet : ℕ → (ℕ → ℕ) → ℕ
+unfolding selectionBits secondaryBits
+alphaSet m v = pick (both (ltb 0 (secondaryBits m)) (either (eqb (selectionBits m) 0) (eqb (v 3) 0))) 44 28
+
+-- what is left of the 64 bits from the set's first index on, before index i
+unfoldable pub restOf : ℕ → ℕ → ℕ → ℕ
+unfolding placeOf modeAt partitionAt
+restOf B k i =
+    field B (placeOf (modeAt B) (partitionAt B) (k + i)) (64 - (placeOf (modeAt B) (partitionAt B) (k + i) - placeOf (modeAt B) (partitionAt B) k))
+
+-- a set of the block, with the indices from i on
+unfoldable pub setOf : ℕ → ℕ → ℕ → IndexSet
+unfolding setBits restOf
+setOf B k i = record { first = k; bits = setBits (modeAt B) k; rest = restOf B k i }
+
+-- a set that the mode has
+pub data SetIn : ℕ → ℕ → Type 0 where
+  primary : {m : ℕ} → SetIn m 28
+  secondary : {m : ℕ} → 0 < secondaryBits m → SetIn m 44
+
+-- a set without its next index, which lacks so many bits
+unfoldable pub behindOf : IndexSet → ℕ → IndexSet
+behindOf s short = record { first = s .first; bits = s .bits; rest = s .rest / 2 ^ (s .bits - short) }
+
+-- the bytes of a sum are the channels of texel i
+abbrev pub Shows : ℕ → ℕ → (ℕ → ℕ) → ℕ → Type 0
+Shows s m v i = (c : ℕ) → c < 4 → laneByte s c ≡ texelOf m v i c

@@ -1,0 +1,4 @@
+pub mod Modes
+pub mod Partitions
+pub mod Layout
+pub mod inner

@@ -1,0 +1,33 @@
+use mathlib.Core.Path.{refl, sym, _∙_}
+use Prim.Native.Nat.{_-_, _≤_}
+use native.Mathlib.Omega.{arith}
+use borrow.Author.Needs.{needs}
+use lib.ListN.{length, getD}
+use Rattle.laws.proofs.Filling.{Filling, filling-start, filling-more, filling-done}
+use Rattle.bc7_numbers.proofs.put_block.Statement.{statement}
+use Rattle.bc7_numbers.proofs.put_block.Tie as tie
+
+abbrev Inv-loop : tie.InvT-loop
+Inv-loop block₀ from i₀ block i = (i ≤ 16) × Filling (λ k. getD from k 0) 0 16 block i
+
+abbrev μ-loop : tie.MeasureT-loop
+μ-loop block₀ from i₀ block i = 16 - i
+
+loop-holds : tie.Need-loop-holds Inv-loop μ-loop
+loop-holds c = (omega arith, filling-start _ 0 16 _ (c .pre))
+
+slice-write-block : tie.Need-slice-write-block Inv-loop μ-loop
+slice-write-block c = omega (arith, c .before .loop .inv .1 .size)
+
+loop-again : tie.Need-loop-again Inv-loop μ-loop
+loop-again c = (omega arith, filling-more _ 0 16 _ _ _ (omega arith) (c .before .loop .inv .1) refl)
+
+same-length : tie.Need-same-length Inv-loop μ-loop
+same-length c = c .before .loop .inv .1 .size ∙ sym (c .before .before .pre)
+
+returns : tie.Need-returns Inv-loop μ-loop
+returns c = filling-done _ 0 16 _ _ (omega arith) (c .before .loop .inv .1)
+
+pub put-block-spec : {M : Type 1} → statement M
+put-block-spec =
+    tie.close (tie.spec Inv-loop μ-loop loop-holds (λ c. search needs) slice-write-block (λ c. omega arith) (λ c. omega arith) loop-again same-length returns)
