@@ -18,9 +18,9 @@ ghost use Rattle.footprint.specs.Footprint.{widthOf, texelsOf};
 ghost use Rattle.block_header.specs.Counts.{weightCount, endpointCount, endpointRangeOf};
 ghost use Rattle.block_mode.specs.Back2D.{Limits};
 ghost use Rattle.partition.specs.inner.Seeds.{selectBy};
-ghost use Rattle.texel.specs.Meaning.{solidTexel, texelFrom};
+ghost use Rattle.texel.specs.Meaning.{texelFrom};
 ghost use Rattle.texel.specs.BlockTexel.{blockInto};
-ghost use Rattle.block_fault.specs.Bits.{colourAt, endpointAt, weightAt};
+ghost use Rattle.block_fault.specs.Bits.{endpointAt, weightAt};
 ghost use Rattle.block_fault.specs.Faults.{faultOf};
 ghost use Rattle.block_core.specs.inner.Prepared.{frameOf, texelIn, Inside, ByteLevels, halves};
 ghost use Rattle.block_core.specs.inner.Held.{painted};
@@ -160,16 +160,6 @@ fn paint_coded(block: PhysicalBlock, s: Settings, fp: u8, kind: Kind, out: &mut 
     );
 }
 
-fn colours(block: PhysicalBlock) -> Texel
-    ensures { λ r. ⌜ r ≡ solidTexel (colourAt (blockNumber block)) ⌝ }
-{
-    let r = bits::field_at(block, 64, 16) as u16;
-    let g = bits::field_at(block, 80, 16) as u16;
-    let b = bits::field_at(block, 96, 16) as u16;
-    let a = bits::field_at(block, 112, 16) as u16;
-    Texel { r, g, b, a }
-}
-
 // What `decode_into` does, from the halves of a block: as two numbers they need no copy in memory.
 fn decode_halves(lo: u64, hi: u64, fp: u8, kind: Kind, out: &mut [u16; 576]) -> u8
     ensures { λ r. ⌜ r ≡ faultOf fp (blockNumber (halves lo hi)) ⌝ }
@@ -190,7 +180,7 @@ fn decode_halves(lo: u64, hi: u64, fp: u8, kind: Kind, out: &mut [u16; 576]) -> 
             n
         }
         Verdict::VoidExtent => {
-            flood(colours(block), fp, out);
+            flood(block_levels::colours(block), fp, out);
             0
         }
         Verdict::Coded => {

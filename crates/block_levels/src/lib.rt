@@ -1,5 +1,5 @@
-// The numbers of a coded block as its texels are made of them, unquantised once: the points of its weight grid, both planes' levels in one,
-// and the lines of its endpoint pairs.
+// The numbers of a block as its texels are made of them: of a coded block, unquantised once, the points of its weight grid, both planes' levels in one,
+// and the lines of its endpoint pairs; of a void extent its colours.
 use bits::PhysicalBlock;
 use block_header::Header;
 use block_mode::WeightGrid;
@@ -8,6 +8,7 @@ use encoding::LevelPair;
 use encoding::Stored;
 use endpoint_arithmetic::EndpointPair;
 use interpolation::Kind;
+use interpolation::Texel;
 use quantization::Rule;
 ghost use mathlib.Core.Path.{_≡_};
 ghost use Prim.Native.Nat.{_*_, _≤_, _<_};
@@ -29,8 +30,8 @@ ghost use Rattle.interpolation.specs.inner.Line.{lineOf};
 ghost use Rattle.weight_grid.specs.Cell.{level};
 ghost use Rattle.weight_grid.specs.inner.Points.{noPoint, pointOf, pointsOf};
 ghost use Rattle.block_mode.specs.Back2D.{Limits};
-ghost use Rattle.texel.specs.Meaning.{endpointLevels, weightLevels};
-ghost use Rattle.block_fault.specs.Bits.{endpointAt};
+ghost use Rattle.texel.specs.Meaning.{endpointLevels, weightLevels, solidTexel};
+ghost use Rattle.block_fault.specs.Bits.{endpointAt, colourAt};
 
 // A stored number unquantised by a rule.
 fn level_by(rule: Rule, s: Stored) -> Level
@@ -122,4 +123,15 @@ pub fn lines_of(block: PhysicalBlock, h: Header, kind: Kind, n: u8, range: u8) -
     let modes = h.modes;
     let t = color_endpoint::endpoint_table(modes, h.partitions, ends);
     pair_lines(kind, t, color_endpoint::filled(h.partitions))
+}
+
+// The texel of a void extent: its four colours as they stand.
+pub fn colours(block: PhysicalBlock) -> Texel
+    ensures { λ r. ⌜ r ≡ solidTexel (colourAt (blockNumber block)) ⌝ }
+{
+    let r = bits::field_at(block, 64, 16) as u16;
+    let g = bits::field_at(block, 80, 16) as u16;
+    let b = bits::field_at(block, 96, 16) as u16;
+    let a = bits::field_at(block, 112, 16) as u16;
+    Texel { r, g, b, a }
 }

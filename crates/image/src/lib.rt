@@ -8,7 +8,7 @@ use image_layout::Run;
 use image_layout::Tally;
 use interpolation::Kind;
 ghost use mathlib.Core.Path.{_≡_};
-ghost use Prim.Native.Nat.{_+_, _*_, _/_, _%_, _^_, _≤_, _<_};
+ghost use Prim.Native.Nat.{_+_, _*_, _/_, _%_, _≤_, _<_};
 ghost use lib.ListN.{length};
 ghost use Rattle.bits.specs.Block.{blockNumber};
 ghost use Rattle.interpolation.specs.declared.Kind.the-variants.{Unorm16, Srgb8};
@@ -17,7 +17,6 @@ ghost use Rattle.image_layout.specs.Faulty.{tallyOf};
 ghost use Rattle.image_layout.specs.Call.{checkedOf, imageAnswer, imageOut, imageTold, toldOf};
 ghost use Rattle.image_layout.proofs.Regions.{Pasted, Placed, Cropped, Tile};
 ghost use Rattle.image_layout.proofs.Calls.{Sound};
-ghost use Rattle.image_layout.specs.inner.Noted.{noted};
 ghost use Rattle.image_layout.proofs.Parts.{Fits, PartOf, RunOf, RunFits};
 
 // How many of n places from `at` on are within a side.
@@ -72,28 +71,6 @@ fn block_of(s: &[u8], b: usize) -> PhysicalBlock
 {
     let at = 16 * b;
     bits::load(&s[at..at + 16])
-}
-
-// One block more in the tally.
-fn note(t: Tally, b: u64, e: u8) -> Tally
-    requires { ⌜ (t .count ≤ b) × (b < 2 ^ 63) ⌝ }
-    ensures { λ r. ⌜ r ≡ noted t b e ⌝ }
-{
-    if e == 0 {
-        return t;
-    }
-    if t.count == 0 {
-        return Tally {
-            count: 1,
-            first: b,
-            fault: e,
-        };
-    }
-    Tally {
-        count: t.count + 1,
-        first: t.first,
-        fault: t.fault,
-    }
 }
 
 // Room for the numbers of the largest block.
@@ -164,7 +141,7 @@ fn decode_numbers(g: ImageGrid, s: &[u8], out: &mut [u16]) -> Tally
     let n = g.down * g.across;
     for b in 0..n {
         let e = show_numbers(g, b, s, &mut buf, out);
-        t = note(t, b as u64, e);
+        t = image_layout::note(t, b as u64, e);
     }
     t
 }
@@ -266,7 +243,7 @@ fn decode_bytes(g: ImageGrid, s: &[u8], out: &mut [u8]) -> Tally
     let n = g.down * g.across;
     for b in 0..n {
         let e = show_bytes(g, b, s, &mut buf, out);
-        t = note(t, b as u64, e);
+        t = image_layout::note(t, b as u64, e);
     }
     t
 }

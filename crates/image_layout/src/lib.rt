@@ -1,10 +1,11 @@
 // Images (01: pictures) of blocks in raster order: types, definitions and laws, and the refusals of an image call.
 ghost use mathlib.Core.Path.{_≡_};
 ghost use mathlib.Core.Bool.{false};
-ghost use Prim.Native.Nat.{_≤_, _<_};
+ghost use Prim.Native.Nat.{_^_, _≤_, _<_};
 ghost use Rattle.image_layout.specs.Geometry.{gridOf};
 ghost use Rattle.image_size.specs.Sides.{blocksAcross, badSide};
 ghost use Rattle.image_layout.specs.Call.{checkedOf};
+ghost use Rattle.image_layout.specs.inner.Noted.{noted};
 
 // The layout of an image: its footprint, its sides in texels, a block's sides in texels, and how many blocks lie across and down.
 pub struct ImageGrid {
@@ -100,4 +101,26 @@ pub fn check_image(
         return CheckedImage::Rejected(5);
     }
     CheckedImage::Accepted(g)
+}
+
+// One block more in the tally.
+pub fn note(t: Tally, b: u64, e: u8) -> Tally
+    requires { ⌜ (t .count ≤ b) × (b < 2 ^ 63) ⌝ }
+    ensures { λ r. ⌜ r ≡ noted t b e ⌝ }
+{
+    if e == 0 {
+        return t;
+    }
+    if t.count == 0 {
+        return Tally {
+            count: 1,
+            first: b,
+            fault: e,
+        };
+    }
+    Tally {
+        count: t.count + 1,
+        first: t.first,
+        fault: t.fault,
+    }
 }

@@ -1,8 +1,8 @@
 use borrow.Author.Tests.{eq-eqb, ne-eqb}
 use borrow.Author.Needs.{needs}
 use Rattle.image_layout.specs.inner.Noted.{noted}
-use Rattle.image.proofs.note.Statement.{statement}
-use Rattle.image.proofs.note.Tie as tie
+use Rattle.image_layout.proofs.note.Statement.{statement}
+use Rattle.image_layout.proofs.note.Tie as tie
 
 returns : tie.Need-returns
 unfolding noted

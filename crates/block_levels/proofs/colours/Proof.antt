@@ -3,8 +3,8 @@ use Rattle.block_fault.specs.Bits.{colourAt}
 use Rattle.block_fault.proofs.Laws.{narrow}
 use Rattle.texel.specs.Meaning.{solidTexel}
 use borrow.Author.Needs.{needs}
-use Rattle.block_core.proofs.colours.Statement.{statement}
-use Rattle.block_core.proofs.colours.Tie as tie
+use Rattle.block_levels.proofs.colours.Statement.{statement}
+use Rattle.block_levels.proofs.colours.Tie as tie
 
 field-at-requires : tie.Need-field-at-requires
 field-at-requires c κs = search needs
