@@ -281,7 +281,8 @@ impl SymbolicCase {
     fn write_difference(&self) -> Option<String> {
         let written = self.written();
         let block = written.unwrap_or([0; 16]);
-        let wanted = self.whole().map(|_| block.as_slice());
+        // 01: "all 0 on a refusal", whatever is refused, where the block has its sixteen bytes.
+        let wanted = (self.block_len == 16).then_some(block.as_slice());
         lend(self.block_len, wanted, None, "write_symbolic", written.err().unwrap_or(0), |given| {
             library::raw::write_symbolic(self.footprint, &self.numbers, given)
         })
