@@ -10,7 +10,7 @@
  *
  * Refusals, the first that holds:
  *    1 footprint above 13
- *    3 an image side is 0 or above 4096
+ *    3 an image side is 0 or above 16384
  *    4 block bytes not exactly 16 for each block
  *    5 the call's other list (texels, tally or numbers) not exactly as long as said
  * Faults of a block, the first that holds:
@@ -85,7 +85,7 @@ uint8_t stallbrook_pvrtc_decode_image(uint32_t width, uint32_t height, const uin
  *
  * Refusals of a clip that is read, told at the byte that shows them:
  *   51 another version; at the first byte
- *    1 footprint above 13, 2 kind above 1, 3 a side is 0 or above 4096, 52 a wrong length, the first that holds; at a frame's tenth byte
+ *    1 footprint above 13, 2 kind above 1, 3 a side is 0 or above 16384, 52 a wrong length, the first that holds; at a frame's tenth byte
  *   53 the end inside a frame or before the version byte; told by stallbrook_clip_finish
  * After a refusal, and after the end, nothing is taken until a fresh start and the same number is told again.
  *

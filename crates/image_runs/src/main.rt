@@ -62,17 +62,17 @@ fn unorm16(footprint: u8, width: u32, height: u32, blocks: &[u8], out: &mut [u16
     end_line();
 }
 
-// Sides 4,096, 0 and 4,097, with blocks that are all zero.
+// Sides 16,384, 0 and 16,385, with blocks that are all zero.
 fn sides() {
-    let blocks = [0u8; 16384];
-    let mut out = [2u8; 16384];
-    srgb8(0, 4096, 1, &blocks, &mut out);
-    srgb8(0, 1, 4096, &blocks, &mut out);
+    let blocks = [0u8; 65536];
+    let mut out = [2u8; 65536];
+    srgb8(0, 16384, 1, &blocks, &mut out);
+    srgb8(0, 1, 16384, &blocks, &mut out);
     let mut other = [2u8; 8];
     srgb8(0, 0, 1, &blocks, &mut other);
     srgb8(0, 1, 0, &blocks, &mut other);
-    srgb8(0, 4097, 1, &blocks, &mut other);
-    srgb8(0, 1, 4097, &blocks, &mut other);
+    srgb8(0, 16385, 1, &blocks, &mut other);
+    srgb8(0, 1, 16385, &blocks, &mut other);
 }
 
 // Footprints 13 and 14; an image one texel wide in its last block; too few and too many bytes and numbers.

@@ -8,11 +8,11 @@ use Rattle.laws.specs.Choice.{either}
 use Rattle.laws.specs.Reasons.{when, firstOf}
 use Rattle.footprint.specs.Footprint.{widthOf, heightOf}
 
--- "Picture sides are 1 to 4,096": the one limit of a side
+-- 02, e: "Raise each side to 16,384": the one limit of a side
 unfoldable pub sideLimit : ℕ
-sideLimit = 4096
+sideLimit = 16384
 
--- 3: "a picture side is 0 or above 4,096"
+-- 3: "a picture side is 0 or above" the limit
 unfoldable pub badSide : ℕ → Bool
 badSide n = either (eqb n 0) (ltb sideLimit n)
 

@@ -4,8 +4,8 @@ ghost use mathlib.Core.Bool.{false};
 ghost use Prim.Native.Nat.{_≤_, _<_};
 ghost use Rattle.image_size.specs.Sides.{badSide, blocksAcross, blocksOf, sizeRefusal};
 
-// "Picture sides are 1 to 4,096".
-const SIDE_LIMIT: u32 = 4096;
+// 02, e: "Raise each side to 16,384".
+const SIDE_LIMIT: u32 = 16384;
 
 // A side of 0, or above the limit.
 pub fn bad_side(n: u32) -> bool

@@ -18,7 +18,7 @@ pub const SORTS: &[(&str, &[u32])] = &[
     ("clip, frames begun", &[0, 1, 2, 3, 4]),
     ("clip, empty piece", &[1]),
     ("clip, pieces of one byte", &[1]),
-    ("clip, side of 4096", &[1]),
+    ("clip, side of 16384", &[1]),
     ("clip, header byte damaged", &[0, 1, 2, 3, 4, 5, 6, 7, 8, 9, 10]),
     ("clip, bytes of a block that came before a cut", &[0, 1, 2, 3, 4, 5, 6, 7, 8, 9, 10, 11, 12, 13, 14, 15]),
     ("clip, bytes of a header that came before a cut", &[0, 1, 2, 3, 4, 5, 6, 7, 8, 9]),
@@ -247,7 +247,7 @@ fn shot(r: &mut Random) -> (ClipFrame, Vec<u8>) {
     let side = |r: &mut Random| 1 + r.below(24) as u32;
     let mut frame = ClipFrame { footprint: r.below(14) as u8, kind: r.below(2) as u8, width: side(r), height: side(r) };
     if r.once_in(40) {
-        frame = ClipFrame { footprint: 13, width: 4096, height: 1, ..frame };
+        frame = ClipFrame { footprint: 13, width: 16384, height: 1, ..frame };
     }
     let blocks = (0..blocks_of(&frame)).flat_map(|_| r.bytes()).collect();
     (frame, blocks)
@@ -332,10 +332,10 @@ fn edges(run: &mut Run, r: &mut Random) {
         }
     }
     // sides at and past their limits, and a length that is off by one
-    for (width, height) in [(4096, 1), (4097, 1), (1, 4096), (1, 4097), (0, 1), (1, 0), (65535, 65535)] {
+    for (width, height) in [(16384, 1), (16385, 1), (1, 16384), (1, 16385), (0, 1), (1, 0), (65535, 65535)] {
         for off in [-1i64, 0, 1, 16] {
             let frame = ClipFrame { footprint: 13, kind: 0, width, height };
-            let blocks = vec![7; 16 * blocks_of(&frame).min(400)];
+            let blocks = vec![7; 16 * blocks_of(&frame).min(1400)];
             let length = (6 + blocks.len() as i64 + off) as u32;
             let mut bytes = vec![1];
             bytes.extend(length.to_be_bytes());
@@ -348,9 +348,9 @@ fn edges(run: &mut Run, r: &mut Random) {
         }
     }
     lengths(run);
-    for (width, height) in [(4096, 1), (4097, 1), (65536 + 5, 4), (1, u32::MAX), (0, 1)] {
+    for (width, height) in [(16384, 1), (16385, 1), (65536 + 5, 4), (1, u32::MAX), (0, 1)] {
         let frame = ClipFrame { footprint: 13, kind: 1, width, height };
-        let blocks = vec![9; 16 * 342];
+        let blocks = vec![9; 16 * 1366];
         run.frame(FrameCase { frame, room: 10 + blocks.len(), blocks });
     }
 }
@@ -382,8 +382,8 @@ fn frame(run: &mut Run, r: &mut Random) {
     match r.below(8) {
         0 => frame.footprint = 14 + r.below(242) as u8,
         1 => frame.kind = 2 + r.below(254) as u8,
-        2 => frame.width = r.pick(&[0, 4097, 65536, 65537, u32::MAX]),
-        3 => frame.height = r.pick(&[0, 4097, 65536, 65537, u32::MAX]),
+        2 => frame.width = r.pick(&[0, 16385, 65536, 65537, u32::MAX]),
+        3 => frame.height = r.pick(&[0, 16385, 65536, 65537, u32::MAX]),
         4 => blocks.resize(r.pick(&[0, blocks.len() - 1, blocks.len() + 1, blocks.len() + 16]), 0),
         5 => room = r.pick(&[0, room - 1, room + 1, room + 10, room - 10]),
         _ => {}
@@ -417,8 +417,8 @@ impl Run {
         self.seen.count("clip, end", parsed.end as u32);
         let begun = parsed.blocks.last().map_or(0, |b| b.frame_index + 1);
         self.seen.count("clip, frames begun", begun);
-        let long = parsed.blocks.iter().any(|b| b.frame.width == 4096 || b.frame.height == 4096);
-        self.seen.count("clip, side of 4096", long as u32);
+        let long = parsed.blocks.iter().any(|b| b.frame.width == 16384 || b.frame.height == 16384);
+        self.seen.count("clip, side of 16384", long as u32);
         let pieces = case.pieces();
         self.seen.count("clip, empty piece", pieces.iter().any(|p| p.is_empty()) as u32);
         self.seen.count("clip, pieces of one byte", (pieces.len() > 1 && pieces.iter().any(|p| p.len() == 1)) as u32);

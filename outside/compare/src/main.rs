@@ -74,7 +74,8 @@ impl Run {
             self.seen.count("image, first fault", tally.first_fault as u32);
             self.seen.count("image, first faulty block not the first block", (tally.first_index > 0) as u32);
             self.seen.count("image, several faulty blocks", (tally.faulty > 1) as u32);
-            self.seen.count("image, side of 4096", (case.width == 4096 || case.height == 4096) as u32);
+            self.seen.count("image, 11000 wide", (case.width == 11_000) as u32);
+            self.seen.count("image, side of 16384", (case.width == 16384 || case.height == 16384) as u32);
         }
         self.case(case);
     }
@@ -144,6 +145,7 @@ fn main() {
     for case in make::edges(&mut r) {
         run.image(case);
     }
+    run.image(make::panorama(&mut r));
     for case in make::above_255(&mut r) {
         run.symbolic(case);
     }

@@ -262,15 +262,21 @@ fn image_of(r: &mut Random, f: usize, width: u32, height: u32, many: usize) -> I
     ImageCase { footprint: f as u8, width, height, blocks, out_len: 4 * (width * height) as usize, tally_len: 3 }
 }
 
-/// Images with a side of 4,096, at every footprint.
+/// Images with a side of 16,384, at every footprint.
 pub fn edges(r: &mut Random) -> Vec<ImageCase> {
     let mut cases = Vec::new();
     for f in 0..FOOTPRINTS.len() {
         let other = 1 + r.below(20) as u32;
-        let (width, height) = if r.once_in(2) { (4096, other) } else { (other, 4096) };
+        let (width, height) = if r.once_in(2) { (16384, other) } else { (other, 16384) };
         cases.push(image_of(r, f, width, height, 200));
     }
     cases
+}
+
+/// 02, e: the panorama of the sports hall, 11,000 texels wide, at 6x6.
+pub fn panorama(r: &mut Random) -> ImageCase {
+    let f = FOOTPRINTS.iter().position(|&sides| sides == (6, 6)).unwrap();
+    image_of(r, f, 11_000, 1_000, 200)
 }
 
 /// An image call that is refused; several reasons may hold at once.
@@ -281,7 +287,7 @@ pub fn refused_image(r: &mut Random) -> ImageCase {
         case.footprint = bad_footprint(r);
     }
     if reason & 2 != 0 {
-        let side = r.pick(&[0, 4097, 4098, 65536, 1 << 31, u32::MAX]);
+        let side = r.pick(&[0, 16385, 16386, 65536, 1 << 31, u32::MAX]);
         if r.once_in(2) {
             case.width = side;
         } else {

@@ -25,7 +25,8 @@ impl Seen {
         seen.require("image, first fault", [0].into_iter().chain(FAULTS));
         seen.require("image, first faulty block not the first block", [1]);
         seen.require("image, several faulty blocks", [1]);
-        seen.require("image, side of 4096", [1]);
+        seen.require("image, 11000 wide", [1]);
+        seen.require("image, side of 16384", [1]);
         seen.require("write call, refusal", [0, 1, 4, 5, 12, 14, 15, 16, 17, 18, 19, 20, 31, 32, 33, 34]);
         seen.require("written block, footprint", 0..14);
         seen.require("place of a number above 255", 0..NUMBERS as u32);

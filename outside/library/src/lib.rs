@@ -53,7 +53,7 @@ fn words(number: u8) -> &'static str {
     match number {
         1 => "footprint above 13",
         2 => "kind above 1",
-        3 => "a side is 0 or above 4,096",
+        3 => "a side is 0 or above 16,384",
         4 => "block bytes not exactly 16 for each block",
         5 => "a buffer is not exactly as long as said",
         11 => "reserved block mode",

@@ -94,13 +94,13 @@ fn clips(r: &mut Random) -> Vec<Vec<u8>> {
         }
     }
     for (footprint, kind, width, height, length) in [
-        (13, 0, 4096, 0, 6),
+        (13, 0, 16384, 0, 6),
         (13, 1, 0, 1, 22),
-        (13, 1, 4097, 1, 6 + 16 * 342),
-        (13, 1, 1, 4097, 6 + 16 * 342),
-        (13, 1, 4096, 1, 6 + 16 * 342),
-        (13, 1, 1, 4096, 6 + 16 * 342),
-        (13, 1, 4096, 1, 10 + 16 * 342),
+        (13, 1, 16385, 1, 6 + 16 * 1366),
+        (13, 1, 1, 16385, 6 + 16 * 1366),
+        (13, 1, 16384, 1, 6 + 16 * 1366),
+        (13, 1, 1, 16384, 6 + 16 * 1366),
+        (13, 1, 16384, 1, 10 + 16 * 1366),
         (14, 2, 0, 0, 0),
         (13, 2, 0, 0, 0),
         (13, 1, 0, 0, 0),
@@ -132,8 +132,8 @@ fn frames(r: &mut Random) -> Vec<(ClipFrame, Vec<u8>, u8)> {
         ClipFrame { kind: 2, width: 0, ..good },
         ClipFrame { width: 0, ..good },
         ClipFrame { height: 0, ..good },
-        ClipFrame { width: 4097, ..good },
-        ClipFrame { height: 4097, ..good },
+        ClipFrame { width: 16385, ..good },
+        ClipFrame { height: 16385, ..good },
         good,
     ] {
         frames.push((f, vec![1; 17], 3));

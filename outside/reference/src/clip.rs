@@ -1,9 +1,7 @@
 //! Clips (02, j), read whole: the bytes of a clip at once, by offsets. There is no state and there are no pieces.
 
 use crate::FOOTPRINTS;
-
-/// Sides of a frame that are not refused by 3.
-const SIDES: std::ops::RangeInclusive<u32> = 1..=4096;
+use crate::refusals::SIDES;
 
 /// What the ten bytes before a frame's blocks say, but for their length.
 #[derive(Clone, Copy, PartialEq, Eq, Debug, Default)]

@@ -2,6 +2,9 @@
 
 use crate::FOOTPRINTS;
 
+/// Sides of an image that are not refused by 3 (02, e).
+pub(crate) const SIDES: std::ops::RangeInclusive<u32> = 1..=16384;
+
 /// The one-block call: 1, 4, 5.
 pub fn block_refusal(footprint: usize, block_len: usize, out_len: usize) -> u8 {
     if footprint > 13 {
@@ -22,7 +25,7 @@ pub fn image_refusal(footprint: usize, width: u32, height: u32, blocks_len: usiz
     if footprint > 13 {
         return 1;
     }
-    if !(1..=4096).contains(&width) || !(1..=4096).contains(&height) {
+    if !SIDES.contains(&width) || !SIDES.contains(&height) {
         return 3;
     }
     let (w, h) = FOOTPRINTS[footprint];

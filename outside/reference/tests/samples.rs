@@ -110,8 +110,8 @@ fn limits() {
     assert_eq!(block_refusal(14, 0, 0), 1);
     assert_eq!(block_refusal(0, 15, 0), 4);
     assert_eq!(block_refusal(0, 16, 63), 5);
-    assert_eq!(image_refusal(0, 4096, 1, 16 * 1024, 4 * 4096), 0);
-    assert_eq!(image_refusal(0, 4097, 1, 16 * 1025, 4 * 4097), 3);
+    assert_eq!(image_refusal(0, 16384, 1, 16 * 4096, 4 * 16384), 0);
+    assert_eq!(image_refusal(0, 16385, 1, 16 * 4097, 4 * 16385), 3);
     assert_eq!(image_refusal(0, 1, 0, 0, 0), 3);
     assert_eq!(image_refusal(14, 1, 0, 0, 0), 1);
     assert_eq!(image_refusal(0, 5, 5, 63, 1), 4);
