@@ -6,7 +6,8 @@
  * (tally, numbers, a written block) are all 0, unless they themselves have another length than said.
  *
  * Footprints 0 to 13: 4x4, 5x4, 5x5, 6x5, 6x6, 8x5, 8x6, 8x8, 10x5, 10x6, 10x8, 10x10, 12x10, 12x12.
- * Texels are R, G, B, A, rows first; in 16 bits (unorm16), or in bytes before the sRGB curve (srgb8).
+ * Texels are R, G, B, A, rows first; in 16 bits (unorm16: endpoints widen to 257c), or in bytes before the sRGB curve (srgb8: they widen
+ * to 256c+128, alpha as the colours, and the top byte is shown).
  *
  * Refusals, the first that holds:
  *    1 footprint above 13

@@ -27,6 +27,7 @@ use Rattle.weight_grid.specs.inner.Points.{stepOf, noPoint, readOf}
 use Rattle.block_levels.proofs.Levels.{points-le}
 use Rattle.weight_grid.proofs.Reading.{read-lt}
 use Rattle.interpolation.specs.declared.Texel.{Texel}
+use Rattle.interpolation.specs.declared.Kind.{Kind}
 use Rattle.interpolation.specs.inner.Line.{lineTexel}
 use Rattle.texel.specs.Meaning.{channel}
 use Rattle.block_core.specs.declared.Frame.{Frame}
@@ -113,7 +114,7 @@ module _ (seeds : Seeds) (partitions y x : ℕ) {l : List ℕ} (e : l ≡ tab (�
     go false = select-lt-4 seeds x y
 
 -- the texel, step by step
-pub told : (g : WeightGrid) (component : ℕ) (points : List LevelPair) (lines : List (List ℕ)) (seeds : Seeds) (partitions : ℕ) (f : Frame) (x y : ℕ)
+pub told : (kind : Kind) (g : WeightGrid) (component : ℕ) (points : List LevelPair) (lines : List (List ℕ)) (seeds : Seeds) (partitions : ℕ) (f : Frame) (x y : ℕ)
     {gs gt n right below p : ℕ} (both : LevelPair) {which : List ℕ} {t : Texel} → x < 16
     → which ≡ tab (λ k. pick (eqb partitions 1) 0 (selectBy seeds k y)) 16 → p ≡ getD which x 0
     → gs ≡ gridPlace (f .across) x (g .width) → gt ≡ gridPlace (f .down) y (g .height)
@@ -122,7 +123,7 @@ pub told : (g : WeightGrid) (component : ℕ) (points : List LevelPair) (lines :
     (firstLevel (getD points (n + below) noPoint)) (firstLevel (getD points (n + below + right) noPoint))
     → secondLevel both ≡ blendOf (gs % 16) (gt % 16) (secondLevel (getD points n noPoint)) (secondLevel (getD points (n + right) noPoint))
     (secondLevel (getD points (n + below) noPoint)) (secondLevel (getD points (n + below + right) noPoint))
-    → t ≡ lineTexel (getD lines p []) (firstLevel both) (secondLevel both) component → t ≡ texelIn g component points lines seeds partitions f x y
+    → t ≡ lineTexel kind (getD lines p []) (firstLevel both) (secondLevel both) component → t ≡ texelIn kind g component points lines seeds partitions f x y
 unfolding texelIn texelAt readOf
-told g component points lines seeds partitions f x y both h ew ep es et en er eb e1 e2 el =
+told kind g component points lines seeds partitions f x y both h ew ep es et en er eb e1 e2 el =
     rw (el, e1, e2, er, eb, en, es, et, ep ∙ which-told seeds partitions y x ew h)

@@ -60,13 +60,13 @@ use Rattle.block_core.proofs.Frames.{inside}
 use Rattle.block_levels.proofs.Levels.{linesIn, points-le}
 
 -- the line of a texel's partition
-line-at : (kind : Kind) (h : Header) (ends : List Level) (small : Bool) (x y : ℕ)
-    → getD (linesIn kind h ends) (pick (eqb (h .partitions) 1) 0 (selectBy (seedsOf (h .index) (h .partitions) small) x y)) []
-    ≡ lineOf kind (getD (tableOf (h .modes) (h .partitions) ends) (partitionOf (h .index) (h .partitions) small x y 0) noPair)
+line-at : (h : Header) (ends : List Level) (small : Bool) (x y : ℕ)
+    → getD (linesIn h ends) (pick (eqb (h .partitions) 1) 0 (selectBy (seedsOf (h .index) (h .partitions) small) x y)) []
+    ≡ lineOf (getD (tableOf (h .modes) (h .partitions) ends) (partitionOf (h .index) (h .partitions) small x y 0) noPair)
 unfolding partitionOf
-line-at kind h ends small x y =
-    ap (λ (p : ℕ). getD (linesIn kind h ends) p []) (go (eqb (h .partitions) 1) refl ∙ agrees (h .index) (h .partitions) small x y)
-    ∙ getD-tab (λ p. lineOf kind (getD (tableOf (h .modes) (h .partitions) ends) p noPair)) 4 _ [] (partition-lt-4 (h .index) (h .partitions) small x y 0)
+line-at h ends small x y =
+    ap (λ (p : ℕ). getD (linesIn h ends) p []) (go (eqb (h .partitions) 1) refl ∙ agrees (h .index) (h .partitions) small x y)
+    ∙ getD-tab (λ p. lineOf (getD (tableOf (h .modes) (h .partitions) ends) p noPair)) 4 _ [] (partition-lt-4 (h .index) (h .partitions) small x y 0)
   where
     go : (t : Bool) → eqb (h .partitions) 1 ≡ t → pick t 0 (selectBy (seedsOf (h .index) (h .partitions) small) x y) ≡ selectBy (seedsOf (h .index) (h .partitions) small) x y
     go true e = let one = eqb-true (h .partitions) 1 e in sym (agrees (h .index) (h .partitions) small x y ∙ rw (lt-ltb (h .partitions) 2 (omega (arith, one))))
@@ -156,11 +156,11 @@ module _ (fp : ℕ) (kind : Kind) (h : Header) (ends : List Level) (bytes : (k :
     second-told false e = no-second (expandedPair kind pair) _ _ _
 
     -- what is left to do for a texel gives the texel
-    pub prepared : texelIn (h .grid) (secondComponent fp kind h ends (weights h stored) x y) (points h stored) (linesIn kind h ends) (seedsOf (h .index) (h .partitions) (isSmall fp)) (h .partitions) (frameOf fp) x y
+    pub prepared : texelIn kind (h .grid) (secondComponent fp kind h ends (weights h stored) x y) (points h stored) (linesIn h ends) (seedsOf (h .index) (h .partitions) (isSmall fp)) (h .partitions) (frameOf fp) x y
         ≡ mixedTexel fp kind h ends (weights h stored) x y
     unfolding texelIn texelAt frameOf mixedTexel planeWeight secondWeight secondComponent
     prepared =
-        rw (line-at kind h ends (isSmall fp) x y)
+        rw (line-at h ends (isSmall fp) x y)
         (line-texel kind pair (read firstLevel) (read secondLevel) _ (pair-bytes .first) (pair-bytes .second) first-most last-most
         ∙ ap (λ (k : ℕ). texelOf (expandedPair kind pair) (level k) (level (read secondLevel)) (secondComponent fp kind h ends (weights h stored) x y)) first-is
         ∙ second-told (eqb (h .grid .planes) 2) refl)
@@ -202,15 +202,15 @@ ends-le range f k = tab-all (λ x. x .0 ≤ 255) (λ i. level (unquantEndpoint r
 pub coded-told : (fp : ℕ) (kind : Kind) (B : ℕ) (h : Header) (old : List ℕ) {l : List ℕ} → Limits (h .grid) → weightCount (h .grid) ≤ 64
     → {points : List LevelPair} {lines : List (List ℕ)} {small : Bool} {seeds : Seeds} {component : ℕ} {f : Frame}
     → points ≡ pointsOf (weightLevels (h .grid .range) (weightAt B h)) (h .grid .planes) (h .grid .width * h .grid .height)
-    → lines ≡ linesIn kind h (endpointLevels (endpointRangeOf h) (endpointAt B h))
+    → lines ≡ linesIn h (endpointLevels (endpointRangeOf h) (endpointAt B h))
     → small ≡ isSmall fp → seeds ≡ seedsOf (h .index) (h .partitions) small → component ≡ pick (eqb (h .grid .planes) 2) (h .component) 4 → f ≡ frameOf fp
-    → l ≡ painted (f .width) (texelIn (h .grid) component points lines seeds (h .partitions) f) (f .height * f .width) old
+    → l ≡ painted (f .width) (texelIn kind (h .grid) component points lines seeds (h .partitions) f) (f .height * f .width) old
     → l ≡ painted (widthOf fp) (texelFrom fp kind h (endpointAt B h) (weightAt B h)) (texelsOf fp) old
 unfolding texelFrom secondComponent frameOf texelsOf
 coded-told fp kind B h old {l} i n {points} {lines} {small} {seeds} {component} {f} el et em es ec ef w =
     w
-    ∙ ap (λ (k : Frame). painted (k .width) (texelIn (h .grid) component points lines seeds (h .partitions) k) (k .height * k .width) old) ef
-    ∙ ap (λ (k : ℕ). painted (widthOf fp) (texelIn (h .grid) component points lines seeds (h .partitions) (frameOf fp)) k old) (mul-comm (heightOf fp) (widthOf fp))
+    ∙ ap (λ (k : Frame). painted (k .width) (texelIn kind (h .grid) component points lines seeds (h .partitions) k) (k .height * k .width) old) ef
+    ∙ ap (λ (k : ℕ). painted (widthOf fp) (texelIn kind (h .grid) component points lines seeds (h .partitions) (frameOf fp)) k old) (mul-comm (heightOf fp) (widthOf fp))
     ∙ painted-as fp _ _ old (λ x y hx hy. rw (el, et, es, em, ec) (prepared fp kind h _ (ends-le (endpointRangeOf h) (endpointAt B h)) (weightAt B h) i n x y hx hy))
 
 -- ---- the three verdicts

@@ -85,10 +85,11 @@ fn put(out: &mut [u16; 576], i: usize, r: u16, g: u16, b: u16, a: u16)
 // All texels, row by row; the row's partitions are found at once. Only points of the grid are read: at the last column or row a point stands
 // for its neighbour outside, whose factor is 0.
 fn paint(
+    kind: Kind,
     g: WeightGrid,
     component: u8,
     points: [LevelPair; 64],
-    lines: &[[u16; 16]; 4],
+    lines: &[[u16; 8]; 4],
     seeds: Seeds,
     partitions: u8,
     f: Frame,
@@ -96,7 +97,7 @@ fn paint(
 )
     requires { ⌜ Inside g f ⌝ }
     requires { ⌜ ByteLevels points ⌝ }
-    ensures { λ r. ⌜ (length (now (out .entry)) ≡ 576 → now (out .exit) ≡ painted (f .width) (texelIn g component points (now (lines .entry)) seeds partitions f) (f .height * f .width) (now (out .entry))) ⌝ }
+    ensures { λ r. ⌜ (length (now (out .entry)) ≡ 576 → now (out .exit) ≡ painted (f .width) (texelIn kind g component points (now (lines .entry)) seeds partitions f) (f .height * f .width) (now (out .entry))) ⌝ }
 {
     let row = g.width as usize;
     let mut y: u8 = 0;
@@ -116,7 +117,7 @@ fn paint(
             let p11 = points[n + below + right];
             let both = weight_grid::infill_both(gs, gt, p00, p01, p10, p11);
             let line = lines[which[x as usize] as usize];
-            let t = interpolation::mix_line(line, both, component);
+            let t = interpolation::mix_line(kind, line, both, component);
             put(out, place(f.width, x, y), t.r, t.g, t.b, t.a);
             x += 1;
         }
@@ -146,9 +147,10 @@ fn paint_coded(block: PhysicalBlock, s: Settings, fp: u8, kind: Kind, out: &mut 
     let h = s.header;
     let g = h.grid;
     let points = block_levels::points_of(block, g);
-    let lines = block_levels::lines_of(block, h, kind, s.numbers, s.range);
+    let lines = block_levels::lines_of(block, h, s.numbers, s.range);
     let seeds = partition::partition_seeds(h.index, h.partitions, footprint::is_small(fp));
     paint(
+        kind,
         g,
         second_component(g.planes, h.component),
         points,

@@ -36,7 +36,6 @@ use Rattle.endpoint_arithmetic.specs.declared.EndpointPair.{EndpointPair}
 use Rattle.endpoint_arithmetic.specs.Pair.{zeroPair}
 use Rattle.color_endpoint.specs.Table.{tableOf}
 use Rattle.color_endpoint.proofs.Laws.{table-at, entry-past}
-use Rattle.interpolation.specs.declared.Kind.{Kind}
 use Rattle.interpolation.specs.Expansion.{noPair}
 use Rattle.interpolation.specs.inner.Line.{lineOf}
 
@@ -157,19 +156,19 @@ weights-read range κ b s n =
 
 -- ---- the lines of a table's pairs
 
-pub lines-same : (kind : Kind) (modes : List ℕ) (count : ℕ) (levels : List Level) {n : ℕ} {t : List EndpointPair} {r : List (List ℕ)}
-    → n ≡ min count 4 → t ≡ tableOf modes count levels → r ≡ padded 4 n (λ p. lineOf kind (getD t p noPair)) (lineOf kind zeroPair)
-    → r ≡ tab (λ p. lineOf kind (getD (tableOf modes count levels) p noPair)) 4
+pub lines-same : (modes : List ℕ) (count : ℕ) (levels : List Level) {n : ℕ} {t : List EndpointPair} {r : List (List ℕ)}
+    → n ≡ min count 4 → t ≡ tableOf modes count levels → r ≡ padded 4 n (λ p. lineOf (getD t p noPair)) (lineOf zeroPair)
+    → r ≡ tab (λ p. lineOf (getD (tableOf modes count levels) p noPair)) 4
 unfolding padded
-lines-same kind modes count levels en et er =
-    er ∙ rw (et, en) (padded-cap (λ p. lineOf kind (getD (tableOf modes count levels) p noPair)) (lineOf kind zeroPair) 4 count
-    ∙ tab-ext (λ k. pick (ltb k count) (lineOf kind (getD (tableOf modes count levels) k noPair)) (lineOf kind zeroPair)) (λ p. lineOf kind (getD (tableOf modes count levels) p noPair)) [] 4 same)
+lines-same modes count levels en et er =
+    er ∙ rw (et, en) (padded-cap (λ p. lineOf (getD (tableOf modes count levels) p noPair)) (lineOf zeroPair) 4 count
+    ∙ tab-ext (λ k. pick (ltb k count) (lineOf (getD (tableOf modes count levels) k noPair)) (lineOf zeroPair)) (λ p. lineOf (getD (tableOf modes count levels) p noPair)) [] 4 same)
   where
-    same : (k : ℕ) → k < 4 → pick (ltb k count) (lineOf kind (getD (tableOf modes count levels) k noPair)) (lineOf kind zeroPair) ≡ lineOf kind (getD (tableOf modes count levels) k noPair)
+    same : (k : ℕ) → k < 4 → pick (ltb k count) (lineOf (getD (tableOf modes count levels) k noPair)) (lineOf zeroPair) ≡ lineOf (getD (tableOf modes count levels) k noPair)
     same k l =
         elim (decLt k count) [
           | yes p ↦ rw (lt-ltb k count p)
-          | no p ↦ rw (le-ltb k count (omega arith)) (ap (lineOf kind) (sym (table-at modes levels count k noPair l ∙ entry-past modes levels count k (omega arith))))
+          | no p ↦ rw (le-ltb k count (omega arith)) (ap lineOf (sym (table-at modes levels count k noPair l ∙ entry-past modes levels count k (omega arith))))
         ]
 
 -- a grid of at most 64 weights has at most 64 points
@@ -178,22 +177,22 @@ unfolding weightCount
 points-le g l n = omega (arith, n, mul-le-mul-left (g .width * g .height) (l .planes-low))
 
 -- the lines of a header's pairs
-abbrev pub linesIn : Kind → Header → List Level → List (List ℕ)
-linesIn kind h ends = tab (λ p. lineOf kind (getD (tableOf (h .modes) (h .partitions) ends) p noPair)) 4
+abbrev pub linesIn : Header → List Level → List (List ℕ)
+linesIn h ends = tab (λ p. lineOf (getD (tableOf (h .modes) (h .partitions) ends) p noPair)) 4
 
 -- the levels of endpoint numbers by their range, count and place
 levelsBy : ℕ → ℕ → ℕ → ℕ → List Level
 levelsBy B range n from =
     endpointLevels range (λ i. pick (ltb i n) (number (encodingAt range) (bitsAt range) (sequenceAt (encodingAt range) (bitsAt range) B from n) i) 0)
 
-pub lines-told : (B : ℕ) (h : Header) (kind : Kind) {n from range m : ℕ} {ends : List Level} {t : List EndpointPair} {r : List (List ℕ)}
+pub lines-told : (B : ℕ) (h : Header) {n from range m : ℕ} {ends : List Level} {t : List EndpointPair} {r : List (List ℕ)}
     → n ≡ endpointCount h → from ≡ endpointsFrom (h .partitions) → range ≡ endpointRangeOf h
     → ends ≡ endpointLevels range (λ i. pick (ltb i n) (number (encodingAt range) (bitsAt range) (sequenceAt (encodingAt range) (bitsAt range) B from n) i) 0)
     → t ≡ tableOf (h .modes) (h .partitions) ends → m ≡ min (h .partitions) 4
-    → r ≡ padded 4 m (λ p. lineOf kind (getD t p noPair)) (lineOf kind zeroPair)
-    → r ≡ linesIn kind h (endpointLevels (endpointRangeOf h) (endpointAt B h))
+    → r ≡ padded 4 m (λ p. lineOf (getD t p noPair)) (lineOf zeroPair)
+    → r ≡ linesIn h (endpointLevels (endpointRangeOf h) (endpointAt B h))
 unfolding levelsBy endpointAt
-lines-told B h kind {n} {from} {range} en ef er ee et em el =
-    lines-same kind (h .modes) (h .partitions) _ em et el
-    ∙ ap (λ (l : List Level). linesIn kind h l)
+lines-told B h {n} {from} {range} en ef er ee et em el =
+    lines-same (h .modes) (h .partitions) _ em et el
+    ∙ ap (λ (l : List Level). linesIn h l)
     (ee ∙ ap (λ (k : ℕ). levelsBy B k n from) er ∙ ap (λ (m : ℕ). levelsBy B (endpointRangeOf h) m from) en ∙ ap (levelsBy B (endpointRangeOf h) (endpointCount h)) ef)

@@ -7,7 +7,6 @@ use encoding::Level;
 use encoding::LevelPair;
 use encoding::Stored;
 use endpoint_arithmetic::EndpointPair;
-use interpolation::Kind;
 use interpolation::Texel;
 use quantization::Rule;
 ghost use mathlib.Core.Path.{_≡_};
@@ -100,29 +99,29 @@ fn endpoints_of(block: PhysicalBlock, from: u8, range: u8, n: u8) -> [Level; 18]
 }
 
 // The lines of the first n pairs; the others are of the pair of zeros.
-fn pair_lines(kind: Kind, t: [EndpointPair; 4], n: usize) -> [[u16; 16]; 4]
+fn pair_lines(t: [EndpointPair; 4], n: usize) -> [[u16; 8]; 4]
     requires { ⌜ n ≤ 4 ⌝ }
-    ensures { λ r. ⌜ r ≡ padded 4 n (λ p. lineOf kind (getD t p noPair)) (lineOf kind zeroPair) ⌝ }
+    ensures { λ r. ⌜ r ≡ padded 4 n (λ p. lineOf (getD t p noPair)) (lineOf zeroPair) ⌝ }
 {
-    let none = interpolation::line_of(kind, endpoint_arithmetic::zero_pair());
+    let none = interpolation::line_of(endpoint_arithmetic::zero_pair());
     let mut out = [none; 4];
     let mut p: usize = 0;
     while p < n {
-        out[p] = interpolation::line_of(kind, t[p]);
+        out[p] = interpolation::line_of(t[p]);
         p += 1;
     }
     out
 }
 
 // The lines of a block's endpoint pairs, one for each partition.
-pub fn lines_of(block: PhysicalBlock, h: Header, kind: Kind, n: u8, range: u8) -> [[u16; 16]; 4]
+pub fn lines_of(block: PhysicalBlock, h: Header, n: u8, range: u8) -> [[u16; 8]; 4]
     requires { ⌜ (n ≡ endpointCount h) × (n ≤ 18) × (range ≡ endpointRangeOf h) ⌝ }
-    ensures { λ r. ⌜ r ≡ tab (λ p. lineOf kind (getD (tableOf (h .modes) (h .partitions) (endpointLevels (endpointRangeOf h) (endpointAt (blockNumber block) h))) p noPair)) 4 ⌝ }
+    ensures { λ r. ⌜ r ≡ tab (λ p. lineOf (getD (tableOf (h .modes) (h .partitions) (endpointLevels (endpointRangeOf h) (endpointAt (blockNumber block) h))) p noPair)) 4 ⌝ }
 {
     let ends = endpoints_of(block, block_fault::endpoints_from(h.partitions), range, n);
     let modes = h.modes;
     let t = color_endpoint::endpoint_table(modes, h.partitions, ends);
-    pair_lines(kind, t, color_endpoint::filled(h.partitions))
+    pair_lines(t, color_endpoint::filled(h.partitions))
 }
 
 // The texel of a void extent: its four colours as they stand.

@@ -15,19 +15,14 @@ use Rattle.endpoint_arithmetic.specs.declared.EndpointPair.{EndpointPair}
 use Rattle.interpolation.specs.declared.ExpandedPair.{ExpandedPair}
 use Rattle.interpolation.specs.declared.Kind.{Kind}
 use Rattle.interpolation.specs.declared.Kind.the-variants.{Unorm16, Srgb8}
-use Rattle.interpolation.specs.Expansion.{replicated, centred, colourOf, alphaOf, expandedPair, shownOf}
+use Rattle.interpolation.specs.Expansion.{replicated, centred, expandOf, expandedPair, shownOf}
 use Rattle.interpolation.specs.Texel.{mixOf, weightOf, channelOf}
 
 -- an expanded channel fits 16 bits
-pub colour-le : (kind : Kind) (c : ℕ) → c ≤ 255 → colourOf kind c ≤ 65535
+pub expand-le : (kind : Kind) (c : ℕ) → c ≤ 255 → expandOf kind c ≤ 65535
 unfolding replicated centred
-colour-le Unorm16 c h = omega arith
-colour-le Srgb8 c h = omega arith
-
-pub alpha-le : (kind : Kind) (c : ℕ) → c ≤ 255 → alphaOf kind c ≤ 65535
-unfolding replicated centred
-alpha-le Unorm16 c h = omega arith
-alpha-le Srgb8 c h = omega arith
+expand-le Unorm16 c h = omega arith
+expand-le Srgb8 c h = omega arith
 
 -- by a weight of 0..64 two 16-bit numbers mix to a 16-bit number
 pub mix-le : (c0 c1 i : ℕ) → c0 ≤ 65535 → c1 ≤ 65535 → i ≤ 64 → mixOf c0 c1 i ≤ 65535

@@ -13,7 +13,7 @@ use Rattle.encoding.specs.declared.Level.{Level}
 use Rattle.endpoint_arithmetic.specs.declared.EndpointPair.{EndpointPair}
 use Rattle.interpolation.specs.declared.Kind.{Kind}
 use Rattle.interpolation.specs.declared.Kind.the-variants.{Unorm16, Srgb8}
-use Rattle.interpolation.specs.Expansion.{replicated, centred, colourOf, alphaOf, expandOf, expandedEnd, expandedPair}
+use Rattle.interpolation.specs.Expansion.{replicated, centred, expandOf, expandedEnd, expandedPair}
 use Rattle.interpolation.specs.Texel.{mixOf, weightOf, channelOf, texelOf}
 use Rattle.interpolation.specs.inner.Line.{times, plus, minus, onLine, lowOf, addOf, startOf, slopeOf, lineOf, lineChannel, lineTexel}
 
@@ -72,13 +72,9 @@ module _ (e0 e1 i : ℕ) (h0 : e0 ≤ 255) (h1 : e1 ≤ 255) (hi : i ≤ 64) whe
       rw (add-mul (256 * e0) 128 (64 - i), add-mul (256 * e1) 128 i, mul-assoc 256 e0 (64 - i), mul-assoc 256 e1 i) (omega arith) in
       rw (line-mixed, e) (centred-below mixed mixed-le)
 
-  on-colour : (kind : Kind) → onLine (64 * e0) (minus e1 e0) (lowOf kind) (addOf kind) i ≡ mixOf (colourOf kind e0) (colourOf kind e1) i % 65536
-  on-colour Unorm16 = on-replicated
-  on-colour Srgb8 = on-centred
-
-  on-alpha : (kind : Kind) → onLine (64 * e0) (minus e1 e0) 1 32 i ≡ mixOf (alphaOf kind e0) (alphaOf kind e1) i % 65536
-  on-alpha Unorm16 = on-replicated
-  on-alpha Srgb8 = on-replicated
+  on-kind : (kind : Kind) → onLine (64 * e0) (minus e1 e0) (lowOf kind) (addOf kind) i ≡ mixOf (expandOf kind e0) (expandOf kind e1) i % 65536
+  on-kind Unorm16 = on-replicated
+  on-kind Srgb8 = on-centred
 
 module _ (kind : Kind) (p : EndpointPair) (first second component : ℕ) (h0 : (c : ℕ) → getD (p .e0) c 0 ≤ 255) (h1 : (c : ℕ) → getD (p .e1) c 0 ≤ 255)
     (hf : first ≤ 64) (hs : second ≤ 64) where
@@ -106,16 +102,11 @@ module _ (kind : Kind) (p : EndpointPair) (first second component : ℕ) (h0 : (
     go true = refl
     go false = refl
 
-  colour : (c : ℕ) → onLine (startOf p c) (slopeOf p c) (lowOf kind) (addOf kind) (at c)
-      ≡ mixOf (colourOf kind (getD (p .e0) c 0)) (colourOf kind (getD (p .e1) c 0)) (weightOf component one two c .0) % 65536
+  each : (c : ℕ) → onLine (startOf p c) (slopeOf p c) (lowOf kind) (addOf kind) (at c)
+      ≡ mixOf (expandOf kind (getD (p .e0) c 0)) (expandOf kind (getD (p .e1) c 0)) (weightOf component one two c .0) % 65536
   unfolding startOf slopeOf
-  colour c = rw (at-is c) (on-colour (getD (p .e0) c 0) (getD (p .e1) c 0) (at c) (h0 c) (h1 c) (at-le c) kind)
+  each c = rw (at-is c) (on-kind (getD (p .e0) c 0) (getD (p .e1) c 0) (at c) (h0 c) (h1 c) (at-le c) kind)
 
-  alpha : (c : ℕ) → onLine (startOf p c) (slopeOf p c) 1 32 (at c)
-      ≡ mixOf (alphaOf kind (getD (p .e0) c 0)) (alphaOf kind (getD (p .e1) c 0)) (weightOf component one two c .0) % 65536
-  unfolding startOf slopeOf
-  alpha c = rw (at-is c) (on-alpha (getD (p .e0) c 0) (getD (p .e1) c 0) (at c) (h0 c) (h1 c) (at-le c) kind)
-
-  pub line-texel : lineTexel (lineOf kind p) first second component ≡ texelOf (expandedPair kind p) (record { 0 = first }) (record { 0 = second }) component
-  unfolding lineTexel lineChannel lineOf texelOf channelOf expandedPair expandedEnd expandOf
-  line-texel = rw (colour 0, colour 1, colour 2, alpha 3)
+  pub line-texel : lineTexel kind (lineOf p) first second component ≡ texelOf (expandedPair kind p) (record { 0 = first }) (record { 0 = second }) component
+  unfolding lineTexel lineChannel lineOf texelOf channelOf expandedPair expandedEnd
+  line-texel = rw (each 0, each 1, each 2, each 3)

@@ -63,38 +63,28 @@ fn weight(component: u8, first: u16, second: u16, channel: u8) -> u16
 }
 
 // The four channels, each at its weight.
-fn texel_on(l: [u16; 16], first: u16, second: u16, component: u8) -> Texel
-    ensures { λ r. ⌜ r ≡ lineTexel l first second component ⌝ }
+fn texel_on(kind: Kind, l: [u16; 8], first: u16, second: u16, component: u8) -> Texel
+    ensures { λ r. ⌜ r ≡ lineTexel kind l first second component ⌝ }
 {
+    let k = low(kind);
+    let n = added(kind);
     Texel {
-        r: on_line(l[0], l[4], l[8], l[12], weight(component, first, second, 0)),
-        g: on_line(l[1], l[5], l[9], l[13], weight(component, first, second, 1)),
-        b: on_line(
-            l[2],
-            l[6],
-            l[10],
-            l[14],
-            weight(component, first, second, 2),
-        ),
-        a: on_line(
-            l[3],
-            l[7],
-            l[11],
-            l[15],
-            weight(component, first, second, 3),
-        ),
+        r: on_line(l[0], l[4], k, n, weight(component, first, second, 0)),
+        g: on_line(l[1], l[5], k, n, weight(component, first, second, 1)),
+        b: on_line(l[2], l[6], k, n, weight(component, first, second, 2)),
+        a: on_line(l[3], l[7], k, n, weight(component, first, second, 3)),
     }
 }
 
-// A texel on the lines of its pair, from the weights of both planes; the component that the component selector names (01: plane channel) takes the second weight, 4 or
+// A texel of a kind on the lines of its pair, from the weights of both planes; the component that the component selector names (01: plane channel) takes the second weight, 4 or
 // more standing for none.
-pub fn mix_line(l: [u16; 16], weights: LevelPair, component: u8) -> Texel
-    ensures { λ r. ⌜ r ≡ lineTexel l (firstLevel weights) (secondLevel weights) component ⌝ }
-    ensures { λ r. ⌜ ((kind : Kind) (p : EndpointPair) → l ≡ lineOf kind p → Mixes kind p (firstLevel weights) (secondLevel weights) component r) ⌝ }
+pub fn mix_line(kind: Kind, l: [u16; 8], weights: LevelPair, component: u8) -> Texel
+    ensures { λ r. ⌜ r ≡ lineTexel kind l (firstLevel weights) (secondLevel weights) component ⌝ }
+    ensures { λ r. ⌜ ((p : EndpointPair) → l ≡ lineOf p → Mixes kind p (firstLevel weights) (secondLevel weights) component r) ⌝ }
 {
     let first = (weights.0 % 256) as u16;
     let second = (weights.0 / 65536) as u16;
-    texel_on(l, first, second, component)
+    texel_on(kind, l, first, second, component)
 }
 
 // Where a channel's line starts: the first endpoint in sixty-fourths.
@@ -111,7 +101,7 @@ fn slope(e0: u8, e1: u8) -> u16
     wrapping_sub_u16(e1 as u16, e0 as u16)
 }
 
-// How often R, G and B add the mixed byte below itself.
+// How often a channel adds the mixed byte below itself.
 fn low(kind: Kind) -> u16
     ensures { λ r. ⌜ r ≡ lowOf kind ⌝ }
 {
@@ -121,7 +111,7 @@ fn low(kind: Kind) -> u16
     }
 }
 
-// What they add there besides, in sixty-fourths.
+// What it adds there besides, in sixty-fourths.
 fn added(kind: Kind) -> u16
     ensures { λ r. ⌜ r ≡ addOf kind ⌝ }
 {
@@ -131,14 +121,12 @@ fn added(kind: Kind) -> u16
     }
 }
 
-// The lines of an endpoint pair: four starts, four steps, and what the four add below the mixed byte: how often itself, and what besides.
-pub fn line_of(kind: Kind, p: EndpointPair) -> [u16; 16]
-    ensures { λ r. ⌜ r ≡ lineOf kind p ⌝ }
+// The lines of an endpoint pair: four starts and four steps.
+pub fn line_of(p: EndpointPair) -> [u16; 8]
+    ensures { λ r. ⌜ r ≡ lineOf p ⌝ }
 {
     let x = p.e0;
     let y = p.e1;
-    let k = low(kind);
-    let n = added(kind);
     [
         start(x[0]),
         start(x[1]),
@@ -148,13 +136,5 @@ pub fn line_of(kind: Kind, p: EndpointPair) -> [u16; 16]
         slope(x[1], y[1]),
         slope(x[2], y[2]),
         slope(x[3], y[3]),
-        k,
-        k,
-        k,
-        1,
-        n,
-        n,
-        n,
-        32,
     ]
 }

@@ -10,7 +10,7 @@ use Rattle.weight_grid.specs.Place.{scaleOf, gridPlace}
 use Rattle.endpoint_arithmetic.specs.Pair.{luminancePair}
 use Rattle.endpoint_arithmetic.specs.Signed.{bitTransfer, baseOf, offsetOf}
 use Rattle.color_endpoint.specs.Modes.{pairOf, mode1, lowLuminance, highLuminance, mode0}
-use Rattle.interpolation.specs.Expansion.{expandedPair, expandedEnd, expandOf, replicated, centred}
+use Rattle.interpolation.specs.Expansion.{expandedPair, expandedEnd, replicated, centred}
 use Rattle.interpolation.specs.Texel.{texelOf, channelOf, mixOf, weightOf}
 use Rattle.bits.specs.Block.{numberOf}
 use Rattle.block_mode.specs.Mode2D.{blockMode}
@@ -28,5 +28,5 @@ use Rattle.samples.specs.Samples.{Sample, samples}
 
 -- every sample computes to what is wanted
 pub samples-hold : map (λ (s : Sample). s .computed) samples ≡ map (λ (s : Sample). s .wanted) samples
-unfolding codeOf rangeBits unquantWeight unquantEndpoint bitTransfer baseOf offsetOf pairOf mode1 luminancePair lowLuminance highLuminance expandedPair expandedEnd expandOf replicated centred texelOf channelOf mixOf weightOf widthOf footprints scaleOf gridPlace numberOf blockMode heightOf endpointRange mode0 numberCount startOf numbersFrom entryOf tableOf weightAt cellOf infillOf blendOf w00 w01 w10 w11 partitionOf endpointRangeOf gridTooLarge tooManyWeights weightBitsOutside fourWithTwoPlanes tooManyEndpoints tooFewEndpointBits isHdr someHdr block.headerAt block.endpointAt block.weightAt faultOf texelFrom planeWeight secondWeight secondComponent shownChannel blockNumberAt
+unfolding codeOf rangeBits unquantWeight unquantEndpoint bitTransfer baseOf offsetOf pairOf mode1 luminancePair lowLuminance highLuminance expandedPair expandedEnd replicated centred texelOf channelOf mixOf weightOf widthOf footprints scaleOf gridPlace numberOf blockMode heightOf endpointRange mode0 numberCount startOf numbersFrom entryOf tableOf weightAt cellOf infillOf blendOf w00 w01 w10 w11 partitionOf endpointRangeOf gridTooLarge tooManyWeights weightBitsOutside fourWithTwoPlanes tooManyEndpoints tooFewEndpointBits isHdr someHdr block.headerAt block.endpointAt block.weightAt faultOf texelFrom planeWeight secondWeight secondComponent shownChannel blockNumberAt
 samples-hold = refl

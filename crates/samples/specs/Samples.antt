@@ -84,9 +84,9 @@ samples =
     -- "Mode 1 with 255, 255: both 255."
     ∷ sample (pairOf 1 (level 255 ∷ level 255 ∷ []) .e0) (255 ∷ 255 ∷ 255 ∷ 255 ∷ [])
     ∷ sample (pairOf 1 (level 255 ∷ level 255 ∷ []) .e1) (255 ∷ 255 ∷ 255 ∷ 255 ∷ [])
-    -- "Endpoints 0 and 1, weight 32: kind 0 gives 129; kind 1 gives colour 1, alpha 0."
+    -- "Endpoints 0 and 1, weight 32: kind 0 gives 129; kind 1 gives colour 1", and by 02, d, "alpha 1"
     ∷ sample (halfway Unorm16) (129 ∷ 129 ∷ 129 ∷ 129 ∷ [])
-    ∷ sample (halfway Srgb8) (1 ∷ 1 ∷ 1 ∷ 0 ∷ [])
+    ∷ sample (halfway Srgb8) (1 ∷ 1 ∷ 1 ∷ 1 ∷ [])
     -- "Footprint width 8, grid 8, s = 7: column 7, fraction 0." Footprint 7 is 8x8.
     ∷ sample (widthOf 7 ∷ gridPlace (scaleOf (widthOf 7)) 7 8 / 16 ∷ gridPlace (scaleOf (widthOf 7)) 7 8 % 16 ∷ []) (8 ∷ 7 ∷ 0 ∷ [])
     -- "The program's block above, texel 0,0, kind 0: 21504, 21504, 21504, 65535." Footprint 0 is 4x4.

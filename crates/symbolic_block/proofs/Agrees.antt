@@ -26,9 +26,9 @@ use Rattle.color_endpoint.specs.Modes as modes
 use Rattle.color_endpoint.specs.Table.{numberCount, startOf, numbersFrom, tableOf}
 use Rattle.color_endpoint.proofs.Laws.{table-at, entry-used}
 use Rattle.interpolation.specs.declared.Kind.{Kind}
-use Rattle.interpolation.specs.Expansion.{expandOf, alphaOf, colourOf, expandedEnd, expandedPair, noPair}
+use Rattle.interpolation.specs.Expansion.{expandOf, expandedEnd, expandedPair, noPair}
 use Rattle.interpolation.specs.Texel.{mixOf, weightOf, channelOf, texelOf}
-use Rattle.interpolation.proofs.Laws.{colour-le, alpha-le, channel-whole, weight-none}
+use Rattle.interpolation.proofs.Laws.{expand-le, channel-whole, weight-none}
 use Rattle.block_header.specs.Counts.{weightCount, endpointCount, bitsLeft, endpointRangeOf}
 use Rattle.texel.specs.Meaning.{endpointLevels, weightLevels, planeWeight, secondWeight, secondComponent, texelFrom}
 use Rattle.symbolic_block.specs.declared.SymbolicBlock.{SymbolicBlock}
@@ -52,7 +52,7 @@ levels-le g h n k = tab-all (λ x. x .0 ≤ 255) (λ i. level (g i)) modes.noLev
 -- ---- mixing
 
 -- a channel of an expanded end
-end-at : (kind : Kind) (e : List ℕ) (c : ℕ) → c < 4 → getD (expandedEnd kind e) c 0 ≡ expandOf kind c (getD e c 0)
+end-at : (kind : Kind) (e : List ℕ) (c : ℕ) → c < 4 → getD (expandedEnd kind e) c 0 ≡ expandOf kind (getD e c 0)
 unfolding expandedEnd
 end-at kind e zero h = refl
 end-at kind e (suc zero) h = refl
@@ -60,23 +60,16 @@ end-at kind e (suc (suc zero)) h = refl
 end-at kind e (suc (suc (suc zero))) h = refl
 end-at kind e (suc (suc (suc (suc c)))) h = absurd (omega arith)
 
-expand-le : (kind : Kind) (c n : ℕ) → n ≤ 255 → expandOf kind c n ≤ 65535
-unfolding expandOf
-expand-le kind c n h = go (eqb c 3) where
-  go : (b : Bool) → pick b (alphaOf kind n) (colourOf kind n) ≤ 65535
-  go true = alpha-le kind n h
-  go false = colour-le kind n h
-
 -- of bytes and a weight of 0..64, the mix needs no cut to 16 bits
 mix-whole : (kind : Kind) (p : EndpointPair) → Bytes p → (first second component c : ℕ) → c < 4 → first ≤ 64 → second ≤ 64
     → channelOf (expandedPair kind p) (level first) (level second) component c
-    ≡ mixOf (expandOf kind c (getD (p .e0) c 0)) (expandOf kind c (getD (p .e1) c 0)) (weightOf component (level first) (level second) c .0)
+    ≡ mixOf (expandOf kind (getD (p .e0) c 0)) (expandOf kind (getD (p .e1) c 0)) (weightOf component (level first) (level second) c .0)
 unfolding expandedPair
 mix-whole kind p b first second component c h hf hs =
     let e0 = end-at kind (p .e0) c h in
     let e1 = end-at kind (p .e1) c h in
     channel-whole (expandedPair kind p) (level first) (level second) component c
-    (rw e0 (expand-le kind c (getD (p .e0) c 0) (b .first c))) (rw e1 (expand-le kind c (getD (p .e1) c 0) (b .second c))) hf hs
+    (rw e0 (expand-le kind (getD (p .e0) c 0) (b .first c))) (rw e1 (expand-le kind (getD (p .e1) c 0) (b .second c))) hf hs
     ∙ λ j. mixOf (e0 j) (e1 j) (weightOf component (level first) (level second) c .0)
 
 module _ (s : SymbolicBlock) (f : Counted s) where
@@ -276,7 +269,7 @@ module _ (s : SymbolicBlock) (f : Counted s) where
     unfolding channelAt
     channel-is c h =
         mix-whole kind (pairOfColours s partition) (colour-bytes partition) first second named c h (place-le (firstGrid s) first-le fp x y) second-most
-        ∙ ap (mixOf (expandOf kind c (getD (pairOfColours s partition .e0) c 0)) (expandOf kind c (getD (pairOfColours s partition .e1) c 0))) (weight-is c h)
+        ∙ ap (mixOf (expandOf kind (getD (pairOfColours s partition .e0) c 0)) (expandOf kind (getD (pairOfColours s partition .e1) c 0))) (weight-is c h)
 
     mixed-is : texelFrom fp kind (headerOf s) (endpointIn s) (weightIn s) x y
         ≡ texelOf (expandedPair kind (pairOfColours s partition)) (level first) (level second) named

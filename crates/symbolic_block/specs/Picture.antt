@@ -106,7 +106,7 @@ module _ (s : SymbolicBlock) where
   unfoldable pub channelAt : ℕ → Kind → ℕ → ℕ → ℕ → ℕ
   channelAt fp kind x y c =
       let pair = pairOfColours (partitionAt fp x y) in
-      mixOf (expandOf kind c (getD (pair .e0) c 0)) (expandOf kind c (getD (pair .e1) c 0)) (placeWeight fp (channelGrid c) x y)
+      mixOf (expandOf kind (getD (pair .e0) c 0)) (expandOf kind (getD (pair .e1) c 0)) (placeWeight fp (channelGrid c) x y)
 
   unfoldable pub mixedPicture : ℕ → Kind → ℕ → ℕ → Texel
   mixedPicture fp kind x y =

@@ -1,5 +1,5 @@
 // Texels of blocks as Arm's astcenc shows them: 17 bytes for each block, its footprint and its sixteen bytes. For four texels of each a line
-// "k R G B A r g b": the top eleven significant bits of kind 0's numbers, which is what a half float keeps of them, and kind 1's colours.
+// "k R G B A r g b a": the top eleven significant bits of kind 0's numbers, which is what a half float keeps of them, and kind 1's bytes.
 use libc::STDIN_FILENO;
 use libc::STDOUT_FILENO;
 
@@ -49,6 +49,7 @@ fn texel(k: usize, numbers: &[u16; 576], bytes: &[u8; 576]) {
     byte(bytes[i]);
     byte(bytes[i + 1]);
     byte(bytes[i + 2]);
+    byte(bytes[i + 3]);
     io::write_all(STDOUT_FILENO, b"\n");
 }
 

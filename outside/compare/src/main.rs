@@ -87,7 +87,6 @@ fn vectors(run: &mut Run) {
         &vectors::Decoder {
             unorm16: &|footprint, block, out| library::raw::decode_block_unorm16(footprint as u8, block, out),
             srgb8: &|footprint, block, out| library::raw::decode_block_srgb8(footprint as u8, block, out),
-            alpha_like_colours: false,
         },
         &vectors::STORED,
     );

@@ -143,10 +143,10 @@ pub fn grid_factors(fs: u32, ft: u32) -> [u32; 4] {
     [16 + w11 - fs - ft, fs - w11, ft - w11, w11]
 }
 
-/// An endpoint's channel expanded to 16 bits.
+/// An endpoint's channel expanded to 16 bits; alpha as the colours (02, request d).
 #[inline]
-pub fn expand(kind: Kind, channel: usize, c: u8) -> u32 {
-    if kind == Kind::Srgb8 && channel < 3 { 256 * c as u32 + 128 } else { 257 * c as u32 }
+pub fn expand(kind: Kind, c: u8) -> u32 {
+    if kind == Kind::Srgb8 { 256 * c as u32 + 128 } else { 257 * c as u32 }
 }
 
 #[cfg(test)]

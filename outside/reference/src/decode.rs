@@ -92,7 +92,7 @@ fn lines<T: Sample>(block: u128, m: &ModeSettings) -> [Line; 4] {
         let pair = endpoint_pair(mode, &numbers[first..]);
         first += numbers_of_mode(mode);
         for channel in 0..4 {
-            let [c0, c1] = [0, 1].map(|e| expand(T::KIND, channel, pair[e][channel]) as i32);
+            let [c0, c1] = [0, 1].map(|e| expand(T::KIND, pair[e][channel]) as i32);
             line.start[channel] = 64 * c0 + 32;
             line.step[channel] = c1 - c0;
         }

@@ -313,7 +313,7 @@ pub fn picture(footprint: usize, kind: Kind, s: &SymbolicBlock, x: usize, y: usi
     for channel in 0..4 {
         let second = s.planes == 2 && s.plane_channel as usize == channel;
         let i = planes[second as usize];
-        let [c0, c1] = [0, 1].map(|e| expand(kind, channel, pair[e][channel]));
+        let [c0, c1] = [0, 1].map(|e| expand(kind, pair[e][channel]));
         let c = (c0 * (64 - i) + c1 * i + 32) / 64;
         texel[channel] = match kind {
             Kind::Unorm16 => c as u16,

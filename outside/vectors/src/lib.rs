@@ -19,9 +19,6 @@ pub struct Decoder<'a> {
     pub unorm16: &'a Call<u16>,
     /// Kind 1.
     pub srgb8: &'a Call<u8>,
-    /// False: alpha of kind 1 is the top byte of 257c interpolated (01).
-    /// True: alpha widens like the colours (request d), as in astcenc.
-    pub alpha_like_colours: bool,
 }
 
 /// The stored files.
@@ -72,13 +69,6 @@ pub fn half_float(c: u16) -> u16 {
     ((top + 15 - 16) << 10 | mantissa) as u16
 }
 
-/// astcenc's sRGB alpha of a mode block from the kind 0 number c = floor((257 s + 32) / 64):
-/// the number s = c0 (64 - i) + c1 i is found again and rounded to a byte.
-pub fn srgb_alpha(c: u16) -> u8 {
-    let s = (64 * c as u32).saturating_sub(32).div_ceil(257);
-    ((s + 32) / 64) as u8
-}
-
 /// CRC-32 as zlib computes it.
 pub fn crc32(bytes: &[u8]) -> u32 {
     const TABLE: [u32; 256] = {
@@ -108,15 +98,6 @@ fn as_astcenc(decoder: &Decoder, footprint: usize, block: &[u8; 16]) -> (u8, Vec
     let other = (decoder.srgb8)(footprint, block, &mut bytes);
     if other != fault {
         return (255, Vec::new(), Vec::new());
-    }
-    let void_extent = block[0] == 0xFC && block[1] & 1 == 1;
-    if !void_extent && !decoder.alpha_like_colours {
-        for (texel, number) in bytes.chunks_mut(4).zip(numbers.chunks(4)) {
-            if texel[3] != (number[3] >> 8) as u8 {
-                return (255, Vec::new(), Vec::new());
-            }
-            texel[3] = srgb_alpha(number[3]);
-        }
     }
     let halves = numbers.iter().flat_map(|&c| half_float(c).to_le_bytes()).collect();
     (fault, halves, bytes)
@@ -206,16 +187,6 @@ mod tests {
         }
         assert_eq!(half_float(65535), 0x3C00);
         assert_eq!(half_float(21504), 0x3540);
-    }
-
-    #[test]
-    fn alphas() {
-        for s in 0..=255 * 64 {
-            let c = (257 * s + 32) / 64;
-            assert_eq!(srgb_alpha(c as u16) as u32, (s + 32) / 64);
-            // The rule with 256 c + 128 for alpha: the same.
-            assert_eq!((256 * s + 128 * 64 + 32) / 64 / 256, (s + 32) / 64);
-        }
     }
 
     #[test]

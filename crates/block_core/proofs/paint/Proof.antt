@@ -13,18 +13,18 @@ use Rattle.block_core.proofs.paint.Tie as tie
 
 -- within a row: whatever was painted before the row is there still, and x texels of the row are
 abbrev Inv-loop2 : tie.InvT-loop2
-Inv-loop2 g component lines seeds partitions f out₀ points row y gt from below which x₀ out x =
-    (x ≤ f .width) × ((old : List ℕ) → length old ≡ 576 → Laid (f .width) (texelIn g component points lines seeds partitions f) old out₀ (4 * (y * f .width)) → Laid (f .width) (texelIn g component points lines seeds partitions f) old out (4 * (y * f .width + x)))
+Inv-loop2 kind g component lines seeds partitions f out₀ points row y gt from below which x₀ out x =
+    (x ≤ f .width) × ((old : List ℕ) → length old ≡ 576 → Laid (f .width) (texelIn kind g component points lines seeds partitions f) old out₀ (4 * (y * f .width)) → Laid (f .width) (texelIn kind g component points lines seeds partitions f) old out (4 * (y * f .width + x)))
 
 abbrev μ-loop2 : tie.MeasureT-loop2
-μ-loop2 g component lines seeds partitions f out₀ points row y gt from below which x₀ out x = f .width - x
+μ-loop2 kind g component lines seeds partitions f out₀ points row y gt from below which x₀ out x = f .width - x
 
 abbrev Inv-loop : tie.InvT-loop
-Inv-loop g component lines seeds partitions f out₀ points row y₀ out y =
-    (y ≤ f .height) × (length out₀ ≡ 576 → Laid (f .width) (texelIn g component points lines seeds partitions f) out₀ out (4 * (y * f .width)))
+Inv-loop kind g component lines seeds partitions f out₀ points row y₀ out y =
+    (y ≤ f .height) × (length out₀ ≡ 576 → Laid (f .width) (texelIn kind g component points lines seeds partitions f) out₀ out (4 * (y * f .width)))
 
 abbrev μ-loop : tie.MeasureT-loop
-μ-loop g component lines seeds partitions f out₀ points row y₀ out y = f .height - y
+μ-loop kind g component lines seeds partitions f out₀ points row y₀ out y = f .height - y
 
 -- ---- where the row lies
 
@@ -56,11 +56,11 @@ which-line c = let a = c .before .before .before .before .before .before .before
 
 -- the texel at the place
 shown : (d : tie.After-place Inv-loop2 μ-loop2 Inv-loop μ-loop) → d .before .before .mix-line .result
-    ≡ texelIn (d .before .before .before .before .before .before .before .before .before .before .before .before .before .before .before .before .before .before .before .before .before .args .g) (d .before .before .before .before .before .before .before .before .before .before .before .before .before .before .before .before .before .before .before .before .before .args .component) (d .before .before .before .before .before .before .before .before .before .before .before .before .before .before .before .before .before .before .before .before .before .args .t3) (now (d .before .before .before .before .before .before .before .before .before .before .before .before .before .before .before .before .before .before .before .before .before .args .lines)) (d .before .before .before .before .before .before .before .before .before .before .before .before .before .before .before .before .before .before .before .before .before .args .seeds) (d .before .before .before .before .before .before .before .before .before .before .before .before .before .before .before .before .before .before .before .before .before .args .partitions) (d .before .before .before .before .before .before .before .before .before .before .before .before .before .before .before .before .before .before .before .before .before .args .f) (d .before .before .before .before .before .before .before .before .before .before .before .before .before .loop2 .x) (d .before .before .before .before .before .before .before .before .before .before .before .before .before .before .before .before .before .before .before .loop .y)
+    ≡ texelIn (d .before .before .before .before .before .before .before .before .before .before .before .before .before .before .before .before .before .before .before .before .before .args .kind) (d .before .before .before .before .before .before .before .before .before .before .before .before .before .before .before .before .before .before .before .before .before .args .g) (d .before .before .before .before .before .before .before .before .before .before .before .before .before .before .before .before .before .before .before .before .before .args .component) (d .before .before .before .before .before .before .before .before .before .before .before .before .before .before .before .before .before .before .before .before .before .args .t4) (now (d .before .before .before .before .before .before .before .before .before .before .before .before .before .before .before .before .before .before .before .before .before .args .lines)) (d .before .before .before .before .before .before .before .before .before .before .before .before .before .before .before .before .before .before .before .before .before .args .seeds) (d .before .before .before .before .before .before .before .before .before .before .before .before .before .before .before .before .before .before .before .before .before .args .partitions) (d .before .before .before .before .before .before .before .before .before .before .before .before .before .before .before .before .before .before .before .before .before .args .f) (d .before .before .before .before .before .before .before .before .before .before .before .before .before .loop2 .x) (d .before .before .before .before .before .before .before .before .before .before .before .before .before .before .before .before .before .before .before .loop .y)
 shown d =
     let a = d .before .before .before .before .before .before .before .before .before .before .before .before .before .before .before .before .before .before .before .before .before .args in
     let i = d .before .before .before .before in
-    told (a .g) (a .component) (a .t3) (now (a .lines)) (a .seeds) (a .partitions) (a .f) (d .before .before .before .before .before .before .before .before .before .before .before .before .before .loop2 .x) (d .before .before .before .before .before .before .before .before .before .before .before .before .before .before .before .before .before .before .before .loop .y) (i .infill-both .result) (narrow i)
+    told (a .kind) (a .g) (a .component) (a .t4) (now (a .lines)) (a .seeds) (a .partitions) (a .f) (d .before .before .before .before .before .before .before .before .before .before .before .before .before .loop2 .x) (d .before .before .before .before .before .before .before .before .before .before .before .before .before .before .before .before .before .before .before .loop .y) (i .infill-both .result) (narrow i)
     (d .before .before .before .before .before .before .before .before .before .before .before .before .before .before .row-partitions .ensures) refl (d .before .before .before .before .before .before .before .before .before .before .grid-place2 .ensures) (d .before .before .before .before .before .before .before .before .before .before .before .before .before .before .before .before .grid-place .ensures) refl (d .before .before .before .before .before .before .before .before .before .step2 .ensures) (d .before .before .before .before .before .before .before .before .before .before .before .before .before .before .before .step .ensures)
     (i .infill-both .ensures .0) (i .infill-both .ensures .1) (d .before .before .mix-line .ensures .0)
 

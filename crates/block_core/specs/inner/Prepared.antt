@@ -17,6 +17,7 @@ use Rattle.weight_grid.specs.Place.{scaleOf, gridPlace}
 use Rattle.encoding.specs.declared.LevelPair.{LevelPair}
 use Rattle.encoding.specs.Levels.{firstLevel, secondLevel, Bytes}
 use Rattle.weight_grid.specs.inner.Points.{noPoint, readOf}
+use Rattle.interpolation.specs.declared.Kind.{Kind}
 use Rattle.interpolation.specs.declared.Texel.{Texel}
 use Rattle.interpolation.specs.inner.Line.{lineTexel}
 use Rattle.block_core.specs.declared.Frame.{Frame}
@@ -25,11 +26,11 @@ use Rattle.block_core.specs.declared.Frame.{Frame}
 unfoldable pub frameOf : ℕ → Frame
 frameOf fp = record { width = widthOf fp; height = heightOf fp; across = scaleOf (widthOf fp); down = scaleOf (heightOf fp) }
 
-module _ (g : WeightGrid) (component : ℕ) (points : List LevelPair) (lines : List (List ℕ)) where
+module _ (kind : Kind) (g : WeightGrid) (component : ℕ) (points : List LevelPair) (lines : List (List ℕ)) where
   -- the texel of partition p at gs, gt of the grid; `component` takes the second weight, 4 standing for none
   unfoldable pub texelAt : ℕ → ℕ → ℕ → Texel
   texelAt p gs gt =
-      lineTexel (getD lines p []) (readOf firstLevel points (g .width) (g .height) gs gt) (readOf secondLevel points (g .width) (g .height) gs gt) component
+      lineTexel kind (getD lines p []) (readOf firstLevel points (g .width) (g .height) gs gt) (readOf secondLevel points (g .width) (g .height) gs gt) component
 
   -- the texel at x, y of a block
   unfoldable pub texelIn : Seeds → ℕ → Frame → ℕ → ℕ → Texel

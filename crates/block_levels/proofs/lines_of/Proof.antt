@@ -24,7 +24,7 @@ returns c =
     let t = c .before .before in
     let o = t .before .before in
     let s = o .before .before in
-    lines-told (blockNumber (s .args .block)) (s .args .h) (s .args .kind) (s .pre .0) (o .before .endpoints-from .ensures) (s .pre .2) (o .endpoints-of .ensures) (t .endpoint-table .ensures) (c .before .filled .ensures) (c .pair-lines .ensures)
+    lines-told (blockNumber (s .args .block)) (s .args .h) (s .pre .0) (o .before .endpoints-from .ensures) (s .pre .2) (o .endpoints-of .ensures) (t .endpoint-table .ensures) (c .before .filled .ensures) (c .pair-lines .ensures)
 
 pub lines-of-spec : {M : Type 1} → statement M
 lines-of-spec =

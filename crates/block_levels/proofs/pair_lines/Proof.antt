@@ -12,10 +12,10 @@ use Rattle.block_levels.proofs.pair_lines.Statement.{statement}
 use Rattle.block_levels.proofs.pair_lines.Tie as tie
 
 abbrev Inv-loop : tie.InvT-loop
-Inv-loop kind n t out₀ p₀ out p = (p ≤ n) × (out ≡ padded 4 p (λ k. lineOf kind (getD t k noPair)) (lineOf kind zeroPair))
+Inv-loop n t out₀ p₀ out p = (p ≤ n) × (out ≡ padded 4 p (λ k. lineOf (getD t k noPair)) (lineOf zeroPair))
 
 abbrev μ-loop : tie.MeasureT-loop
-μ-loop kind n t out₀ p₀ out p = n - p
+μ-loop n t out₀ p₀ out p = n - p
 
 zero-pair-requires : tie.Need-zero-pair-requires Inv-loop μ-loop
 zero-pair-requires c κs = search needs
@@ -25,7 +25,7 @@ line-of-requires c κs = search needs
 
 loop-holds : tie.Need-loop-holds Inv-loop μ-loop
 unfolding tab
-loop-holds c = (omega arith, rw (c .line-of .ensures, c .before .zero-pair .ensures) (sym (padded-none (λ k. lineOf (c .before .before .args .kind) (getD (c .before .before .args .t2) k noPair)) (lineOf (c .before .before .args .kind) zeroPair) 4)))
+loop-holds c = (omega arith, rw (c .line-of .ensures, c .before .zero-pair .ensures) (sym (padded-none (λ k. lineOf (getD (c .before .before .args .t1) k noPair)) (lineOf zeroPair) 4)))
 
 mul-line-of : tie.Need-mul-line-of Inv-loop μ-loop
 mul-line-of c = search needs
@@ -55,7 +55,7 @@ loop-again c =
     let s = q .before .before .before .before in (
       omega (arith, q .loop-test .taken),
       rw (l .inv .1)
-          (padded-more (λ k. lineOf (s .args .kind) (getD (s .args .t2) k noPair)) (lineOf (s .args .kind) zeroPair) 4 (l .p) _ (omega (arith, q .loop-test .taken, s .pre)) (c .line-of2 .ensures)),
+          (padded-more (λ k. lineOf (getD (s .args .t1) k noPair)) (lineOf zeroPair) 4 (l .p) _ (omega (arith, q .loop-test .taken, s .pre)) (c .line-of2 .ensures)),
     )
 
 returns : tie.Need-returns Inv-loop μ-loop
@@ -63,7 +63,7 @@ returns c =
     let l = c .before .loop in
     let s = c .before .before .before .before in
     let e : l .p ≡ s .args .n = omega (arith, c .loop-test .left, l .inv .0) in
-    l .inv .1 ∙ ap (λ (m : ℕ). padded 4 m (λ k. lineOf (s .args .kind) (getD (s .args .t2) k noPair)) (lineOf (s .args .kind) zeroPair)) e
+    l .inv .1 ∙ ap (λ (m : ℕ). padded 4 m (λ k. lineOf (getD (s .args .t1) k noPair)) (lineOf zeroPair)) e
 
 pub pair-lines-spec : {M : Type 1} → statement M
 pair-lines-spec =

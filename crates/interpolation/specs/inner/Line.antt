@@ -27,7 +27,7 @@ onLine start step k add i =
     let t = plus start (times step i) in
     plus (times t 4) (plus (times t k) add / 64)
 
--- k and add of R, G and B: a replicated byte adds itself once, and 32 rounds it; a centred one adds 0x80, in sixty-fourths 8192
+-- k and add of a kind: a replicated byte adds itself once, and 32 rounds it; a centred one adds 0x80, in sixty-fourths 8192
 abbrev pub lowOf : Kind → ℕ
 lowOf Unorm16 = 1
 lowOf Srgb8 = 0
@@ -43,19 +43,15 @@ startOf p c = 64 * getD (p .e0) c 0
 unfoldable pub slopeOf : EndpointPair → ℕ → ℕ
 slopeOf p c = minus (getD (p .e1) c 0) (getD (p .e0) c 0)
 
--- the sixteen numbers of a pair: the starts of R, G, B, A, their steps, their k and their add; alpha is replicated in both kinds
-unfoldable pub lineOf : Kind → EndpointPair → List ℕ
-lineOf kind p =
-    startOf p 0 ∷ startOf p 1 ∷ startOf p 2 ∷ startOf p 3 ∷
-    slopeOf p 0 ∷ slopeOf p 1 ∷ slopeOf p 2 ∷ slopeOf p 3 ∷
-    lowOf kind ∷ lowOf kind ∷ lowOf kind ∷ 1 ∷
-    addOf kind ∷ addOf kind ∷ addOf kind ∷ 32 ∷ []
+-- the eight numbers of a pair: the starts of R, G, B, A and their steps; the kind does not count
+unfoldable pub lineOf : EndpointPair → List ℕ
+lineOf p = startOf p 0 ∷ startOf p 1 ∷ startOf p 2 ∷ startOf p 3 ∷ slopeOf p 0 ∷ slopeOf p 1 ∷ slopeOf p 2 ∷ slopeOf p 3 ∷ []
 
-module _ (line : List ℕ) (first second component : ℕ) where
+module _ (kind : Kind) (line : List ℕ) (first second component : ℕ) where
   -- a channel at its weight; the component that the component selector names takes the second
   unfoldable pub lineChannel : ℕ → ℕ
   lineChannel c =
-      onLine (getD line c 0) (getD line (4 + c) 0) (getD line (8 + c) 0) (getD line (12 + c) 0) (pick (eqb c component) second first)
+      onLine (getD line c 0) (getD line (4 + c) 0) (lowOf kind) (addOf kind) (pick (eqb c component) second first)
 
   -- R, G, B and A
   unfoldable pub lineTexel : Texel

@@ -7,7 +7,7 @@ fn main() {
     let file = |name: &str| std::fs::read(format!("{directory}/{name}.bin")).unwrap();
     let (texels, digests, illegal, hdr) = (file("texels"), file("digests"), file("illegal"), file("hdr"));
     let files = Files { texels: &texels, digests: &digests, illegal: &illegal, hdr: &hdr };
-    let decoder = Decoder { unorm16: &reference::decode_u16, srgb8: &reference::decode_u8, alpha_like_colours: false };
+    let decoder = Decoder { unorm16: &reference::decode_u16, srgb8: &reference::decode_u8 };
     let outcome = check(&decoder, &files);
     for line in outcome.failed.iter().take(10) {
         println!("{line}");
