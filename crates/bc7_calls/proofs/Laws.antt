@@ -14,10 +14,10 @@ use Rattle.laws.proofs.Filling.{length-tab, getD-tab, filled-all, Filled, Filli
 use Rattle.bits.specs.Field.{field}
 use Rattle.bits.specs.Block.{numberOf, bytesOf}
 use Rattle.bits.proofs.Blocks.{Bytes}
-use Rattle.one_block.specs.declared.Answer.{Answer}
-use Rattle.one_block.specs.declared.Answer.the-variants.{Refused, Faulty, Done}
-use Rattle.one_block.specs.Calls.{answerFor, numberTold}
-use Rattle.one_block.proofs.Laws.{loaded}
+use Rattle.block_answer.specs.declared.Answer.{Answer}
+use Rattle.block_answer.specs.declared.Answer.the-variants.{Refused, Faulty, Done}
+use Rattle.block_answer.specs.Told.{answerFor, numberTold}
+use Rattle.bits.proofs.Halves.{loaded}
 use Rattle.bc7_layout.specs.Layout.{modeAt, fieldAt}
 use Rattle.bc7_block.specs.declared.Bc7Block.{Bc7Block}
 use Rattle.bc7_block.specs.Refusals.{refusalOf}

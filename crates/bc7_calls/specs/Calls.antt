@@ -9,9 +9,9 @@ use Rattle.laws.specs.Choice.{pick}
 use Rattle.laws.specs.Reasons.{when, firstOf}
 use Rattle.laws.specs.Table.{tab}
 use Rattle.bits.specs.Block.{numberOf, bytesOf}
-use Rattle.one_block.specs.declared.Answer.{Answer}
-use Rattle.one_block.specs.declared.Answer.the-variants.{Refused, Done}
-use Rattle.one_block.specs.Calls.{answerFor}
+use Rattle.block_answer.specs.declared.Answer.{Answer}
+use Rattle.block_answer.specs.declared.Answer.the-variants.{Refused, Done}
+use Rattle.block_answer.specs.Told.{answerFor}
 use Rattle.bc7_block.specs.declared.Bc7Block.{Bc7Block}
 use Rattle.bc7_block.specs.Refusals.{refusalOf}
 use Rattle.bc7_block.specs.Reading.{faultOf, readBlock, zeroBlock}

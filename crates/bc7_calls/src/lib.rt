@@ -1,11 +1,11 @@
 // The one-block call, and the reader and the writer of BC7 sheets.
 use bc7_block::Bc7Block;
 use bits::PhysicalBlock;
-use one_block::Answer;
+use block_answer::Answer;
 ghost use mathlib.Core.Path.{_≡_};
 ghost use lib.ListN.{length};
 ghost use Rattle.bits.specs.Block.{blockNumber};
-ghost use Rattle.one_block.specs.Calls.{answerFor, numberTold};
+ghost use Rattle.block_answer.specs.Told.{answerFor, numberTold};
 ghost use Rattle.bc7_block.specs.Refusals.{refusalOf};
 ghost use Rattle.bc7_block.specs.Reading.{zeroBlock};
 ghost use Rattle.bc7_calls.specs.Calls.{decodeRefusal, decodeAnswer, decodeTold, decodeOut, nothing, readingIn, readingOf, readTold, refusedWith, writingOf};
@@ -37,16 +37,6 @@ fn refusal(bytes: usize, places: usize) -> u8
     0
 }
 
-fn answer_for(fault: u8) -> Answer
-    ensures { λ r. ⌜ r ≡ answerFor fault ⌝ }
-{
-    if fault == 0 {
-        Answer::Done
-    } else {
-        Answer::Faulty(fault)
-    }
-}
-
 fn copy(from: &[u8; 64], out: &mut [u8])
     requires { ⌜ (length (now from) ≡ 64) × (length (now out) ≡ 64) ⌝ }
     ensures { λ _. ⌜ now (out .exit) ≡ now (from .entry) ⌝ }
@@ -71,7 +61,7 @@ pub fn decode_bc7(block: &[u8], out: &mut [u8]) -> Answer
     let mut texels = [0u8; 64];
     let fault = bc7_core::decode_into(bits::load(block), &mut texels);
     copy(&texels, out);
-    answer_for(fault)
+    block_answer::answer_for(fault)
 }
 
 // ---- sheets

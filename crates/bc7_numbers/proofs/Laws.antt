@@ -12,8 +12,8 @@ use Rattle.laws.specs.Table.{tab}
 use Rattle.laws.proofs.Filling.{Filled, length-tab, filled-all, getD-tab}
 use Rattle.bits.specs.Block.{bytesOf}
 use Rattle.bits.proofs.Blocks.{bytes-length}
-use Rattle.one_block.specs.Calls.{numberTold}
-use Rattle.one_block.specs.declared.Answer.the-variants.{Refused, Done}
+use Rattle.block_answer.specs.Told.{numberTold}
+use Rattle.block_answer.specs.declared.Answer.the-variants.{Refused, Done}
 use Rattle.bc7_block.specs.declared.Bc7Block.{Bc7Block}
 use Rattle.bc7_block.specs.Refusals.{refusalOf}
 use Rattle.bc7_block.specs.Reading.{bc7Block}

@@ -6,7 +6,7 @@ use lib.Dec.{eqb}
 use lib.ListN.{length, getD}
 use Rattle.laws.specs.Choice.{pick, both}
 use Rattle.laws.specs.Table.{tab}
-use Rattle.one_block.specs.Calls.{numberTold}
+use Rattle.block_answer.specs.Told.{numberTold}
 use Rattle.bc7_block.specs.declared.Bc7Block.{Bc7Block}
 use Rattle.bc7_block.specs.Reading.{bc7Block}
 use Rattle.bc7_codec.specs.Numbers.{numberIn}

@@ -37,7 +37,7 @@ pub fn read_numbers(block: &[u8], numbers: &mut [u8]) -> u8
     let reading = bc7_calls::read_bc7(block);
     let answer = reading.answer;
     put(reading.block, numbers);
-    one_block::number_told(answer)
+    block_answer::number_told(answer)
 }
 
 fn array_of(numbers: &[u8]) -> [u8; 60]
@@ -81,5 +81,5 @@ pub fn write_numbers(numbers: &[u8], block: &mut [u8]) -> u8
     let answer = writing.answer;
     let bytes = writing.bytes;
     put_block(bytes, block);
-    one_block::number_told(answer)
+    block_answer::number_told(answer)
 }

@@ -17,9 +17,9 @@ use Rattle.bits.specs.Field.{field}
 use Rattle.bits.specs.Block.{numberOf, bytesOf}
 use Rattle.bits.proofs.Fields.{field-lt}
 use Rattle.bits.proofs.Blocks.{Bytes, bytes-length, number-bytes, bytes-number, number-lt}
-use Rattle.one_block.specs.declared.Answer.{Answer}
-use Rattle.one_block.specs.declared.Answer.the-variants.{Refused, Done}
-use Rattle.one_block.specs.Calls.{answerFor, numberTold}
+use Rattle.block_answer.specs.declared.Answer.{Answer}
+use Rattle.block_answer.specs.declared.Answer.the-variants.{Refused, Done}
+use Rattle.block_answer.specs.Told.{answerFor, numberTold}
 use Rattle.bc7_block.specs.declared.Bc7Block.{Bc7Block}
 use Rattle.bc7_block.specs.Fields.{Sized}
 use Rattle.bc7_block.specs.Refusals.{refusals, refusalOf, Acceptable}

@@ -9,7 +9,7 @@ use lib.ListN.{length, getD}
 use Rattle.laws.specs.Reasons.{reasonAt}
 use Rattle.laws.specs.Table.{tab}
 use Rattle.bits.specs.Block.{numberOf}
-use Rattle.one_block.specs.declared.Answer.the-variants.{Refused, Done}
+use Rattle.block_answer.specs.declared.Answer.the-variants.{Refused, Done}
 use Rattle.bc7_block.specs.declared.Bc7Block.{Bc7Block}
 use Rattle.bc7_block.specs.Fields.{Sized}
 use Rattle.bc7_block.specs.Refusals.{refusals, Acceptable}

@@ -2,7 +2,7 @@
 use bc7_block::Bc7Block;
 use bc7_calls::Reading;
 use bc7_calls::Writing;
-use one_block::Answer;
+use block_answer::Answer;
 ghost use mathlib.Core.Path.{_≡_};
 ghost use lib.ListN.{length};
 ghost use Rattle.bc7_calls.specs.Calls.{decodeOut};

@@ -32,7 +32,7 @@ fn write(numbers: &[u8]) {
 fn show(block: &[u8]) {
     let mut texels = [7u8; 64];
     let answer = bc7_calls::decode_bc7(block, &mut texels);
-    word(b"shown ", one_block::number_told(answer));
+    word(b"shown ", block_answer::number_told(answer));
     list(&texels);
     let mut numbers = [7u8; 60];
     word(b"read ", bc7_numbers::read_numbers(block, &mut numbers));

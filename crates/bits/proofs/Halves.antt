@@ -1,6 +1,7 @@
 -- The four ways in which a word of a block lies in its halves, and the low bits of a word.
 -- Assumes nothing.
-use mathlib.Core.Path.{_≡_, sym, ap, _∙_}
+use mathlib.Core.Path.{_≡_, sym, ap, _∙_, subst}
+use mathlib.Core.List.{List}
 use Prim.Native.Nat.{ℕ, _+_, _-_, _*_, _/_, _%_, _^_, _≤_, _<_, min}
 use native.Mathlib.Nat.{mod-eq-of-lt, mod-lt, lt-of-lt-of-le, lt-of-le-of-lt, lt-of-not-le, one-mul, mul-one, zero-mul, mul-assoc, add-mul, add-comm, add-zero, zero-add, mul-mod-left, add-mul-mod-self-right, div-one, min-eq-left, min-eq-right}
 use native.Mathlib.Decide.{decLe}
@@ -8,10 +9,11 @@ use native.Mathlib.Omega.{arith}
 use lib.Arith.{digits-lt}
 use lib.Pow.{pow-pos, pow-mono, pow-lt, pow-add, high, low, split, mod-pow-add, shr-le, shr-lt, shr-shr, shl-shr}
 use Rattle.bits.specs.Field.{field}
-use Rattle.bits.specs.Block.{blockNumber}
+use lib.ListN.{length}
+use Rattle.bits.specs.Block.{blockNumber, numberOf}
 use Rattle.bits.specs.declared.PhysicalBlock.{PhysicalBlock}
 use Rattle.bits.proofs.Fields.{field-lt, field-past, field-in, field-above, field-below}
-use Rattle.bits.proofs.Blocks.{spliced, block-lt}
+use Rattle.bits.proofs.Blocks.{Bytes, number-lt, spliced, block-lt}
 
 pub one-shl : (w : ℕ) → w < 64 → 1 * 2 ^ w % 2 ^ 64 ≡ 2 ^ w
 one-shl w h = rw one-mul (mod-eq-of-lt (pow-lt {j = 64} h))
@@ -147,3 +149,9 @@ module _ (a : PhysicalBlock) (h : a .hi < 2 ^ 64) (l : a .lo < 2 ^ 64) (p v : �
       let f : a .hi * 2 ^ 64 + a .lo + v * 2 ^ p ≡ y * 2 ^ 64 + a .lo = omega (arith, add-mul (a .hi) (v * 2 ^ (p - 64)) (2 ^ 64)) in
       rw (on-top-cut (a .hi) v (p - 64) 64 (high-small n) (omega arith), f)
       (sym (mod-pow-add (y * 2 ^ 64 + a .lo) 64 64 ∙ rw (high y 64 l, low y 64 l)))
+
+-- sixteen bytes are one number of 128 bits
+pub loaded : (s : List ℕ) → Bytes s → length s ≡ 16 → field (numberOf s) 0 128 ≡ numberOf s
+loaded s b e =
+    let h : numberOf s < 2 ^ 128 = subst (λ (n : ℕ). numberOf s < 2 ^ (8 * n)) e (number-lt s b) in
+    sym (low-is (numberOf s) 128) ∙ mod-eq-of-lt h

@@ -11,7 +11,7 @@ use lib.Seq.{getD-take, getD-drop, length-take-le}
 use Rattle.bits.specs.Field.{field}
 use Rattle.bits.specs.Block.{numberOf}
 use Rattle.bits.proofs.Blocks.{Bytes}
-use Rattle.one_block.proofs.Laws.{loaded}
+use Rattle.bits.proofs.Halves.{loaded}
 use Rattle.footprint.specs.Footprint.{widthOf, heightOf, texelsOf}
 use Rattle.interpolation.specs.declared.Kind.{Kind}
 use Rattle.interpolation.specs.Expansion.{shownOf}

@@ -15,8 +15,10 @@ use Rattle.footprint.proofs.Laws.{bounds}
 use Rattle.interpolation.specs.declared.Kind.{Kind}
 use Rattle.interpolation.specs.Expansion.{shownOf}
 use Rattle.texel.specs.BlockTexel.{blockChannel, blockNumbers}
-use Rattle.one_block.specs.Calls.{blockRefusal, blockOut}
-use Rattle.one_block.proofs.Laws.{accepted, written}
+use Rattle.block_answer.specs.Told.{blockRefusal}
+use Rattle.one_block.specs.Calls.{blockOut}
+use Rattle.block_answer.proofs.Laws.{accepted}
+use Rattle.one_block.proofs.Laws.{written}
 use Rattle.image_layout.specs.Geometry.{blockIndex}
 use Rattle.image_size.specs.Sides.{blocksAcross, blocksOf}
 use Rattle.image_layout.specs.Numbers.{blockBytes, blockAt, imageNumberAt, imageNumbers}

@@ -1,4 +1,4 @@
--- The refusals of a one-block call one by one, and what a call comes to in each event.
+-- What a one-block call comes to in each event.
 -- Assumes nothing.
 use mathlib.Core.Path.{_≡_, refl, sym, ap, _∙_, subst}
 use mathlib.Core.Bool.{Bool, true, false, not}
@@ -14,8 +14,8 @@ use Rattle.laws.specs.Table.{tab}
 use Rattle.laws.proofs.Filling.{tab-ext}
 use Rattle.bits.specs.Field.{field}
 use Rattle.bits.specs.Block.{numberOf}
-use Rattle.bits.proofs.Blocks.{Bytes, number-lt}
-use Rattle.bits.proofs.Halves.{low-is}
+use Rattle.bits.proofs.Blocks.{Bytes}
+use Rattle.bits.proofs.Halves.{loaded}
 use Rattle.footprint.proofs.Laws.{texels-le}
 use Rattle.footprint.specs.Footprint.{texelsOf}
 use Rattle.interpolation.specs.declared.Kind.{Kind}
@@ -23,49 +23,11 @@ use Rattle.block_fault.specs.Faults.{faultOf}
 use Rattle.interpolation.specs.Expansion.{shownOf}
 use Rattle.texel.specs.BlockTexel.{blockChannel, blockNumbers, blockInto}
 use Rattle.block_core.proofs.Shows.{held}
-use Rattle.one_block.specs.declared.Answer.{Answer}
-use Rattle.one_block.specs.declared.Answer.the-variants.{Refused, Faulty, Done}
-use Rattle.one_block.specs.Calls.{blockRefusal, numberTold, answerFor, blockAnswer, blockTold, blockOut}
-
--- ---- the reasons one by one
-
-module _ (fp bytes numbers : ℕ) where
-  pub unknown-footprint : 13 < fp → 1 ≡ blockRefusal fp bytes numbers
-  unfolding blockRefusal
-  unknown-footprint h = rw (lt-ltb _ _ h)
-
-  module _ (known : fp ≤ 13) where
-    pub not-sixteen : (bytes ≡ 16 → ⊥) → 4 ≡ blockRefusal fp bytes numbers
-    unfolding blockRefusal
-    not-sixteen h = rw (le-ltb _ _ known, ne-eqb _ _ h)
-
-    pub wrong-numbers : bytes ≡ 16 → (numbers ≡ 4 * texelsOf fp → ⊥) → 5 ≡ blockRefusal fp bytes numbers
-    unfolding blockRefusal
-    wrong-numbers b h = rw (le-ltb _ _ known, eq-eqb _ _ b, ne-eqb _ _ h)
-
-    pub accepted : bytes ≡ 16 → numbers ≡ 4 * texelsOf fp → 0 ≡ blockRefusal fp bytes numbers
-    unfolding blockRefusal
-    accepted b h = rw (le-ltb _ _ known, eq-eqb _ _ b, eq-eqb _ _ h)
-
--- and back
-pub record Accepted (fp bytes numbers : ℕ) : Type 0 where
-  pub known : fp ≤ 13
-  pub sixteen : bytes ≡ 16
-  pub size : numbers ≡ 4 * texelsOf fp
-
-pub not-refused : (fp bytes numbers : ℕ) → blockRefusal fp bytes numbers ≡ 0 → Accepted fp bytes numbers
-unfolding blockRefusal
-not-refused fp bytes numbers e = go (ltb 13 fp) (eqb bytes 16) (eqb numbers (4 * texelsOf fp)) refl refl refl e where
-  go : (a b c : Bool) → ltb 13 fp ≡ a → eqb bytes 16 ≡ b → eqb numbers (4 * texelsOf fp) ≡ c
-      → _≡_ {A = ℕ} (pick a 1 (pick (not b) 4 (pick (not c) 5 0))) 0 → Accepted fp bytes numbers
-  go true b c p q r e = absurd (omega arith)
-  go false false c p q r e = absurd (omega arith)
-  go false true false p q r e = absurd (omega arith)
-  go false true true p q r e = record { known = ltb-false 13 fp p; sixteen = eqb-true bytes 16 q; size = eqb-true numbers _ r }
-
--- the buffer of 576 numbers is long enough
-pub fits-in : (fp bytes numbers : ℕ) → blockRefusal fp bytes numbers ≡ 0 → numbers ≤ 576
-fits-in fp bytes numbers e = omega (arith, not-refused fp bytes numbers e .size, texels-le fp)
+use Rattle.block_answer.specs.declared.Answer.{Answer}
+use Rattle.block_answer.specs.declared.Answer.the-variants.{Refused, Faulty, Done}
+use Rattle.block_answer.specs.Told.{blockRefusal, numberTold, answerFor}
+use Rattle.block_answer.proofs.Laws.{not-refused}
+use Rattle.one_block.specs.Calls.{blockAnswer, blockTold, blockOut}
 
 -- ---- what a call comes to
 
@@ -102,12 +64,6 @@ answer-told fp s numbers = go (eqb (blockRefusal fp (length s) numbers) 0) (eqb 
 pub promised : (kind : Kind) (fp : ℕ) (s old : List ℕ) (r : Answer) (new : List ℕ) → r ≡ blockAnswer fp s (length old) → new ≡ blockOut kind fp s old
     → (r ≡ blockAnswer fp s (length old)) × ((new ≡ blockOut kind fp s old) × (numberTold r ≡ blockTold fp s (length old)))
 promised kind fp s old r new e o = (e, (o, ap numberTold e ∙ answer-told fp s (length old)))
-
--- sixteen bytes are one number of 128 bits
-pub loaded : (s : List ℕ) → Bytes s → length s ≡ 16 → field (numberOf s) 0 128 ≡ numberOf s
-loaded s b e =
-    let h : numberOf s < 2 ^ 128 = subst (λ (n : ℕ). numberOf s < 2 ^ (8 * n)) e (number-lt s b) in
-    sym (low-is (numberOf s) 128) ∙ mod-eq-of-lt h
 
 -- a call that is not refused: the answer, and the first numbers of a buffer that holds the block, as shown
 module _ (fp : ℕ) (s old : List ℕ) (b : Bytes s) (B : ℕ) (l : B ≡ field (numberOf s) 0 128) (e : blockRefusal fp (length s) (length old) ≡ 0) where

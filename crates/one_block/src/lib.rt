@@ -1,55 +1,13 @@
 // One block to texels: a call for each kind.
+use block_answer::Answer;
 use interpolation::Kind;
 ghost use mathlib.Core.Path.{_≡_};
 ghost use Prim.Native.Nat.{_/_, _≤_};
 ghost use lib.ListN.{length, getD};
 ghost use Rattle.laws.specs.Table.{tab};
 ghost use Rattle.interpolation.specs.declared.Kind.the-variants.{Unorm16, Srgb8};
-ghost use Rattle.one_block.specs.Calls.{blockRefusal, numberTold, answerFor, blockAnswer, blockTold, blockOut};
-
-// What a call comes to: refused or faulty, with 01's number, or done.
-pub enum Answer {
-    Refused(u8),
-    Faulty(u8),
-    Done,
-}
-
-// 01's number of an answer.
-pub fn number_told(a: Answer) -> u8
-    ensures { λ r. ⌜ r ≡ numberTold a ⌝ }
-{
-    match a {
-        Answer::Refused(n) => n,
-        Answer::Faulty(n) => n,
-        Answer::Done => 0,
-    }
-}
-
-// The first refusal that holds, 0 for none.
-pub fn refusal(fp: u8, bytes: usize, numbers: usize) -> u8
-    ensures { λ r. ⌜ r ≡ blockRefusal fp bytes numbers ⌝ }
-{
-    if 13 < fp {
-        return 1;
-    }
-    if bytes != 16 {
-        return 4;
-    }
-    if numbers != 4 * (footprint::texels(fp) as usize) {
-        return 5;
-    }
-    0
-}
-
-fn answer_for(fault: u8) -> Answer
-    ensures { λ r. ⌜ r ≡ answerFor fault ⌝ }
-{
-    if fault == 0 {
-        Answer::Done
-    } else {
-        Answer::Faulty(fault)
-    }
-}
+ghost use Rattle.block_answer.specs.Told.{blockRefusal, numberTold};
+ghost use Rattle.one_block.specs.Calls.{blockAnswer, blockTold, blockOut};
 
 // The first numbers of the buffer, as they stand.
 fn copy_words(from: &[u16; 576], out: &mut [u16])
@@ -88,7 +46,7 @@ fn show_words(n: u8, fp: u8, block: &[u8], out: &mut [u16]) -> Answer
     let mut buffer = [0u16; 576];
     let fault = block_core::decode_into(bits::load(block), fp, Kind::Unorm16, &mut buffer);
     copy_words(&buffer, out);
-    answer_for(fault)
+    block_answer::answer_for(fault)
 }
 
 // The texels of a block in kind 0: four numbers of 16 bits each.
@@ -97,7 +55,7 @@ pub fn decode_unorm16(fp: u8, block: &[u8], out: &mut [u16]) -> Answer
     ensures { λ r. ⌜ now (out .exit) ≡ blockOut Unorm16 fp (now (block .entry)) (now (out .entry)) ⌝ }
     ensures { λ r. ⌜ numberTold r ≡ blockTold fp (now (block .entry)) (length (now (out .entry))) ⌝ }
 {
-    let n = refusal(fp, block.len(), out.len());
+    let n = block_answer::refusal(fp, block.len(), out.len());
     show_words(n, fp, block, out)
 }
 
@@ -114,7 +72,7 @@ fn show_bytes(n: u8, fp: u8, block: &[u8], out: &mut [u8]) -> Answer
     let mut buffer = [0u16; 576];
     let fault = block_core::decode_into(bits::load(block), fp, Kind::Srgb8, &mut buffer);
     copy_bytes(&buffer, out);
-    answer_for(fault)
+    block_answer::answer_for(fault)
 }
 
 // The texels of a block in kind 1: four bytes each.
@@ -123,6 +81,6 @@ pub fn decode_srgb8(fp: u8, block: &[u8], out: &mut [u8]) -> Answer
     ensures { λ r. ⌜ now (out .exit) ≡ blockOut Srgb8 fp (now (block .entry)) (now (out .entry)) ⌝ }
     ensures { λ r. ⌜ numberTold r ≡ blockTold fp (now (block .entry)) (length (now (out .entry))) ⌝ }
 {
-    let n = refusal(fp, block.len(), out.len());
+    let n = block_answer::refusal(fp, block.len(), out.len());
     show_bytes(n, fp, block, out)
 }

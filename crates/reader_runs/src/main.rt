@@ -1,10 +1,10 @@
 // Runs of the reader. Each record of standard input is a footprint and a block. For each a line "refused N" or "fault N", or the
 // symbolic block's fields in 01's order, then "block" and the sixteen bytes that are written for it, and whether they show the same
 // texels in kind 0.
+use block_answer::Answer;
 use encoding::Stored;
 use libc::STDIN_FILENO;
 use libc::STDOUT_FILENO;
-use one_block::Answer;
 use symbolic_block::SymbolicBlock;
 
 fn next(n: u16) {

@@ -18,9 +18,11 @@ use Rattle.interpolation.specs.declared.Kind.{Kind}
 use Rattle.block_fault.specs.Faults.{faultOf}
 use Rattle.texel.specs.Meaning.{shownChannel}
 use Rattle.texel.specs.BlockTexel.{blockNumberAt, blockChannel, blockNumbers}
-use Rattle.one_block.specs.declared.Answer.{Answer}
-use Rattle.one_block.specs.declared.Answer.the-variants.{Refused, Done}
-use Rattle.one_block.specs.Calls.{numberTold, answerFor, blockRefusal, blockAnswer, blockOut}
+use Rattle.block_answer.specs.declared.Answer.{Answer}
+use Rattle.block_answer.specs.declared.Answer.the-variants.{Refused, Done}
+use Rattle.block_answer.specs.Told.{numberTold, answerFor, blockRefusal}
+use Rattle.one_block.specs.Calls.{blockAnswer, blockOut}
+use Rattle.block_answer.proofs.Laws.{accepted}
 use Rattle.one_block.proofs.Laws as one
 use Rattle.symbolic_block.specs.declared.SymbolicBlock.{SymbolicBlock}
 use Rattle.symbolic_block.specs.Fields.{Sized}
@@ -79,7 +81,7 @@ module _ (fp : ℕ) (block : List ℕ) (h : Sound fp block) where
 
   module _ (old : List ℕ) (size : length old ≡ 4 * texelsOf fp) where
     taken : blockRefusal fp (length block) (length old) ≡ 0
-    taken = sym (one.accepted fp _ _ (h .known) (h .sixteen) size)
+    taken = sym (accepted fp _ _ (h .known) (h .sixteen) size)
 
     sound-answer : blockAnswer fp block (length old) ≡ Done
     unfolding answerFor

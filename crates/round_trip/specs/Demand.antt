@@ -11,7 +11,7 @@ use Rattle.bits.specs.Block.{numberOf}
 use Rattle.footprint.specs.Footprint.{widthOf, texelsOf}
 use Rattle.interpolation.specs.declared.Kind.{Kind}
 use Rattle.block_fault.specs.Faults.{faultOf}
-use Rattle.one_block.specs.declared.Answer.the-variants.{Refused, Done}
+use Rattle.block_answer.specs.declared.Answer.the-variants.{Refused, Done}
 use Rattle.one_block.specs.Calls.{blockAnswer}
 use Rattle.symbolic_block.specs.declared.SymbolicBlock.{SymbolicBlock}
 use Rattle.symbolic_block.specs.Fields.{Sized}

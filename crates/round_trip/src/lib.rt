@@ -1,5 +1,5 @@
 // A symbolic block (01: sheet) written, read back and shown: demand 3 of what the calls return.
-use one_block::Answer;
+use block_answer::Answer;
 use symbolic_block::SymbolicBlock;
 use symbolic_calls::Writing;
 use symbolic_reader::Reading;

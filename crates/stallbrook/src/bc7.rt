@@ -10,7 +10,7 @@ pub extern "C" fn stallbrook_bc7_decode_block(block: &[u8], out: &mut [u8]) -> u
     ensures { λ r. ⌜ r ≡ decodeTold (now (block .entry)) (length (now (out .entry))) ⌝ }
     ensures { λ r. ⌜ now (out .exit) ≡ decodeOut (now (block .entry)) (now (out .entry)) ⌝ }
 {
-    one_block::number_told(bc7_calls::decode_bc7(block, out))
+    block_answer::number_told(bc7_calls::decode_bc7(block, out))
 }
 
 // A block's sheet as sixty numbers: 0, 4 or 71 with zeros in `numbers`, or 4, 5 with `numbers` as it was where it is not of sixty.

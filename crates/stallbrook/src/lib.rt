@@ -24,7 +24,7 @@ pub extern "C" fn stallbrook_astc_decode_block_unorm16(
     ensures { λ r. ⌜ r ≡ blockTold footprint (now (block .entry)) (length (now (out .entry))) ⌝ }
     ensures { λ r. ⌜ now (out .exit) ≡ blockOut Unorm16 footprint (now (block .entry)) (now (out .entry)) ⌝ }
 {
-    one_block::number_told(one_block::decode_unorm16(footprint, block, out))
+    block_answer::number_told(one_block::decode_unorm16(footprint, block, out))
 }
 
 // The texels of a block in kind 1.
@@ -37,7 +37,7 @@ pub extern "C" fn stallbrook_astc_decode_block_srgb8(
     ensures { λ r. ⌜ r ≡ blockTold footprint (now (block .entry)) (length (now (out .entry))) ⌝ }
     ensures { λ r. ⌜ now (out .exit) ≡ blockOut Srgb8 footprint (now (block .entry)) (now (out .entry)) ⌝ }
 {
-    one_block::number_told(one_block::decode_srgb8(footprint, block, out))
+    block_answer::number_told(one_block::decode_srgb8(footprint, block, out))
 }
 
 // ---- images

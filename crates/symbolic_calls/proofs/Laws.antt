@@ -7,8 +7,8 @@ use Prim.Native.Nat.{ℕ}
 use lib.Dec.{eqb}
 use borrow.Author.Tests.{eq-eqb, ne-eqb, eqb-true, eqb-false}
 use Rattle.bits.specs.Block.{bytesOf}
-use Rattle.one_block.specs.declared.Answer.the-variants.{Done}
-use Rattle.one_block.specs.Calls.{numberTold}
+use Rattle.block_answer.specs.declared.Answer.the-variants.{Done}
+use Rattle.block_answer.specs.Told.{numberTold}
 use Rattle.symbolic_block.specs.declared.SymbolicBlock.{SymbolicBlock}
 use Rattle.symbolic_block.specs.Refusals.{refusalOf, Acceptable}
 use Rattle.symbolic_block.specs.Writing.{blockOf}

@@ -5,7 +5,7 @@ use lib.Dec.{eqb}
 use Rattle.laws.specs.Choice.{pick}
 use Rattle.laws.specs.Table.{tab}
 use Rattle.bits.specs.Block.{bytesOf}
-use Rattle.one_block.specs.declared.Answer.the-variants.{Refused, Done}
+use Rattle.block_answer.specs.declared.Answer.the-variants.{Refused, Done}
 use Rattle.symbolic_block.specs.declared.SymbolicBlock.{SymbolicBlock}
 use Rattle.symbolic_block.specs.Refusals.{refusalOf}
 use Rattle.symbolic_block.specs.Writing.{blockOf}

@@ -1,8 +1,8 @@
 // The writer of symbolic blocks (01: sheets): a symbolic block to the sixteen bytes of a block.
-use one_block::Answer;
+use block_answer::Answer;
 use symbolic_block::SymbolicBlock;
 ghost use mathlib.Core.Path.{_≡_};
-ghost use Rattle.one_block.specs.Calls.{numberTold};
+ghost use Rattle.block_answer.specs.Told.{numberTold};
 ghost use Rattle.symbolic_block.specs.Refusals.{refusalOf};
 ghost use Rattle.symbolic_calls.specs.Writing.{writingOf};
 

@@ -6,7 +6,7 @@ use Prim.Native.Nat.{ℕ}
 use lib.ListN.{length, getD}
 use Rattle.laws.specs.Table.{tab, tabFrom}
 use Rattle.laws.proofs.Filling.{Filled, filled-all}
-use Rattle.one_block.specs.Calls.{numberTold}
+use Rattle.block_answer.specs.Told.{numberTold}
 use Rattle.symbolic_block.specs.Refusals.{Acceptable}
 use Rattle.symbolic_calls.proofs.Laws.{told-number}
 use Rattle.symbolic_reader.specs.declared.Reading.{Reading}

@@ -13,7 +13,7 @@ use Rattle.laws.specs.Table.{tab, tabFrom}
 use Rattle.laws.proofs.Filling.{Filled, filled-all, length-tab}
 use Rattle.bits.proofs.Blocks.{bytes-length}
 use Rattle.integer_sequence.specs.Reading.{stored}
-use Rattle.one_block.specs.Calls.{numberTold}
+use Rattle.block_answer.specs.Told.{numberTold}
 use Rattle.symbolic_block.specs.declared.SymbolicBlock.{SymbolicBlock}
 use Rattle.symbolic_block.specs.Fields.{colourIn, extentIn, modeIn, endpointIn, weightIn, Sized}
 use Rattle.symbolic_block.specs.Refusals.{unknownFootprint, refusalOf}

@@ -8,9 +8,9 @@ use lib.ListN.{length}
 use Rattle.laws.specs.Choice.{pick}
 use Rattle.laws.specs.Table.{tab}
 use Rattle.laws.specs.Reasons.{when, firstOf}
-use Rattle.one_block.specs.declared.Answer.{Answer}
-use Rattle.one_block.specs.declared.Answer.the-variants.{Refused, Faulty, Done}
-use Rattle.one_block.specs.Calls.{numberTold}
+use Rattle.block_answer.specs.declared.Answer.{Answer}
+use Rattle.block_answer.specs.declared.Answer.the-variants.{Refused, Faulty, Done}
+use Rattle.block_answer.specs.Told.{numberTold}
 use Rattle.symbolic_block.specs.Refusals.{unknownFootprint}
 use Rattle.symbolic_calls.specs.Writing.{writingOf}
 use Rattle.symbolic_reader.specs.Answers.{readingOf}

@@ -1,6 +1,6 @@
 // The reader and the writer of symbolic blocks (01: sheets) over one list of 103 numbers, in the order of 01, "Fields".
+use block_answer::Answer;
 use encoding::Stored;
-use one_block::Answer;
 use symbolic_block::SymbolicBlock;
 use symbolic_calls::Writing;
 ghost use mathlib.Core.Path.{_≡_};
@@ -106,7 +106,7 @@ pub fn read_numbers(footprint: u8, block: &[u8], numbers: &mut [u16]) -> u8
         return refused_or_5(answer);
     }
     put(reading.block, numbers);
-    one_block::number_told(answer)
+    block_answer::number_told(answer)
 }
 
 // ---- a list's symbolic block, with 255 for each number above it where the struct has a byte
@@ -251,5 +251,5 @@ pub fn write_numbers(footprint: u8, numbers: &[u16], block: &mut [u8]) -> u8
     let answer = writing.answer;
     let from = writing.bytes;
     put_block(from, block);
-    one_block::number_told(answer)
+    block_answer::number_told(answer)
 }

@@ -25,8 +25,8 @@ use Rattle.block_fault.specs.Bits.{headerAt, endpointAt, weightAt, colourAt, ex
 use Rattle.block_fault.specs.Faults.{faultOf}
 use Rattle.block_header.proofs.Stages.{stage-passed, stage-stopped}
 use Rattle.block_fault.proofs.Verdicts.{told-fault, told-void, told-coded}
-use Rattle.one_block.specs.declared.Answer.the-variants.{Refused, Faulty, Done}
-use Rattle.one_block.specs.Calls.{numberTold}
+use Rattle.block_answer.specs.declared.Answer.the-variants.{Refused, Faulty, Done}
+use Rattle.block_answer.specs.Told.{numberTold}
 use Rattle.block_fault.specs.inner.Stages.{stageIn}
 use Rattle.symbolic_block.specs.Reading.{modeBlock, voidBlock, readBlock}
 use Rattle.symbolic_block.proofs.Opened.{read-void, read-mode}

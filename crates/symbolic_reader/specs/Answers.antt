@@ -9,9 +9,9 @@ use Rattle.laws.specs.Choice.{pick}
 use Rattle.bits.specs.Block.{numberOf}
 use Rattle.laws.specs.Reasons.{when, firstOf}
 use Rattle.block_fault.specs.Faults.{faultOf}
-use Rattle.one_block.specs.declared.Answer.{Answer}
-use Rattle.one_block.specs.declared.Answer.the-variants.{Refused, Faulty, Done}
-use Rattle.one_block.specs.Calls.{answerFor}
+use Rattle.block_answer.specs.declared.Answer.{Answer}
+use Rattle.block_answer.specs.declared.Answer.the-variants.{Refused, Faulty, Done}
+use Rattle.block_answer.specs.Told.{answerFor}
 use Rattle.symbolic_block.specs.declared.SymbolicBlock.{SymbolicBlock}
 use Rattle.symbolic_block.specs.Reading.{zeroBlock, readBlock}
 use Rattle.symbolic_reader.specs.declared.Reading.{Reading}

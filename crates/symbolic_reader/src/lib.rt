@@ -1,10 +1,10 @@
 // The reader of symbolic blocks (01: sheets): a block's settings and numbers as plain numbers.
 use bits::PhysicalBlock;
+use block_answer::Answer;
 use block_fault::Verdict;
 use block_header::Header;
 use block_header::Stage;
 use encoding::Stored;
-use one_block::Answer;
 use symbolic_block::SymbolicBlock;
 ghost use mathlib.Core.Path.{_≡_};
 ghost use Prim.Native.Nat.{_+_, _*_, _≤_, _<_};
@@ -15,7 +15,7 @@ ghost use Rattle.bits.specs.Block.{blockNumber};
 ghost use Rattle.integer_sequence.specs.Reading.{stored};
 ghost use Rattle.block_header.specs.Counts.{weightCount, endpointCount, endpointRangeOf};
 ghost use Rattle.block_header.specs.Stages.{stageOf};
-ghost use Rattle.one_block.specs.Calls.{numberTold};
+ghost use Rattle.block_answer.specs.Told.{numberTold};
 ghost use Rattle.block_fault.specs.Bits.{endpointAt, weightAt, colourAt, extentAt, endpointsFrom};
 ghost use Rattle.symbolic_block.specs.Reading.{modeBlock, voidBlock, zeroBlock};
 ghost use Rattle.symbolic_reader.specs.Answers.{readRefusal, readingOf, readTold, nothing, done};

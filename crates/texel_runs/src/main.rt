@@ -78,8 +78,8 @@ fn record(fp: u8, block: &[u8]) {
     io::write_all(STDOUT_FILENO, b"footprint");
     byte(fp);
     io::write_all(STDOUT_FILENO, b" fault");
-    byte(one_block::number_told(a));
-    byte(one_block::number_told(b));
+    byte(block_answer::number_told(a));
+    byte(block_answer::number_told(b));
     io::write_all(STDOUT_FILENO, b"\n");
     texels(fp, &numbers, &bytes);
 }

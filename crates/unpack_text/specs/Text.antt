@@ -1,6 +1,6 @@
 -- 01, "The program": what it refuses, and its text, as bytes.
 -- Assumes nothing.
-use Prim.Native.Nat.{ℕ, zero, suc, _+_, _*_, _/_, _%_}
+use Prim.Native.Nat.{ℕ}
 use mathlib.Core.Bool.{not}
 use mathlib.Core.List.{List, [], _∷_, _++_}
 use lib.Dec.{eqb, ltb}
@@ -13,23 +13,11 @@ use Rattle.interpolation.specs.declared.Kind.{Kind}
 use Rattle.interpolation.specs.declared.Kind.the-variants.{Unorm16, Srgb8}
 use Rattle.block_fault.specs.Faults.{faultOf}
 use Rattle.texel.specs.BlockTexel.{blockNumbers}
+use Rattle.line_text.specs.Lines.{spaced, texelLine, linesOf}
 
 -- 01's kinds by their numbers: "Kind 0, plain", "Kind 1, sRGB"; the program refuses a number above 1
 unfoldable pub kindOf : ℕ → Kind
 kindOf n = pick (eqb n 0) Unorm16 Srgb8
-
--- the digit of n at the power p of ten, in ASCII; none where it would lead with 0
-unfoldable pub digit : ℕ → ℕ → List ℕ
-digit p n = pick (ltb n p) [] ((48 + n / p % 10) ∷ [])
-
--- a number below 100,000 in decimal digits
-unfoldable pub decimal : ℕ → List ℕ
-decimal n = digit 10000 n ++ (digit 1000 n ++ (digit 100 n ++ (digit 10 n ++ ((48 + n % 10) ∷ []))))
-
--- numbers of at most five digits, each after a space, and the end of the line
-unfoldable pub spaced : List ℕ → List ℕ
-spaced [] = 10 ∷ []
-spaced (n ∷ ns) = 32 ∷ (decimal n ++ spaced ns)
 
 -- "fault N" and "refused N"
 unfoldable pub faultLine : ℕ → List ℕ
@@ -37,16 +25,6 @@ faultLine n = (102 ∷ 97 ∷ 117 ∷ 108 ∷ 116 ∷ []) ++ spaced (n ∷ [])
 
 unfoldable pub refusedLine : ℕ → List ℕ
 refusedLine n = (114 ∷ 101 ∷ 102 ∷ 117 ∷ 115 ∷ 101 ∷ 100 ∷ []) ++ spaced (n ∷ [])
-
--- "x y r g b a", of texel k in rows of so many, from the numbers of all texels
-unfoldable pub texelLine : ℕ → (ℕ → ℕ) → ℕ → List ℕ
-texelLine width number k =
-    decimal (k % width) ++ spaced (k / width ∷ number (4 * k) ∷ number (4 * k + 1) ∷ number (4 * k + 2) ∷ number (4 * k + 3) ∷ [])
-
--- the first n lines
-unfoldable pub linesOf : (ℕ → List ℕ) → ℕ → List ℕ
-linesOf line zero = []
-linesOf line (suc n) = linesOf line n ++ line n
 
 -- "fault N" (0 for none) and a line "x y r g b a" per texel
 unfoldable pub blockText : ℕ → Kind → ℕ → List ℕ
@@ -62,7 +40,3 @@ unfoldable pub programText : List ℕ → List ℕ
 programText s =
     let e = programRefusal (length s) (getD s 0 0) (getD s 1 0) in
     pick (eqb e 0) (blockText (getD s 0 0) (kindOf (getD s 1 0)) (numberOf (take 16 (drop 2 s)))) (refusedLine e)
-
--- a text in front of what a buffer held
-unfoldable pub textOver : List ℕ → List ℕ → List ℕ
-textOver text old = text ++ drop (length text) old

@@ -1,10 +1,10 @@
 // Runs of the writer. Each record of standard input is a footprint and a symbolic block: 01's fields in order, two bytes (the low one
 // first) for a colour, an extent and the partition index, one byte for any other. For each a line "refused N", or "block" and the
 // sixteen bytes.
+use block_answer::Answer;
 use encoding::Stored;
 use libc::STDIN_FILENO;
 use libc::STDOUT_FILENO;
-use one_block::Answer;
 use symbolic_block::SymbolicBlock;
 ghost use Prim.Native.Nat.{_<_};
 

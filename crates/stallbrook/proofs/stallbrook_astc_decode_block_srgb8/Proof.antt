@@ -1,5 +1,5 @@
 use mathlib.Core.Path.{ap, _∙_}
-use Rattle.one_block.specs.Calls.{numberTold}
+use Rattle.block_answer.specs.Told.{numberTold}
 use borrow.Author.Needs.{needs}
 use Rattle.stallbrook.proofs.stallbrook_astc_decode_block_srgb8.Statement.{statement}
 use Rattle.stallbrook.proofs.stallbrook_astc_decode_block_srgb8.Tie as tie

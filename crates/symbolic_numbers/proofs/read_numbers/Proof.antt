@@ -1,6 +1,6 @@
 use denote.Ref.{now}
 use mathlib.Core.Path.{ap, _∙_}
-use Rattle.one_block.specs.Calls.{numberTold}
+use Rattle.block_answer.specs.Told.{numberTold}
 use Rattle.symbolic_reader.specs.declared.Reading.{Reading}
 use Rattle.symbolic_numbers.specs.Numbers.{flatOf}
 use Rattle.symbolic_numbers.specs.Calls.{refusedOr5}

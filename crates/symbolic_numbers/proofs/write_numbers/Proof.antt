@@ -2,7 +2,7 @@ use denote.Ref.{now}
 use mathlib.Core.Path.{_≡_, ap, _∙_}
 use lib.ListN.{getD}
 use Rattle.laws.specs.Table.{tab}
-use Rattle.one_block.specs.Calls.{numberTold}
+use Rattle.block_answer.specs.Told.{numberTold}
 use Rattle.symbolic_calls.specs.declared.Writing.{Writing}
 use Rattle.symbolic_calls.specs.Writing.{writingOf}
 use Rattle.symbolic_numbers.specs.Numbers.{blockFrom}

@@ -16,7 +16,7 @@ use Rattle.block_fault.specs.Bits.{headerAt}
 use Rattle.block_fault.specs.Settings.{verdictOf}
 use Rattle.block_header.specs.Stages.{stageOf}
 use Rattle.block_fault.proofs.Verdicts.{settings-verdict, told-coded, coded-header, coded-counts, coded-numbers}
-use Rattle.one_block.proofs.Laws.{loaded}
+use Rattle.bits.proofs.Halves.{loaded}
 use Rattle.symbolic_reader.specs.Answers.{readRefusal, nothing, done, readingIn, readingOf}
 use Rattle.symbolic_reader.specs.inner.Stages.{refusedAt, faultyAt}
 use Rattle.symbolic_reader.proofs.Laws.{coded-reading, void-reading, fault-reading, stopped-reading, passed-reading, sixteen, promised, stopped-verdict, coded-verdict}

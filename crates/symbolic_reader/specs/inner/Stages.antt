@@ -2,8 +2,8 @@
 -- Assumes nothing.
 use Rattle.block_header.specs.declared.Stage.{Stage}
 use Rattle.block_header.specs.declared.Stage.the-variants.{Passed, Stopped}
-use Rattle.one_block.specs.declared.Answer.{Answer}
-use Rattle.one_block.specs.declared.Answer.the-variants.{Refused, Faulty, Done}
+use Rattle.block_answer.specs.declared.Answer.{Answer}
+use Rattle.block_answer.specs.declared.Answer.the-variants.{Refused, Faulty, Done}
 
 -- of a stage of refusals
 abbrev pub refusedAt : Stage → Answer

@@ -7,7 +7,8 @@ use denote.Ref.{now}
 use borrow.Author.Tests.{ne-eqb}
 use borrow.Author.Needs.{needs}
 use Rattle.unpack_text.specs.Text.{programRefusal, blockText}
-use Rattle.unpack_text.proofs.Laws.{sixteen-left, puts-as, refused-text, shown-text, promised}
+use Rattle.line_text.proofs.Laws.{puts-as}
+use Rattle.unpack_text.proofs.Laws.{sixteen-left, refused-text, shown-text, promised}
 use Rattle.unpack_text.proofs.program_text.Statement.{statement}
 use Rattle.unpack_text.proofs.program_text.Tie as tie
 

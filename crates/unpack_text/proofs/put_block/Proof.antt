@@ -5,10 +5,11 @@ use borrow.Author.Needs.{needs}
 use Rattle.bits.specs.Block.{numberOf, blockNumber}
 use Rattle.bits.proofs.Blocks.{Bytes}
 use Rattle.block_core.proofs.Shows.{held}
-use Rattle.one_block.proofs.Laws.{loaded}
+use Rattle.bits.proofs.Halves.{loaded}
 use Rattle.unpack_text.specs.Text.{blockText}
-use Rattle.unpack_text.specs.inner.Written.{Puts}
-use Rattle.unpack_text.proofs.Laws.{puts-then, puts-as, block-text}
+use Rattle.line_text.specs.inner.Written.{Puts}
+use Rattle.line_text.proofs.Laws.{puts-then, puts-as}
+use Rattle.unpack_text.proofs.Laws.{block-text}
 use Rattle.unpack_text.proofs.put_block.Statement.{statement}
 use Rattle.unpack_text.proofs.put_block.Tie as tie
 

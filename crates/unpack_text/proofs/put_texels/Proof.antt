@@ -8,9 +8,10 @@ use borrow.Author.Needs.{needs}
 use Rattle.footprint.specs.Footprint.{widthOf, heightOf, texelsOf}
 use Rattle.footprint.proofs.Laws.{texels-le}
 use Rattle.interpolation.specs.Expansion.{shownOf}
-use Rattle.unpack_text.specs.Text.{texelLine, linesOf}
-use Rattle.unpack_text.specs.inner.Written.{Puts}
-use Rattle.unpack_text.proofs.Laws.{puts-none, puts-then, puts-as, lines-more, some-wide}
+use Rattle.line_text.specs.Lines.{texelLine, linesOf}
+use Rattle.line_text.specs.inner.Written.{Puts}
+use Rattle.line_text.proofs.Laws.{puts-none, puts-then, puts-as, lines-more}
+use Rattle.unpack_text.proofs.Laws.{some-wide}
 use Rattle.unpack_text.proofs.put_texels.Statement.{statement}
 use Rattle.unpack_text.proofs.put_texels.Tie as tie
 
