@@ -1,9 +1,9 @@
 -- What the calls promise, in their two events.
 -- Assumes nothing.
-use Prim.Native.Nat.{ℕ, _≤_}
+use Prim.Native.Nat.{ℕ, _-_, _≤_}
 use mathlib.Core.Path.{_≡_, refl, sym, _∙_}
 use mathlib.Core.List.{List}
-use lib.ListN.{length, drop}
+use lib.ListN.{length, take, drop}
 use borrow.Author.Tests.{ne-eqb}
 use Rattle.interpolation.specs.declared.Kind.{Kind}
 use Rattle.image_layout.specs.declared.ImageAnswer.{ImageAnswer}
@@ -37,3 +37,7 @@ module _ (kind : Kind) (s old : List ℕ) where
 
 pub long : (s : List ℕ) (h : FileHeader) → headerAnswer s ≡ Accepted h → 16 ≤ length s
 long s h q = taken s (passed s h q .none) .form .long
+
+-- the part from byte 16 on
+pub behind : (s : List ℕ) (h : FileHeader) → headerAnswer s ≡ Accepted h → take (length s - 16) (drop 16 s) ≡ drop 16 s
+behind s h q = part-all s (passed s h q .none)
