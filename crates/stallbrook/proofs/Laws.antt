@@ -1,10 +1,9 @@
 -- What each image call comes to in each event.
 -- Assumes nothing.
-use mathlib.Core.Path.{_≡_, refl}
-use mathlib.Core.List.{List, [], _∷_}
+use mathlib.Core.Path.{_≡_}
+use mathlib.Core.List.{List}
 use Prim.Native.Nat.{ℕ}
-use native.Mathlib.Omega.{arith}
-use lib.ListN.{length, set}
+use lib.ListN.{length}
 use borrow.Author.Tests.{eq-eqb, ne-eqb}
 use Rattle.interpolation.specs.declared.Kind.{Kind}
 use Rattle.image_layout.specs.declared.ImageGrid.{ImageGrid}
@@ -20,13 +19,6 @@ module _ (fp w h bytes places : ℕ) where
 
   pub accepted-number : (g : ImageGrid) → checkedOf fp w h bytes places ≡ Accepted g → 5 ≡ refusalOr5 (imageRefusal fp w h bytes places)
   accepted-number g q = rw (accepted fp w h bytes places g q .none)
-
-pub three : (l : List ℕ) (a b c : ℕ) → length l ≡ 3 → set (set (set l 0 a) 1 b) 2 c ≡ a ∷ b ∷ c ∷ []
-three [] a b c e = absurd (omega arith)
-three (x ∷ []) a b c e = absurd (omega arith)
-three (x ∷ y ∷ []) a b c e = absurd (omega arith)
-three (x ∷ y ∷ z ∷ []) a b c e = refl
-three (x ∷ y ∷ z ∷ v ∷ l) a b c e = absurd (omega arith)
 
 module _ (fp w h : ℕ) (s old tally : List ℕ) where
   module _ (n : length tally ≡ 3 → ⊥) where
