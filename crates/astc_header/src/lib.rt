@@ -64,7 +64,10 @@ fn footprint_for(columns: u8, rows: u8) -> u8
 {
     let mut fp: u8 = 0;
     while fp < 14 {
-        if both(footprint::width(fp) == columns, footprint::height(fp) == rows) {
+        if both(
+            footprint::width(fp) == columns,
+            footprint::height(fp) == rows,
+        ) {
             return fp;
         }
         fp += 1;

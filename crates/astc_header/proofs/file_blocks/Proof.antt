@@ -32,7 +32,7 @@ returns c = no-blocks _ (λ e. c .before .if1 .taken (c .before .before .refusal
 
 -- src/lib.rt:159:5
 sub-result : tie.Need-sub-result
-sub-result c = long c
+sub-result c = let k = long c in search needs
 
 -- src/lib.rt:159:5
 part-result-start : tie.Need-part-result-start
