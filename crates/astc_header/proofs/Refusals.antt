@@ -127,6 +127,21 @@ module _ (s : List ℕ) (f : Formed s) where
     pub refused-none : length s - 16 ≡ 16 * blocksIn (headerIn s) → 0 ≡ headerRefusal s
     refused-none e = sym (formed-refusal ∙ rw (fine-sides, left-over, eq-eqb (length s - 16) (16 * blocksIn (headerIn s)) e))
 
+-- a footprint that is not in the list is 43: no file is told as 1
+no-one : (a b c d e : Bool) → _≡_ {A = ℕ} (pick a 41 (pick (not b) 42 (pick (not c) 43 (pick d 3 (pick (not e) 4 0))))) 1 → ⊥
+no-one true b c d e q = omega (arith, q)
+no-one false false c d e q = omega (arith, q)
+no-one false true false d e q = omega (arith, q)
+no-one false true true true e q = omega (arith, q)
+no-one false true true false false q = omega (arith, q)
+no-one false true true false true q = omega (arith, q)
+
+pub never-1 : (s : List ℕ) → headerRefusal s ≡ 1 → ⊥
+unfolding headerRefusal
+never-1 s q =
+    no-one (ltb (length s) 16) (hasStart s) (knownShape s) (either (badSide (headerIn s .width)) (badSide (headerIn s .height)))
+    (eqb (length (drop 16 s)) (16 * blocksIn (headerIn s))) q
+
 -- ---- what holds of a file that is not refused
 
 pub record Taken (s : List ℕ) : Type 0 where
