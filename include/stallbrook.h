@@ -117,6 +117,31 @@ uint8_t stallbrook_clip_finish(uint32_t *state, size_t state_len);
 uint8_t stallbrook_clip_write_frame(uint8_t footprint, uint8_t kind, uint32_t width, uint32_t height, const uint8_t *blocks, size_t blocks_len,
     uint8_t *out, size_t out_len);
 
+/* ---- .astc files: a header of 16 bytes, then the blocks in raster order. The header is 13 AB A1 5C, a byte each for the block's width, height
+ * and depth, and three sizes of 3 bytes, low byte first; depth and third size are 1.
+ *
+ * Refusals of a file, the first that holds:
+ *   41 fewer than 16 bytes
+ *   42 another start
+ *   43 a footprint that is not in the list, or a depth or third size other than 1
+ *    3 a side is 0 or above 16384
+ *    4 what is behind the header is not exactly 16 bytes for each block
+ *    5 the call's other lists, as in the image calls */
+
+/* What the header of a file says, which is lent whole, as 3 numbers: footprint, width, height. The blocks are the bytes from file + 16 on.
+ * Answers 0, or the refusal 41, 42, 43, 3 or 4, and the numbers are all 0. A list of another length is refused by 5, after these, and left
+ * as it was. */
+uint8_t stallbrook_astc_read_header(const uint8_t *file, size_t file_len, uint32_t *header, size_t header_len);
+
+/* The 16 bytes of a file's header; its blocks come behind them.
+ * Answers 0, or the refusal 1 or 3, and the bytes are all 0. A list of another length is refused by 5, after these, and left as it was. */
+uint8_t stallbrook_astc_write_header(uint8_t footprint, uint32_t width, uint32_t height, uint8_t *header, size_t header_len);
+
+/* The texels of a whole file: out and tally as in the image calls.
+ * Answers 0, or the refusal 41, 42, 43, 3, 4 or 5, which leaves out as it was. */
+uint8_t stallbrook_astc_decode_file_unorm16(const uint8_t *file, size_t file_len, uint16_t *out, size_t out_len, uint64_t *tally, size_t tally_len);
+uint8_t stallbrook_astc_decode_file_srgb8(const uint8_t *file, size_t file_len, uint8_t *out, size_t out_len, uint64_t *tally, size_t tally_len);
+
 /* ---- BC7 (BPTC RGBA): blocks of 16 bytes, 4x4 texels of 4 bytes each (R, G, B, A, rows first).
  * 71 is a block's fault: a first byte of 0. 72 and 73 are refusals of a sheet: a mode above 7; then a field or an anchor index beyond its
  * bits in that mode, or an unused one not 0. */

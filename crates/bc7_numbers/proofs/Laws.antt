@@ -10,14 +10,11 @@ use borrow.Author.Tests.{eq-eqb, ne-eqb}
 use Rattle.laws.specs.Choice.{pick, both}
 use Rattle.laws.specs.Table.{tab}
 use Rattle.laws.proofs.Filling.{Filled, length-tab, filled-all, getD-tab}
-use Rattle.bits.specs.Block.{bytesOf}
-use Rattle.bits.proofs.Blocks.{bytes-length}
 use Rattle.block_answer.specs.Told.{numberTold}
 use Rattle.block_answer.specs.declared.Answer.the-variants.{Refused, Done}
 use Rattle.bc7_block.specs.declared.Bc7Block.{Bc7Block}
 use Rattle.bc7_block.specs.Refusals.{refusalOf}
 use Rattle.bc7_block.specs.Reading.{bc7Block}
-use Rattle.bc7_block.specs.Writing.{blockOf}
 use Rattle.bc7_codec.specs.Numbers.{numberIn}
 use Rattle.bc7_calls.specs.declared.Reading.{Reading}
 use Rattle.bc7_calls.specs.declared.Writing.{Writing}
@@ -51,21 +48,6 @@ module _ (s old : List ℕ) where
 
 -- ---- the writer
 
-own : (n : ℕ) (l : List ℕ) → Filled (λ k. getD l k 0) 0 l n
-unfolding Filled
-own n l k h = refl
-
--- a list is the table of its elements
-pub table-of : (n : ℕ) (l : List ℕ) → length l ≡ n → tab (λ k. getD l k 0) n ≡ l
-table-of n l e = sym (filled-all (λ k. getD l k 0) 0 l n e (own n l))
-
-sixteen : (s : Bc7Block) → length (writingOf s .bytes) ≡ 16
-unfolding writingOf refusedWith
-sixteen s = go (eqb (refusalOf s) 0) where
-  go : (b : Bool) → length (pick b (record { answer = Done; bytes = bytesOf 16 (blockOf s) }) (refusedWith (refusalOf s)) .bytes) ≡ 16
-  go true = bytes-length 16 (blockOf s)
-  go false = length-tab {A = ℕ} (λ k. 0) 16
-
 module _ (numbers old : List ℕ) where
   pub write-4 : (length old ≡ 16 → ⊥) → 4 ≡ writeNumber numbers (length old)
   unfolding writeNumber
@@ -98,9 +80,8 @@ module _ (numbers old : List ℕ) where
           ap (λ (x : Writing). numberTold (x .answer)) (ew ∙ ap writingOf sheet)
           ∙ rw (eq-eqb (length old) 16 e, eq-eqb (length numbers) 60 h)
 
-      pub block-written : tab (λ k. getD (w .bytes) k 0) 16 ≡ writeBlock numbers old
+      pub block-written : w .bytes ≡ writeBlock numbers old
       unfolding writeBlock
       block-written =
-          table-of 16 (w .bytes) (ap (λ (x : Writing). length (x .bytes)) ew ∙ sixteen s)
-          ∙ ap (λ (x : Writing). x .bytes) (ew ∙ ap writingOf sheet)
+          ap (λ (x : Writing). x .bytes) (ew ∙ ap writingOf sheet)
           ∙ ap (λ (b : Bool). pick b (writingOf (sheetFrom numbers) .bytes) old) (sym (both-tests true (eq-eqb (length numbers) 60 h)))

@@ -53,17 +53,6 @@ fn array_of(numbers: &[u8]) -> [u8; 60]
     f
 }
 
-fn put_block(from: [u8; 16], block: &mut [u8])
-    requires { ⌜ length (now block) ≡ 16 ⌝ }
-    ensures { λ _. ⌜ now (block .exit) ≡ tab (λ k. getD from k 0) 16 ⌝ }
-{
-    let mut i: usize = 0;
-    while i < 16 {
-        block[i] = from[i];
-        i += 1;
-    }
-}
-
 // The block of a sheet: 0, 72 or 73 with zeros, or 4, 5 with the block as it was where a length is wrong.
 pub fn write_numbers(numbers: &[u8], block: &mut [u8]) -> u8
     ensures { λ r. ⌜ r ≡ writeNumber (now (numbers .entry)) (length (now (block .entry))) ⌝ }
@@ -80,6 +69,6 @@ pub fn write_numbers(numbers: &[u8], block: &mut [u8]) -> u8
     let writing = bc7_calls::write_bc7(s);
     let answer = writing.answer;
     let bytes = writing.bytes;
-    put_block(bytes, block);
+    byte_list::put_block(bytes, block);
     block_answer::number_told(answer)
 }

@@ -11,7 +11,7 @@ use Rattle.laws.specs.Choice.{pick}
 use Rattle.laws.specs.Table.{tab}
 use Rattle.laws.specs.Reasons.{when}
 use Rattle.laws.proofs.Reasons.{first-none}
-use Rattle.laws.proofs.Filling.{Filled, filled-all, length-tab}
+use Rattle.laws.proofs.Filling.{length-tab}
 use Rattle.clip_frame.specs.declared.Frame.{Frame}
 use Rattle.clip.specs.declared.Phase.{Phase}
 use Rattle.clip.specs.declared.Phase.the-variants.{Blocks}
@@ -31,11 +31,6 @@ pub numbers-spelt : (c : Clip) → length (c .held) ≡ 16
     ∷ c .frame .footprint ∷ c .frame .kind ∷ c .frame .width ∷ c .frame .height ∷ first 16 (c .held)
 unfolding numbersOf
 numbers-spelt c e = ap (λ (h : List ℕ). phaseNumber (c .phase) ∷ phaseTold (c .phase) ∷ c .have ∷ c .index ∷ c .block ∷ c .last ∷ c .frame .footprint ∷ c .frame .kind ∷ c .frame .width ∷ c .frame .height ∷ h) (spelt-16 (c .held) e)
-
--- a list is the table of its elements
-pub tab-self : (l : List ℕ) (n : ℕ) → length l ≡ n → tab (λ k. getD l k 0) n ≡ l
-unfolding Filled
-tab-self l n e = sym (filled-all (λ k. getD l k 0) 0 l n e (λ k h. refl))
 
 -- ---- a whole block
 

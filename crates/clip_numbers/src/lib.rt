@@ -170,17 +170,6 @@ fn put_numbers(from: [u32; 26], state: &mut [u32])
     }
 }
 
-fn put_block(from: [u8; 16], block: &mut [u8])
-    requires { ⌜ length (now block) ≡ 16 ⌝ }
-    ensures { λ r. ⌜ now (block .exit) ≡ from ⌝ }
-{
-    let mut i: usize = 0;
-    while i < 16 {
-        block[i] = from[i];
-        i += 1;
-    }
-}
-
 fn put_told(from: [u64; 8], told: &mut [u64])
     requires { ⌜ length (now told) ≡ 8 ⌝ }
     ensures { λ r. ⌜ now (told .exit) ≡ from ⌝ }
@@ -324,7 +313,7 @@ fn whole_block(state: &mut [u32], piece: &[u8], block: &mut [u8], told: &mut [u6
     let f = frame_of(state);
     let next = next_numbers(index, at, state[5], f);
     put_numbers(next, state);
-    put_block(clip_reader::first_block(piece), block);
+    byte_list::put_block(clip_reader::first_block(piece), block);
     put_told(block_told(16, index, at, f), told);
 }
 
@@ -344,7 +333,7 @@ fn feed_state(state: &mut [u32], piece: &[u8], block: &mut [u8], told: &mut [u64
     let event = fed.event;
     let f = c.frame;
     put_numbers(numbers_of(c), state);
-    put_block(bytes, block);
+    byte_list::put_block(bytes, block);
     put_told(event_told(fed.taken, event, f), told);
     number_in(event)
 }

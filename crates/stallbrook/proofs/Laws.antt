@@ -1,17 +1,19 @@
 -- What each image call comes to in each event.
 -- Assumes nothing.
-use mathlib.Core.Path.{_≡_, refl}
-use mathlib.Core.List.{List, [], _∷_}
+use mathlib.Core.Path.{_≡_, sym}
+use mathlib.Core.List.{List}
 use Prim.Native.Nat.{ℕ}
-use native.Mathlib.Omega.{arith}
-use lib.ListN.{length, set}
+use lib.ListN.{length}
 use borrow.Author.Tests.{eq-eqb, ne-eqb}
-use Rattle.interpolation.specs.declared.Kind.{Kind}
 use Rattle.image_layout.specs.declared.ImageGrid.{ImageGrid}
 use Rattle.image_layout.specs.declared.CheckedImage.the-variants.{Rejected, Accepted}
-use Rattle.image_layout.specs.Call.{imageRefusal, checkedOf, imageOut, imageTold}
+use Rattle.image_layout.specs.Call.{Told, imageRefusal, checkedOf}
 use Rattle.image_layout.proofs.Calls.{rejected, accepted}
-use Rattle.stallbrook.specs.Images.{tallyTold, tallyNumbers, refusalOr5, imageNumber, imageShown, tallyShown}
+use Rattle.astc_header.specs.declared.FileHeader.{FileHeader}
+use Rattle.astc_header.specs.declared.HeaderAnswer.the-variants.{Refused, Accepted as Taken}
+use Rattle.astc_header.specs.Header.{headerAnswer, headerRefusal}
+use Rattle.astc_header.proofs.Refusals.{stopped, passed}
+use Rattle.stallbrook.specs.Images.{tallyTold, tallyNumbers, refusalOr5, numberWith, outWith, tallyWith}
 
 -- a refusal, or 5, by the first stage of the call
 module _ (fp w h bytes places : ℕ) where
@@ -21,36 +23,30 @@ module _ (fp w h bytes places : ℕ) where
   pub accepted-number : (g : ImageGrid) → checkedOf fp w h bytes places ≡ Accepted g → 5 ≡ refusalOr5 (imageRefusal fp w h bytes places)
   accepted-number g q = rw (accepted fp w h bytes places g q .none)
 
-pub three : (l : List ℕ) (a b c : ℕ) → length l ≡ 3 → set (set (set l 0 a) 1 b) 2 c ≡ a ∷ b ∷ c ∷ []
-three [] a b c e = absurd (omega arith)
-three (x ∷ []) a b c e = absurd (omega arith)
-three (x ∷ y ∷ []) a b c e = absurd (omega arith)
-three (x ∷ y ∷ z ∷ []) a b c e = refl
-three (x ∷ y ∷ z ∷ v ∷ l) a b c e = absurd (omega arith)
+-- ---- a call with a tally: one that is not of three numbers, and one that is
 
-module _ (fp w h : ℕ) (s old tally : List ℕ) where
-  module _ (n : length tally ≡ 3 → ⊥) where
-    pub image-number-5 : refusalOr5 (imageRefusal fp w h (length s) (length old)) ≡ imageNumber fp w h s (length old) (length tally)
-    unfolding imageNumber
-    image-number-5 = rw (ne-eqb _ _ n)
+module _ (t : Told) (e : ℕ) (new old tally : List ℕ) where
+  pub record Untold : Type 0 where
+    pub number : refusalOr5 e ≡ numberWith t e (length tally)
+    pub out : old ≡ outWith (length tally) new old
+    pub its-tally : tally ≡ tallyWith t tally
 
-    pub image-kept : (kind : Kind) → old ≡ imageShown fp kind w h s old (length tally)
-    unfolding imageShown
-    image-kept kind = rw (ne-eqb _ _ n)
+  pub untold : (length tally ≡ 3 → ⊥) → Untold
+  untold n = record { number = rw (ne-eqb (length tally) 3 n); out = rw (ne-eqb (length tally) 3 n); its-tally = rw (ne-eqb (length tally) 3 n) }
 
-    pub tally-kept : tally ≡ tallyShown fp w h s (length old) tally
-    unfolding tallyShown
-    tally-kept = rw (ne-eqb _ _ n)
+  pub record Telling : Type 0 where
+    pub number : t .refusal ≡ numberWith t e (length tally)
+    pub out : new ≡ outWith (length tally) new old
+    pub its-tally : tallyNumbers (tallyTold t) ≡ tallyWith t tally
 
-  module _ (e : length tally ≡ 3) where
-    pub image-number : imageTold fp w h s (length old) .refusal ≡ imageNumber fp w h s (length old) (length tally)
-    unfolding imageNumber
-    image-number = rw (eq-eqb _ _ e)
+  pub telling : length tally ≡ 3 → Telling
+  telling n = record { number = rw (eq-eqb (length tally) 3 n); out = rw (eq-eqb (length tally) 3 n); its-tally = rw (eq-eqb (length tally) 3 n) }
 
-    pub image-shown : (kind : Kind) → imageOut fp kind w h s old ≡ imageShown fp kind w h s old (length tally)
-    unfolding imageShown
-    image-shown kind = rw (eq-eqb _ _ e)
+-- ---- .astc files
 
-    pub tally-shown : tallyNumbers (tallyTold (imageTold fp w h s (length old))) ≡ tallyShown fp w h s (length old) tally
-    unfolding tallyShown
-    tally-shown = rw (eq-eqb _ _ e)
+-- the header's refusal, or 5
+pub file-stopped : (s : List ℕ) (e : ℕ) → headerAnswer s ≡ Refused e → e ≡ refusalOr5 (headerRefusal s)
+file-stopped s e q = let k = stopped s e q in rw (ne-eqb (headerRefusal s) 0 (k .some)) (sym (k .told))
+
+pub file-passed : (s : List ℕ) (h : FileHeader) → headerAnswer s ≡ Taken h → 5 ≡ refusalOr5 (headerRefusal s)
+file-passed s h q = rw (passed s h q .none)

@@ -8,6 +8,8 @@ use Rattle.laws.specs.Choice.{pick}
 use Rattle.interpolation.specs.declared.Kind.{Kind}
 use Rattle.image_layout.specs.declared.Tally.{Tally}
 use Rattle.image_layout.specs.Call.{Told, imageRefusal, imageOut, imageTold}
+use Rattle.astc_header.specs.Header.{headerRefusal}
+use Rattle.astc_file.specs.File.{fileTold, fileOut}
 
 -- the count of blocks with a fault, and the raster index and fault of the first one
 abbrev pub tallyTold : Told → Tally
@@ -20,16 +22,38 @@ tallyNumbers t = t .count ∷ t .first ∷ t .fault ∷ []
 abbrev pub refusalOr5 : ℕ → ℕ
 refusalOr5 e = pick (eqb e 0) 5 e
 
--- the number answered with a tally of n numbers: the refusal, 0 for none
-unfoldable pub imageNumber : ℕ → ℕ → ℕ → List ℕ → ℕ → ℕ → ℕ
-imageNumber fp w h s places n =
-    pick (eqb n 3) (imageTold fp w h s places .refusal) (refusalOr5 (imageRefusal fp w h (length s) places))
+-- ---- a call that tells t and is refused by e before its tally is looked at
 
--- the result buffer after the call
-unfoldable pub imageShown : ℕ → Kind → ℕ → ℕ → List ℕ → List ℕ → ℕ → List ℕ
-imageShown fp kind w h s old n = pick (eqb n 3) (imageOut fp kind w h s old) old
+-- the number answered with a tally of n numbers: the refusal, 0 for none
+abbrev pub numberWith : Told → ℕ → ℕ → ℕ
+numberWith t e n = pick (eqb n 3) (t .refusal) (refusalOr5 e)
+
+-- the result buffer: what the call leaves, or what it held where the tally is not of three numbers
+abbrev pub outWith : ℕ → List ℕ → List ℕ → List ℕ
+outWith n new old = pick (eqb n 3) new old
 
 -- the tally after the call: all 0 on a refusal, and what it held where it is not of three numbers
-unfoldable pub tallyShown : ℕ → ℕ → ℕ → List ℕ → ℕ → List ℕ → List ℕ
-tallyShown fp w h s places old =
-    pick (eqb (length old) 3) (tallyNumbers (tallyTold (imageTold fp w h s places))) old
+abbrev pub tallyWith : Told → List ℕ → List ℕ
+tallyWith t old = pick (eqb (length old) 3) (tallyNumbers (tallyTold t)) old
+
+-- ---- images
+
+abbrev pub imageNumber : ℕ → ℕ → ℕ → List ℕ → ℕ → ℕ → ℕ
+imageNumber fp w h s places n = numberWith (imageTold fp w h s places) (imageRefusal fp w h (length s) places) n
+
+abbrev pub imageShown : ℕ → Kind → ℕ → ℕ → List ℕ → List ℕ → ℕ → List ℕ
+imageShown fp kind w h s old n = outWith n (imageOut fp kind w h s old) old
+
+abbrev pub tallyShown : ℕ → ℕ → ℕ → List ℕ → ℕ → List ℕ → List ℕ
+tallyShown fp w h s places old = tallyWith (imageTold fp w h s places) old
+
+-- ---- .astc files (02, a)
+
+abbrev pub fileNumber : List ℕ → ℕ → ℕ → ℕ
+fileNumber s places n = numberWith (fileTold s places) (headerRefusal s) n
+
+abbrev pub fileShown : Kind → List ℕ → List ℕ → ℕ → List ℕ
+fileShown kind s old n = outWith n (fileOut kind s old) old
+
+abbrev pub fileTally : List ℕ → ℕ → List ℕ → List ℕ
+fileTally s places old = tallyWith (fileTold s places) old

@@ -1,6 +1,7 @@
 // The calls exported to C. A slice crosses as pointer and length. Those of each other format and of clips stand in a module of their own.
 mod bc7;
 mod clips;
+mod files;
 mod pvrtc;
 
 use image_layout::CheckedImage;

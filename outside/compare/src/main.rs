@@ -3,6 +3,7 @@
 mod bc7;
 mod cases;
 mod clip;
+mod file;
 mod make;
 mod pvrtc;
 mod seen;
@@ -164,6 +165,7 @@ fn main() {
     }
     pvrtc::run(&mut run, &mut r);
     clip::cases(&mut run, &mut r, blocks / 50);
+    file::cases(&mut run, &mut r, blocks / 200);
     let never = run.seen.report();
     for line in &never {
         println!("{line}");

@@ -16,6 +16,7 @@
 pub mod bc7;
 pub mod clip;
 mod ffi;
+pub mod file;
 pub mod pvrtc;
 pub mod raw;
 
@@ -70,6 +71,9 @@ fn words(number: u8) -> &'static str {
         32 => "no block mode has this grid, range and planes",
         33 => "endpoint modes that do not fit the selector",
         34 => "an endpoint number or weight above its range, or an unused one not 0",
+        41 => "a file of fewer than 16 bytes",
+        42 => "a file that does not begin as .astc files do",
+        43 => "a footprint that is not in the list, or a depth or third size other than 1",
         51 => "a clip of another version",
         52 => "a frame's length is not 6 plus 16 for each block",
         53 => "the clip ends inside a frame or before its version byte",

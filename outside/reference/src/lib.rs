@@ -8,6 +8,7 @@ mod block;
 mod clip;
 mod colour;
 mod decode;
+mod file;
 pub mod pvrtc;
 pub mod random;
 mod refusals;
@@ -18,6 +19,7 @@ pub mod tables;
 pub use block::fault;
 pub use clip::{ClipBlock, ClipFrame, ParsedClip, clip_frame, parse_clip};
 pub use decode::{decode, decode_image_u8, decode_image_u16, decode_u8, decode_u16};
+pub use file::{FileHeader, file_header, read_file};
 pub use refusals::{block_refusal, image_refusal, read_refusal};
 pub use symbolic::{NUMBERS, SymbolicBlock, picture, read, refusal, write};
 

@@ -4,7 +4,7 @@ use native.Mathlib.Omega.{arith}
 use borrow.Author.Needs.{needs}
 use lib.ListN.{length, getD}
 use Rattle.laws.proofs.Filling.{Filling, filling-start, filling-more, filling-done}
-use Rattle.clip_numbers.proofs.Lists.{tab-self}
+use Rattle.byte_list.proofs.Tables.{tab-self}
 use Rattle.clip_numbers.proofs.put_told.Statement.{statement}
 use Rattle.clip_numbers.proofs.put_told.Tie as tie
 

@@ -1,5 +1,5 @@
 use denote.Ref.{now}
-use Rattle.stallbrook.proofs.Laws.{three}
+use Rattle.byte_list.proofs.Tables.{three}
 use borrow.Author.Needs.{needs}
 use Rattle.stallbrook.proofs.put_tally.Statement.{statement}
 use Rattle.stallbrook.proofs.put_tally.Tie as tie

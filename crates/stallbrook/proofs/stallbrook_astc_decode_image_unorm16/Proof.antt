@@ -1,12 +1,10 @@
 use denote.Ref.{now}
 use mathlib.Core.Path.{ap, _∙_}
-use mathlib.Core.List.{List}
-use Prim.Native.Nat.{ℕ}
+use lib.ListN.{length}
 use Rattle.interpolation.specs.declared.Kind.the-variants.{Unorm16}
-use Rattle.image_layout.specs.declared.Tally.{Tally}
-use Rattle.image_layout.specs.Call.{Told}
+use Rattle.image_layout.specs.Call.{Told, imageRefusal, imageOut, imageTold}
 use Rattle.stallbrook.specs.Images.{tallyTold, tallyNumbers}
-use Rattle.stallbrook.proofs.Laws.{image-number-5, image-kept, tally-kept, image-number, image-shown, tally-shown}
+use Rattle.stallbrook.proofs.Laws.{untold, telling}
 use borrow.Author.Needs.{needs}
 use Rattle.stallbrook.proofs.stallbrook_astc_decode_image_unorm16.Statement.{statement}
 use Rattle.stallbrook.proofs.stallbrook_astc_decode_image_unorm16.Tie as tie
@@ -17,13 +15,8 @@ refusal-or-5-requires c κs = search needs
 returns : tie.Need-returns
 returns c =
     let a = c .before .before .before .before .before .args in
-    let n = c .before .if1 .taken in (
-      c .refusal-or-5 .ensures ∙ image-number-5 (a .footprint) (a .width) (a .height) (now (a .blocks)) (now (a .out)) (now (a .tally)) n,
-      (
-        image-kept (a .footprint) (a .width) (a .height) (now (a .blocks)) (now (a .out)) (now (a .tally)) n Unorm16,
-        tally-kept (a .footprint) (a .width) (a .height) (now (a .blocks)) (now (a .out)) (now (a .tally)) n,
-      ),
-    )
+    let u = untold (imageTold (a .footprint) (a .width) (a .height) (now (a .blocks)) (length (now (a .out)))) (imageRefusal (a .footprint) (a .width) (a .height) (length (now (a .blocks))) (length (now (a .out)))) (imageOut (a .footprint) Unorm16 (a .width) (a .height) (now (a .blocks)) (now (a .out))) (now (a .out)) (now (a .tally)) (c .before .if1 .taken) in
+    (c .refusal-or-5 .ensures ∙ u .number, (u .out, u .its-tally))
 
 decode-image-unorm16-requires : tie.Need-decode-image-unorm16-requires
 decode-image-unorm16-requires c κs = search needs
@@ -48,15 +41,11 @@ returns-2 c =
     let p = c .before .before .before in
     let d = p .before .before .before .before .before in
     let a = d .before .before .before .before .before .before .args in
-    let e = d .before .before .if1 .left in
-    let told = d .decode-image-unorm16 .ensures .1 .0 in (
-      c .refusal-told .ensures ∙ ap (λ (t : Told). t .refusal) told ∙ image-number (a .footprint) (a .width) (a .height) (now (a .blocks)) (now (a .out)) (now (a .tally)) e,
-      (
-        d .decode-image-unorm16 .ensures .1 .1 ∙ image-shown (a .footprint) (a .width) (a .height) (now (a .blocks)) (now (a .out)) (now (a .tally)) e Unorm16,
-        p .put-tally .ensures
-            ∙ ap tallyNumbers (p .before .before .tally-told .ensures ∙ ap tallyTold told)
-            ∙ tally-shown (a .footprint) (a .width) (a .height) (now (a .blocks)) (now (a .out)) (now (a .tally)) e,
-      ),
+    let r = d .decode-image-unorm16 .ensures in
+    let told = r .1 .0 in
+    let u = telling (imageTold (a .footprint) (a .width) (a .height) (now (a .blocks)) (length (now (a .out)))) (imageRefusal (a .footprint) (a .width) (a .height) (length (now (a .blocks))) (length (now (a .out)))) (imageOut (a .footprint) Unorm16 (a .width) (a .height) (now (a .blocks)) (now (a .out))) (now (a .out)) (now (a .tally)) (d .before .before .if1 .left) in (
+      c .refusal-told .ensures ∙ ap (λ (t : Told). t .refusal) told ∙ u .number,
+      (r .1 .1 ∙ u .out, p .put-tally .ensures ∙ ap tallyNumbers (p .before .before .tally-told .ensures ∙ ap tallyTold told) ∙ u .its-tally),
     )
 
 pub stallbrook-astc-decode-image-unorm16-spec : {M : Type 1} → statement M

@@ -4,9 +4,9 @@ use native.Mathlib.Omega.{arith}
 use borrow.Author.Needs.{needs}
 use lib.ListN.{length, getD}
 use Rattle.laws.proofs.Filling.{Filling, filling-start, filling-more, filling-done}
-use Rattle.clip_numbers.proofs.Lists.{tab-self}
-use Rattle.clip_numbers.proofs.put_block.Statement.{statement}
-use Rattle.clip_numbers.proofs.put_block.Tie as tie
+use Rattle.byte_list.proofs.Tables.{tab-self}
+use Rattle.byte_list.proofs.put_block.Statement.{statement}
+use Rattle.byte_list.proofs.put_block.Tie as tie
 
 abbrev Inv-loop : tie.InvT-loop
 Inv-loop block₀ from i₀ block i = (i ≤ 16) × Filling (λ k. getD from k 0) 0 16 block i

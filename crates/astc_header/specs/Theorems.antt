@@ -1,0 +1,19 @@
+-- 02, a: what is proved of reading and writing headers (proofs/RoundTrip, `reads-back`, `written-again`; proofs/Refusals, `never-1`).
+-- Assumes nothing.
+use Prim.Native.Nat.{ℕ}
+use mathlib.Core.Path.{_≡_}
+use mathlib.Core.List.{List, _++_}
+use lib.ListN.{take}
+use Rattle.astc_header.specs.declared.FileHeader.{FileHeader}
+use Rattle.astc_header.specs.declared.HeaderAnswer.the-variants.{Accepted}
+use Rattle.astc_header.specs.Header.{headerAnswer, fileBlocks, writtenHeader}
+
+-- "What we write, with its blocks behind it, must read back as it was": footprint, sides, and the blocks' bytes
+pub record ReadsBack (h : FileHeader) (blocks : List ℕ) : Type 0 where
+  pub header-back : headerAnswer (writtenHeader (h .footprint) (h .width) (h .height) .bytes ++ blocks) ≡ Accepted h
+  pub blocks-back : fileBlocks (writtenHeader (h .footprint) (h .width) (h .height) .bytes ++ blocks) ≡ blocks
+
+-- "any accepted header is written again byte for byte": h is what was read of the file s
+pub record WrittenAgain (s : List ℕ) (h : FileHeader) : Type 0 where
+  pub not-refused : writtenHeader (h .footprint) (h .width) (h .height) .refusal ≡ 0
+  pub same-bytes : writtenHeader (h .footprint) (h .width) (h .height) .bytes ≡ take 16 s

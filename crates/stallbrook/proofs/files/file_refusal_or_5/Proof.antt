@@ -1,0 +1,32 @@
+use mathlib.Core.Path.{sym, _∙_}
+use Rattle.stallbrook.proofs.Laws.{file-stopped, file-passed}
+use borrow.Author.Needs.{needs}
+use Rattle.stallbrook.proofs.files.file_refusal_or_5.Statement.{statement}
+use Rattle.stallbrook.proofs.files.file_refusal_or_5.Tie as tie
+use Rattle.stallbrook.proofs.files.file_refusal_or_5.Reads as reads
+use Rattle.stallbrook.proofs.files.file_refusal_or_5.Lts as lts
+use Rattle.astc_header.proofs.read_header.Reads as read-header-reads
+
+-- src/files.rt:37:9
+read-header-requires : tie.Need-read-header-requires
+read-header-requires c κs = search needs
+
+-- src/files.rt:39:31
+enum-known-answer : tie.Need-enum-known-answer
+enum-known-answer c = search needs
+
+-- src/files.rt:40:38
+enum-told : tie.Need-enum-told
+enum-told c = search needs
+
+-- src/files.rt:34:1
+returns : tie.Need-returns
+returns c = file-stopped _ _ (sym (c .before .before .before .read-header .ensures .0) ∙ c .before .answer .given .1)
+
+-- src/files.rt:34:1
+returns-2 : tie.Need-returns-2
+returns-2 c = file-passed _ _ (sym (c .before .before .read-header .ensures .0) ∙ c .enum-told .given .1)
+
+pub file-refusal-or-5-spec : {M : Type 1} → statement M
+file-refusal-or-5-spec =
+    tie.close (tie.spec read-header-requires enum-known-answer enum-told returns returns-2)
