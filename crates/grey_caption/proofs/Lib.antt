@@ -1,0 +1,5 @@
+pub mod Sheets
+pub mod Picture
+pub mod Choice
+pub mod Bits
+pub mod Demand
