@@ -57,6 +57,11 @@ mix-same a i h =
     let e : a * (64 - i) + a * i ≡ a * 64 = sym (mul-add a (64 - i) i) ∙ ap (λ (n : ℕ). a * n) (omega arith) in
     omega (arith, e)
 
+-- how kind 1 widens a colour
+pub expanded : (e : ℕ) → expandOf Srgb8 0 e ≡ 256 * e + 128
+unfolding expandOf centred
+expanded e = refl
+
 -- an alpha of 255 shows as 255
 opaque : shownOf Srgb8 (expandOf Srgb8 3 255) ≡ 255
 unfolding expandOf replicated centred

@@ -1,15 +1,15 @@
+use borrow.Author.Tests.{lt-ltb, le-ltb}
+use Rattle.caption_block.specs.inner.Choice.{betterOf}
 use Rattle.caption_block.proofs.better.Statement.{statement}
 use Rattle.caption_block.proofs.better.Tie as tie
-use Rattle.caption_block.proofs.better.Reads as reads
-use Rattle.caption_block.proofs.better.Lts as lts
 
--- src/lib.rt:73:9
 returns : tie.Need-returns
-returns c = ?
+unfolding betterOf
+returns c = rw (lt-ltb _ _ (c .if1 .taken))
 
--- src/lib.rt:69:1
 returns-2 : tie.Need-returns-2
-returns-2 c = ?
+unfolding betterOf
+returns-2 c = rw (le-ltb _ _ (c .if1 .left))
 
 pub better-spec : {M : Type 1} → statement M
 better-spec = tie.close (tie.spec returns returns-2)

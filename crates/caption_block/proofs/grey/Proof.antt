@@ -1,51 +1,48 @@
+use mathlib.Core.Path.{_∙_}
+use native.Mathlib.Omega.{arith}
 use borrow.Author.Needs.{needs}
+use Rattle.quantization.proofs.Levels.{weight-le}
+use Rattle.grey_caption.specs.Caption.{greyOf}
+use Rattle.grey_caption.proofs.Picture.{expanded}
 use Rattle.caption_block.proofs.grey.Statement.{statement}
 use Rattle.caption_block.proofs.grey.Tie as tie
-use Rattle.caption_block.proofs.grey.Reads as reads
-use Rattle.caption_block.proofs.grey.Lts as lts
-use Rattle.caption_block.proofs.mixed.Reads as mixed-reads
-use Rattle.caption_block.proofs.wide.Reads as wide-reads
-use Rattle.quantization.proofs.unquantize_weight.Reads as unquantize-weight-reads
 
--- src/lib.rt:41:9
 unquantize-weight-requires : tie.Need-unquantize-weight-requires
 unquantize-weight-requires c κs = search needs
 
--- src/lib.rt:42:17
 wide-requires : tie.Need-wide-requires
 wide-requires c κs = search needs
 
--- src/lib.rt:42:11
 mul-mixed : tie.Need-mul-mixed
 mul-mixed c = search needs
 
--- src/lib.rt:42:11
 add-mixed : tie.Need-add-mixed
 add-mixed c = search needs
 
--- src/lib.rt:42:39
 wide-requires-2 : tie.Need-wide-requires-2
 wide-requires-2 c κs = search needs
 
--- src/lib.rt:42:33
 mul-mixed-2 : tie.Need-mul-mixed-2
 mul-mixed-2 c = search needs
 
--- src/lib.rt:42:33
 add-mixed-2 : tie.Need-add-mixed-2
 add-mixed-2 c = search needs
 
--- src/lib.rt:42:55
 wide-requires-3 : tie.Need-wide-requires-3
 wide-requires-3 c κs = search needs
 
--- src/lib.rt:42:5
 mixed-requires : tie.Need-mixed-requires
-mixed-requires c κs = ?
+mixed-requires c κs =
+    let level = c .before .before .before .unquantize-weight in
+    (omega arith, omega arith, omega (arith, c .wide3 .ensures .0, level .ensures, weight-le 2 (c .before .before .before .before .args .w)))
 
--- src/lib.rt:38:1
 returns : tie.Need-returns
-returns c = ?
+unfolding greyOf
+returns c =
+    let w = c .before .before .before in
+    let a = w .before .before .args in
+    c .mixed .ensures
+    ∙ rw (w .wide .ensures .0, c .before .before .wide2 .ensures .0, c .before .wide3 .ensures .0, w .before .unquantize-weight .ensures, expanded (a .e0), expanded (a .e1))
 
 pub grey-spec : {M : Type 1} → statement M
 grey-spec =

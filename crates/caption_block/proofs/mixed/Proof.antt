@@ -1,36 +1,36 @@
+use mathlib.Core.Path.{refl}
+use Prim.Native.Nat.{_+_, _-_, _*_, _≤_}
+use native.Mathlib.Omega.{arith}
 use borrow.Author.Needs.{needs}
+use Rattle.interpolation.specs.Texel.{mixOf}
+use Rattle.caption_block.proofs.Laws.{sum-le}
 use Rattle.caption_block.proofs.mixed.Statement.{statement}
 use Rattle.caption_block.proofs.mixed.Tie as tie
-use Rattle.caption_block.proofs.mixed.Reads as reads
-use Rattle.caption_block.proofs.mixed.Lts as lts
 
--- src/lib.rt:34:13
+total : (c : tie.Start) → c .args .c0 * (64 - c .args .level) + c .args .c1 * c .args .level ≤ 4194240
+total c = sum-le (c .args .c0) (c .args .c1) (c .args .level) (c .pre .0) (c .pre .1) (c .pre .2)
+
 sub-result : tie.Need-sub-result
 sub-result c = search needs
 
--- src/lib.rt:34:7
 mul-result : tie.Need-mul-result
-mul-result c = ?
+mul-result c = omega (arith, total c)
 
--- src/lib.rt:34:27
 mul-result-2 : tie.Need-mul-result-2
-mul-result-2 c = ?
+mul-result-2 c = omega (arith, total c)
 
--- src/lib.rt:34:7
 add-result : tie.Need-add-result
-add-result c = ?
+add-result c = omega (arith, total c)
 
--- src/lib.rt:34:7
 add-result-2 : tie.Need-add-result-2
-add-result-2 c = ?
+add-result-2 c = omega (arith, total c)
 
--- src/lib.rt:34:5
 cast-result : tie.Need-cast-result
-cast-result c = ?
+cast-result c = omega (arith, total c)
 
--- src/lib.rt:30:1
 returns : tie.Need-returns
-returns c = ?
+unfolding mixOf
+returns c = refl
 
 pub mixed-spec : {M : Type 1} → statement M
 mixed-spec =

@@ -1,21 +1,19 @@
+use native.Mathlib.Omega.{arith}
 use borrow.Author.Needs.{needs}
+use Rattle.grey_caption.specs.Caption.{squared}
+use Rattle.caption_block.proofs.Laws.{square-le}
 use Rattle.caption_block.proofs.squared.Statement.{statement}
 use Rattle.caption_block.proofs.squared.Tie as tie
-use Rattle.caption_block.proofs.squared.Reads as reads
-use Rattle.caption_block.proofs.squared.Lts as lts
-use Rattle.caption_block.proofs.apart.Reads as apart-reads
 
--- src/lib.rt:64:9
 apart-requires : tie.Need-apart-requires
 apart-requires c κs = search needs
 
--- src/lib.rt:65:5
 mul-result : tie.Need-mul-result
-mul-result c = ?
+mul-result c = omega (arith, square-le (c .apart .result) (c .apart .ensures .1))
 
--- src/lib.rt:61:1
 returns : tie.Need-returns
-returns c = ?
+unfolding squared
+returns c = rw (c .apart .ensures .0)
 
 pub squared-spec : {M : Type 1} → statement M
 squared-spec = tie.close (tie.spec apart-requires mul-result returns)
