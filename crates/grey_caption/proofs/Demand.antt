@@ -65,6 +65,7 @@ module _ (e0 e1 : ℕ) (h0 : e0 ≤ 255) (h1 : e1 ≤ 255) where
     unfolding roundTripOf blockWith
     shows = record {
       written = kept .written;
+      sixteen = kept .sixteen;
       no-fault = kept .shown sixteen;
       read = kept .same;
       texel = texel;
