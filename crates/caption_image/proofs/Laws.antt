@@ -3,24 +3,24 @@
 use mathlib.Core.Path.{_≡_, refl, sym, ap, ap₂, _∙_, subst}
 use mathlib.Core.Bool.{Bool, true, false, not}
 use mathlib.Core.List.{List}
-use Prim.Native.Nat.{ℕ, _+_, _-_, _*_, _/_, _%_, _≤_, _<_}
+use Prim.Native.Nat.{ℕ, _+_, _-_, _*_, _/_, _%_, _≤_, _<_, min}
 use native.Mathlib.Decide.{decLt}
-use native.Mathlib.Nat.{div-lt-iff-lt-mul, mod-lt}
+use native.Mathlib.Nat.{div-lt-iff-lt-mul, mod-lt, zero-add}
 use native.Mathlib.Omega.{arith}
 use lib.Dec.{eqb}
 use lib.ListN.{length, getD, set, length-set}
-use lib.Seq.{getD-set-same, getD-set-other}
+use lib.Seq.{getD-set-same, getD-set-other, ext-getD}
 use borrow.Author.Tests.{eq-eqb, ne-eqb, eqb-true}
 use Rattle.laws.specs.Choice.{pick, either}
 use Rattle.laws.specs.Table.{tab}
-use Rattle.laws.proofs.Filling.{Filled, Filling}
+use Rattle.laws.proofs.Filling.{Filled, Filling, filled-all}
 use Rattle.laws.proofs.Reasons.{none-either}
 use Rattle.image_size.specs.Sides.{badSide, sizeRefusal, blocksAcross, blocksOf}
 use Rattle.image_size.proofs.Laws.{limit-le, side-fine, sized, fine, across-inside, across-pos}
 use Rattle.image_layout.proofs.Covering.{below-row}
 use Rattle.footprint.specs.Footprint.{footprints, widthOf, heightOf}
 use Rattle.grey_caption.specs.Caption.{footprint, captionOf}
-use Rattle.caption_image.specs.Image.{imageRefusal, wantedAt, wantedOf, imageBlocks, imageOut}
+use Rattle.caption_image.specs.Image.{imageRefusal, wantedAt, wantedOf, imageBlocks, imageOut, blockRefusal, blockOut}
 use Rattle.caption_image.specs.inner.Places.{Lent, Put}
 
 -- ---- refusals
@@ -161,3 +161,33 @@ block-bytes e0 e1 w h wanted b across p q r k l =
     let s : (16 * b + k) / 16 ≡ b = omega arith in
     let t : (16 * b + k) % 16 ≡ k = omega arith in
     ap (λ (x : List ℕ). getD x k 0) (r ∙ ap (captionOf e0 e1) (rw p at q)) ∙ rw (s, t)
+
+-- ---- one block
+
+-- a whole block of 4 by 4 is its own sixteen greys
+sixteen-greys : (wanted greys : List ℕ) → length wanted ≡ 16 → greys ≡ tab (λ i. wantedAt 4 4 wanted (0 + i % 4) (0 + i / 4)) 16 → greys ≡ wanted
+unfolding Filled wantedAt
+sixteen-greys wanted greys n e =
+    e ∙ sym (filled-all _ 0 wanted 16 n (λ k l.
+    let a : min (0 + k / 4) 3 * 4 + min (0 + k % 4) 3 ≡ k = omega arith in sym (ap (λ (j : ℕ). getD wanted j 0) a)))
+
+module _ (e0 e1 : ℕ) (wanted old : List ℕ) where
+  pub block-4 : (length old ≡ 16 → ⊥) → (4 ≡ blockRefusal (length old) (length wanted)) × (old ≡ blockOut e0 e1 wanted old)
+  unfolding blockRefusal blockOut
+  block-4 n = (rw (ne-eqb _ _ n), rw (ne-eqb _ _ n))
+
+  module _ (m : length old ≡ 16) where
+    pub block-5 : (length wanted ≡ 16 → ⊥) → (5 ≡ blockRefusal (length old) (length wanted)) × (old ≡ blockOut e0 e1 wanted old)
+    unfolding blockRefusal blockOut
+    block-5 n = (rw (eq-eqb _ _ m, ne-eqb _ _ n), rw (eq-eqb _ _ m, ne-eqb _ _ n))
+
+    pub block-done : {greys bytes new : List ℕ} → length wanted ≡ 16 → greys ≡ tab (λ i. wantedAt 4 4 wanted (0 + i % 4) (0 + i / 4)) 16
+        → bytes ≡ captionOf e0 e1 greys → length bytes ≡ 16 → Put 0 16 bytes old new
+        → (0 ≡ blockRefusal (length old) (length wanted)) × (new ≡ blockOut e0 e1 wanted old)
+    unfolding blockRefusal blockOut
+    block-done {greys} {bytes} {new} n g b s p =
+        (rw (eq-eqb _ _ m, eq-eqb _ _ n), rw (eq-eqb _ _ m, eq-eqb _ _ n) (whole ∙ b ∙ ap (captionOf e0 e1) (sixteen-greys wanted greys n g)))
+      where
+        whole : new ≡ bytes
+        whole = ext-getD 0 new bytes (p .size ∙ m ∙ sym s) (λ i l. let k : i < 16 = omega (arith, p .size) in
+            ap (λ (j : ℕ). getD new j 0) (sym (zero-add i)) ∙ p .here i k)

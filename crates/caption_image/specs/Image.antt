@@ -45,3 +45,13 @@ imageBlocks e0 e1 w h wanted = tab (λ n. getD (captionOf e0 e1 (wantedOf w h wa
 unfoldable pub imageOut : ℕ → ℕ → ℕ → ℕ → List ℕ → List ℕ → List ℕ
 unfolding imageBlocks imageRefusal
 imageOut e0 e1 w h wanted old = pick (eqb (imageRefusal w h (length old) (length wanted)) 0) (imageBlocks e0 e1 w h wanted) old
+
+-- ---- one block over lent lists, for callers whose lists have their lengths at run time only
+
+-- 4 block bytes not exactly 16, 5 wanted greys not exactly 16; 0 for neither
+unfoldable pub blockRefusal : ℕ → ℕ → ℕ
+blockRefusal bytes greys = firstOf (when (not (eqb bytes 16)) 4 ∷ when (not (eqb greys 16)) 5 ∷ [])
+
+unfoldable pub blockOut : ℕ → ℕ → List ℕ → List ℕ → List ℕ
+unfolding captionOf blockRefusal
+blockOut e0 e1 wanted old = pick (eqb (blockRefusal (length old) (length wanted)) 0) (captionOf e0 e1 wanted) old

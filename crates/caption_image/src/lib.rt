@@ -4,7 +4,7 @@ ghost use Prim.Native.Nat.{_+_, _*_, _/_, _%_, _≤_, _<_};
 ghost use lib.ListN.{length};
 ghost use Rattle.laws.specs.Table.{tab};
 ghost use Rattle.image_size.specs.Sides.{blocksAcross, blocksOf};
-ghost use Rattle.caption_image.specs.Image.{imageRefusal, nearest, wantedAt, imageBlocks, imageOut};
+ghost use Rattle.caption_image.specs.Image.{imageRefusal, nearest, wantedAt, imageBlocks, imageOut, blockRefusal, blockOut};
 ghost use Rattle.caption_image.specs.inner.Places.{Lent, Put};
 
 // The refusals in their order, 0 for none.
@@ -111,5 +111,21 @@ pub fn caption_image(
     }
     let across = image_size::blocks_across(width, 4) as usize;
     fill(e0, e1, width as usize, height as usize, across, wanted, blocks);
+    0
+}
+
+// One block over lent lists. Answers 4 or 5 where a list is not of sixteen, else 0.
+pub fn caption_into(e0: u8, e1: u8, wanted: &[u8], block: &mut [u8]) -> u8
+    ensures { λ r. ⌜ r ≡ blockRefusal (length (now (block .entry))) (length (now (wanted .entry))) ⌝ }
+    ensures { λ r. ⌜ now (block .exit) ≡ blockOut e0 e1 (now (wanted .entry)) (now (block .entry)) ⌝ }
+{
+    if block.len() != 16 {
+        return 4;
+    }
+    if wanted.len() != 16 {
+        return 5;
+    }
+    let greys = gather(wanted, 4, 4, 0, 0);
+    put(block, 0, caption_block::caption(e0, e1, greys));
     0
 }

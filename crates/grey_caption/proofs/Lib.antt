@@ -3,3 +3,4 @@ pub mod Picture
 pub mod Choice
 pub mod Bits
 pub mod Demand
+pub mod Samples
