@@ -46,7 +46,12 @@ fn grey(e0: u8, e1: u8, w: u8) -> u8
 fn greys(e0: u8, e1: u8) -> [u8; 4]
     ensures { λ r. ⌜ r ≡ greysOf e0 e1 ⌝ }
 {
-    [grey(e0, e1, 0), grey(e0, e1, 1), grey(e0, e1, 2), grey(e0, e1, 3)]
+    [
+        grey(e0, e1, 0),
+        grey(e0, e1, 1),
+        grey(e0, e1, 2),
+        grey(e0, e1, 3),
+    ]
 }
 
 fn apart(a: u8, b: u8) -> u32

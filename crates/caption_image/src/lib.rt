@@ -70,15 +70,7 @@ fn put(out: &mut [u8], at: usize, bytes: [u8; 16])
 }
 
 // Every block, in raster order.
-fn fill(
-    e0: u8,
-    e1: u8,
-    width: usize,
-    height: usize,
-    across: usize,
-    wanted: &[u8],
-    out: &mut [u8],
-)
+fn fill(e0: u8, e1: u8, width: usize, height: usize, across: usize, wanted: &[u8], out: &mut [u8])
     requires { ⌜ Lent width height (now wanted) ⌝ }
     requires { ⌜ across ≡ blocksAcross width 4 ⌝ }
     requires { ⌜ length (now out) ≡ 16 * blocksOf 0 width height ⌝ }
@@ -110,7 +102,15 @@ pub fn caption_image(
         return n;
     }
     let across = image_size::blocks_across(width, 4) as usize;
-    fill(e0, e1, width as usize, height as usize, across, wanted, blocks);
+    fill(
+        e0,
+        e1,
+        width as usize,
+        height as usize,
+        across,
+        wanted,
+        blocks,
+    );
     0
 }
 

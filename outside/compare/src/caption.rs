@@ -28,7 +28,9 @@ impl Case for CaptionCase {
         let [e0, e1] = self.ends;
         let best = weights(e0, e1, &self.wanted);
         let expected = block(e0, e1, &self.wanted);
-        if self.pairs && let Some((i, j)) = better_pair(e0, e1, &self.wanted, &best) {
+        if self.pairs
+            && let Some((i, j)) = better_pair(e0, e1, &self.wanted, &best)
+        {
             return Some(format!("places {i} and {j} do better at once"));
         }
         let given = library::caption::caption_block(e0, e1, &self.wanted);
@@ -92,8 +94,7 @@ impl ImageCase {
 impl Case for ImageCase {
     fn difference(&self) -> Option<String> {
         let ([e0, e1], number) = (self.ends, self.refusal());
-        let expected =
-            (number == 0).then(|| image(e0, e1, self.width as usize, self.height as usize, &self.wanted));
+        let expected = (number == 0).then(|| image(e0, e1, self.width as usize, self.height as usize, &self.wanted));
         lend(self.blocks_len, expected.as_deref(), None, "caption_image", number, |out| {
             library::caption::raw::caption_image(e0, e1, self.width, self.height, &self.wanted, out)
         })
@@ -217,7 +218,9 @@ pub fn run(run: &mut Run, r: &mut Random) {
         let blocks_len = near(r, 16 * (w.div_ceil(4) * h.div_ceil(4)) as usize);
         one_image(run, ImageCase { ends: [1, 2], width, height, wanted, blocks_len });
     }
-    for (greys, bytes, number) in [(16, 15, 4), (15, 15, 4), (16, 17, 4), (16, 0, 4), (15, 16, 5), (17, 16, 5), (0, 16, 5)] {
+    for (greys, bytes, number) in
+        [(16, 15, 4), (15, 15, 4), (16, 17, 4), (16, 0, 4), (15, 16, 5), (17, 16, 5), (0, 16, 5)]
+    {
         let mut block = vec![7; bytes];
         let answer = library::caption::raw::caption_block(1, 2, &vec![3; greys], &mut block);
         run.seen.count("caption block call, refusal", answer as u32);

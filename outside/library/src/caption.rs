@@ -18,9 +18,7 @@ pub mod raw {
     }
 
     pub fn caption_block(e0: u8, e1: u8, wanted: &[u8], block: &mut [u8]) -> u8 {
-        unsafe {
-            stallbrook_astc_caption_block(e0, e1, wanted.as_ptr(), wanted.len(), block.as_mut_ptr(), block.len())
-        }
+        unsafe { stallbrook_astc_caption_block(e0, e1, wanted.as_ptr(), wanted.len(), block.as_mut_ptr(), block.len()) }
     }
 
     pub fn caption_image(e0: u8, e1: u8, width: u32, height: u32, wanted: &[u8], blocks: &mut [u8]) -> u8 {
@@ -77,8 +75,6 @@ pub fn caption_block(e0: u8, e1: u8, wanted: &[u8; 16]) -> [u8; 16] {
 /// assert_eq!(refused, Err(stallbrook::Error::Refused(5)));
 /// # Ok::<(), stallbrook::Error>(())
 /// ```
-pub fn caption_image(
-    e0: u8, e1: u8, width: u32, height: u32, wanted: &[u8], blocks: &mut [u8],
-) -> Result<(), Error> {
+pub fn caption_image(e0: u8, e1: u8, width: u32, height: u32, wanted: &[u8], blocks: &mut [u8]) -> Result<(), Error> {
     crate::refused(raw::caption_image(e0, e1, width, height, wanted, blocks))
 }

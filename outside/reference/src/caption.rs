@@ -84,9 +84,8 @@ pub fn image(e0: u8, e1: u8, width: usize, height: usize, wanted: &[u8]) -> Vec<
     let mut blocks = Vec::new();
     for top in (0..height).step_by(4) {
         for left in (0..width).step_by(4) {
-            let greys = std::array::from_fn(|i| {
-                wanted[(top + i / 4).min(height - 1) * width + (left + i % 4).min(width - 1)]
-            });
+            let greys =
+                std::array::from_fn(|i| wanted[(top + i / 4).min(height - 1) * width + (left + i % 4).min(width - 1)]);
             blocks.extend(block(e0, e1, &greys));
         }
     }

@@ -60,11 +60,12 @@ loop-again c =
     let g = p .before .before .before in
     let l = g .before .before in
     let st = start (g .before) in
-    let a = st .args in
-    (omega arith,
-    block-more _ _ _ _ _ _ (p .put .ensures)
-    (block-bytes (a .e0) (a .e1) (a .width) (a .height) (a .wanted .now) (l .loop .b) (a .across) (st .pre .1 .0) (g .gather .ensures) (p .before .caption .ensures .0))
-    (l .loop .inv .1))
+    let a = st .args in (
+      omega arith,
+      block-more _ _ _ _ _ _ (p .put .ensures)
+          (block-bytes (a .e0) (a .e1) (a .width) (a .height) (a .wanted .now) (l .loop .b) (a .across) (st .pre .1 .0) (g .gather .ensures) (p .before .caption .ensures .0))
+          (l .loop .inv .1),
+    )
 
 same-length : tie.Need-same-length Inv-loop μ-loop
 same-length c = c .before .loop .inv .1 .size
