@@ -1,9 +1,9 @@
 -- The refusals one by one, and blocks that are stored one after the other.
 -- Assumes nothing.
-use mathlib.Core.Path.{_≡_, refl, sym, ap, ap₂, _∙_, subst}
+use mathlib.Core.Path.{_≡_, refl, sym, ap, _∙_}
 use mathlib.Core.Bool.{Bool, true, false, not}
 use mathlib.Core.List.{List}
-use Prim.Native.Nat.{ℕ, _+_, _-_, _*_, _/_, _%_, _≤_, _<_, min}
+use Prim.Native.Nat.{ℕ, _+_, _-_, _*_, _/_, _%_, _<_, min}
 use native.Mathlib.Decide.{decLt}
 use native.Mathlib.Nat.{div-lt-iff-lt-mul, mod-lt, zero-add}
 use native.Mathlib.Omega.{arith}
@@ -16,7 +16,7 @@ use Rattle.laws.specs.Table.{tab}
 use Rattle.laws.proofs.Filling.{Filled, Filling, filled-all}
 use Rattle.laws.proofs.Reasons.{none-either}
 use Rattle.image_size.specs.Sides.{badSide, sizeRefusal, blocksAcross, blocksOf}
-use Rattle.image_size.proofs.Laws.{limit-le, side-fine, sized, fine, across-inside, across-pos}
+use Rattle.image_size.proofs.Laws.{limit-le, side-fine, sized, across-inside, across-pos}
 use Rattle.image_layout.proofs.Covering.{below-row}
 use Rattle.footprint.specs.Footprint.{footprints, widthOf, heightOf}
 use Rattle.grey_caption.specs.Caption.{footprint, captionOf}

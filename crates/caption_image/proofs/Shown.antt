@@ -1,6 +1,6 @@
 -- What the image call shows of an image of captions.
 -- Assumes nothing.
-use mathlib.Core.Path.{_≡_, refl, sym, ap, ap₂, _∙_, subst}
+use mathlib.Core.Path.{_≡_, sym, ap, ap₂, _∙_, subst}
 use mathlib.Core.Bool.{false}
 use mathlib.Core.List.{List, [], _∷_}
 use Prim.Native.Nat.{ℕ, _+_, _-_, _*_, _/_, _%_, _≤_, _<_, min}
@@ -14,7 +14,6 @@ use Rattle.interpolation.specs.declared.Kind.the-variants.{Srgb8}
 use Rattle.footprint.specs.Footprint.{footprints, widthOf, heightOf, texelsOf}
 use Rattle.image_size.specs.Sides.{badSide, blocksAcross, blocksOf}
 use Rattle.image_size.proofs.Laws.{across-covers}
-use Rattle.one_block.specs.Calls.{blockOut}
 use Rattle.image_layout.specs.Call as layout
 use Rattle.image_layout.specs.Geometry.{blockIndex}
 use Rattle.image_layout.specs.Numbers.{blockBytes}
@@ -22,7 +21,7 @@ use Rattle.image_layout.specs.OwnBlock.{place}
 use Rattle.image_layout.proofs.Blocks.{quotient, remainder, sixteen, byte-of}
 use Rattle.image_layout.proofs.Calls.{refused-none}
 use Rattle.image_layout.proofs.Independence.{index-in, own-block}
-use Rattle.grey_caption.specs.Caption.{footprint, blockWith, greyOf, bestWeight, weightFor, captionOf}
+use Rattle.grey_caption.specs.Caption.{footprint, weightFor, captionOf}
 use Rattle.grey_caption.specs.Best.{shownBy, Shows}
 use Rattle.grey_caption.proofs.Demand.{chosen, shows}
 use Rattle.caption_image.specs.Image.{wantedAt, wantedOf, imageBlocks}

@@ -1,18 +1,17 @@
 -- The bits of a written block: those of the weights, two for each, from bit 127 down, and below them those that the two ends alone decide.
 -- Assumes nothing.
-use mathlib.Core.Path.{_≡_, refl, sym, ap, ap₂, _∙_}
+use mathlib.Core.Path.{_≡_, refl, sym, ap, _∙_}
 use mathlib.Core.List.{List, [], _∷_, _++_}
-use Prim.Native.Nat.{ℕ, zero, suc, _+_, _-_, _*_, _/_, _%_, _^_, _≤_, _<_}
+use Prim.Native.Nat.{ℕ, suc, _+_, _-_, _*_, _/_, _%_, _^_, _≤_, _<_}
 use native.Mathlib.Nat.{mod-eq-of-lt, lt-of-lt-of-le}
 use native.Mathlib.Omega.{arith}
 use lib.Dec.{ltb}
-use lib.ListN.{getD, take}
+use lib.ListN.{take}
 use lib.Pow.{pow-mono}
 use borrow.Author.Tests.{lt-ltb}
 use Rattle.laws.specs.Choice.{pick}
-use Rattle.laws.specs.Table.{tab}
 use Rattle.bits.specs.Field.{field, reverse}
-use Rattle.bits.specs.Block.{numberOf, bytesOf}
+use Rattle.bits.specs.Block.{numberOf}
 use Rattle.bits.specs.Cells.{Cell, cell, laid}
 use Rattle.bits.proofs.Fields.{field-below, field-past, field-in}
 use Rattle.bits.proofs.Blocks.{number-bytes}
@@ -21,10 +20,9 @@ use Rattle.encoding.specs.Encoding.{sequenceBits}
 use Rattle.quantization.specs.Ranges.{encodingAt, bitsAt, mostAt, rangeBits}
 use Rattle.integer_sequence.specs.Codes.{digit}
 use Rattle.integer_sequence.specs.Reading.{number}
-use Rattle.integer_sequence.specs.Writing.{packed, values}
-use Rattle.block_header.specs.Counts.{weightCount, weightBits, componentBits, indexBits, selectorBits, extraBits}
+use Rattle.block_header.specs.Counts.{weightCount, weightBits, extraBits}
 use Rattle.symbolic_block.specs.declared.SymbolicBlock.{SymbolicBlock}
-use Rattle.symbolic_block.specs.Fields.{gridOf, weightIn}
+use Rattle.symbolic_block.specs.Fields.{weightIn}
 use Rattle.symbolic_block.specs.Reading.{modeBlock}
 use Rattle.symbolic_block.specs.Writing.{endpointStream, weightStream, modeCells, blockOf}
 use Rattle.symbolic_block.proofs.Demand.{demand-3}
@@ -35,7 +33,7 @@ use Rattle.symbolic_block.proofs.Written as written
 use Rattle.symbolic_calls.specs.declared.Writing.{Writing}
 use Rattle.symbolic_calls.proofs.Laws as writer
 use Rattle.grey_caption.specs.Caption.{footprint, settings, sheetWith, blockWith}
-use Rattle.grey_caption.specs.Best.{Weights, bitOf}
+use Rattle.grey_caption.specs.Best.{Weights}
 use Rattle.grey_caption.proofs.Sheets.{sized, not-void, weight-at, weights-in, none, accepted}
 
 laid-last : (cs : List Cell) (c : Cell) → laid (cs ++ (c ∷ [])) ≡ c .value * 2 ^ c .place + laid cs

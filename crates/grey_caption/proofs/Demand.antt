@@ -1,24 +1,20 @@
 -- 02, n, of the writer's blocks: what they show, that the chosen weights are best, and that a wanted grey reaches its own weight alone.
 -- Assumes nothing.
-use mathlib.Core.Path.{_≡_, refl, sym, ap, ap₂, _∙_, subst}
+use mathlib.Core.Path.{_≡_, refl, sym, ap, ap₂, _∙_}
 use mathlib.Core.List.{List, [], _∷_}
-use Prim.Native.Nat.{ℕ, zero, suc, _+_, _-_, _*_, _/_, _%_, _^_, _≤_, _<_}
+use Prim.Native.Nat.{ℕ, _+_, _-_, _*_, _/_, _%_, _≤_, _<_}
 use native.Mathlib.Decide.{decLe, decLt}
 use native.Mathlib.Omega.{arith}
 use lib.ListN.{length, getD}
 use Rattle.laws.specs.Table.{tab}
 use Rattle.laws.proofs.Filling.{getD-tab, length-tab}
 use Rattle.bits.specs.Field.{field}
-use Rattle.bits.specs.Block.{numberOf}
 use Rattle.footprint.specs.Footprint.{footprints, widthOf, heightOf, texelsOf}
 use Rattle.interpolation.specs.declared.Kind.the-variants.{Srgb8}
-use Rattle.one_block.specs.Calls.{blockOut}
 use Rattle.symbolic_block.specs.declared.SymbolicBlock.{SymbolicBlock}
 use Rattle.symbolic_block.specs.Fields.{weightIn}
 use Rattle.symbolic_block.specs.Picture.{pictureNumber}
 use Rattle.symbolic_block.specs.Writing.{blockOf}
-use Rattle.symbolic_calls.specs.Writing.{writingOf}
-use Rattle.symbolic_reader.specs.declared.Reading.{Reading}
 use Rattle.symbolic_reader.specs.Answers.{readingOf}
 use Rattle.round_trip.specs.Demand.{roundTripOf, pictureNumbers, Kept}
 use Rattle.round_trip.proofs.Laws.{demanded}

@@ -5,16 +5,15 @@ use mathlib.Core.List.{List, [], _∷_}
 use Prim.Native.Nat.{ℕ, zero, suc, _+_, _-_, _*_, _/_, _%_, _≤_, _<_}
 use native.Mathlib.Nat.{mul-add}
 use native.Mathlib.Omega.{arith}
-use lib.ListN.{length, getD}
+use lib.ListN.{getD}
 use borrow.Author.Tests.{lt-ltb}
 use Rattle.laws.specs.Table.{tab}
-use Rattle.laws.proofs.Filling.{getD-tab}
 use Rattle.encoding.specs.Encoding.{sequenceBits}
 use Rattle.quantization.specs.Ranges.{encodingAt, bitsAt, mostAt, rangeBits, largestTo, endpointRange}
 use Rattle.quantization.specs.Unquantise.{endpointLevel, unquantEndpoint, unquantWeight}
 use Rattle.quantization.proofs.Ranges.{same-below}
 use Rattle.quantization.proofs.Levels.{weight-le}
-use Rattle.footprint.specs.Footprint.{footprints, widthOf, heightOf, texelsOf}
+use Rattle.footprint.specs.Footprint.{footprints, widthOf, heightOf}
 use Rattle.partition.specs.Select.{partitionOf}
 use Rattle.weight_grid.specs.Place.{scaleOf, gridPlace}
 use Rattle.weight_grid.specs.Bilinear.{w00, w01, w10, w11, blendOf}
@@ -28,7 +27,7 @@ use Rattle.interpolation.specs.Texel.{mixOf}
 use Rattle.symbolic_block.specs.declared.SymbolicBlock.{SymbolicBlock}
 use Rattle.symbolic_block.specs.Fields.{weightIn}
 use Rattle.symbolic_block.specs.Reading.{modeBlock}
-use Rattle.symbolic_block.specs.Picture.{widenedWeight, firstGrid, pointWeight, infillWeight, placeWeight, numbersOf, numbersOfFirst, bitsLeftOver, rangeOfEndpoints, widenedNumbers, pairOfColours, partitionAt, channelGrid, channelAt, mixedPicture, pictureOf, pictureNumber}
+use Rattle.symbolic_block.specs.Picture.{widenedWeight, firstGrid, pointWeight, infillWeight, placeWeight, numbersOf, numbersOfFirst, bitsLeftOver, rangeOfEndpoints, widenedNumbers, pairOfColours, partitionAt, channelGrid, channelAt, mixedPicture, pictureNumber}
 use Rattle.symbolic_block.proofs.Opened.{picture-mode}
 use Rattle.grey_caption.specs.Caption.{footprint, settings, sheetWith, greyOf}
 use Rattle.grey_caption.proofs.Sheets.{not-void, weight-at}

@@ -1,8 +1,8 @@
 -- Values of the definitions. The greys are those that Arm's astcenc shows.
 -- Assumes nothing.
 use mathlib.Core.Path.{_≡_, refl}
-use mathlib.Core.List.{List, [], _∷_}
-use Prim.Native.Nat.{ℕ, _+_}
+use mathlib.Core.List.{[], _∷_}
+use Prim.Native.Nat.{_+_}
 use Rattle.laws.specs.Table.{tab}
 use Rattle.quantization.specs.Unquantise.{unquantWeight}
 use Rattle.interpolation.specs.Expansion.{replicated, centred, expandOf}

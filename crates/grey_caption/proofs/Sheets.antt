@@ -2,7 +2,7 @@
 -- Assumes nothing.
 use mathlib.Core.Path.{_≡_, refl, ap, _∙_}
 use mathlib.Core.Bool.{false}
-use mathlib.Core.List.{List, [], _∷_}
+use mathlib.Core.List.{[], _∷_}
 use Prim.Native.Nat.{ℕ, zero, suc, _≤_, _<_}
 use native.Mathlib.Omega.{arith}
 use lib.Dec.{T, ltb}
@@ -10,21 +10,20 @@ use lib.ListN.{getD}
 use borrow.Author.Tests.{lt-ltb, le-ltb}
 use Rattle.laws.specs.Choice.{pick}
 use Rattle.laws.specs.Table.{tab}
-use Rattle.laws.specs.Reasons.{Reason, firstOf}
+use Rattle.laws.specs.Reasons.{firstOf}
 use Rattle.laws.proofs.Filling.{length-tab}
 use Rattle.laws.proofs.Reasons.{None, none-first, _also_}
 use Rattle.quantization.specs.Ranges.{encodingAt, bitsAt, mostAt, rangeBits, largestTo, endpointRange}
 use Rattle.encoding.specs.Encoding.{sequenceBits}
-use Rattle.footprint.specs.Footprint.{footprints, widthOf, heightOf, texelsOf}
+use Rattle.footprint.specs.Footprint.{footprints, widthOf, heightOf}
 use Rattle.block_mode.specs.Back2D.{modeBits}
 use Rattle.color_endpoint.specs.Table.{numberCount, startOf}
 use Rattle.block_header.specs.Reasons.{gridTooLarge, tooManyWeights, weightBitsOutside, fourWithTwoPlanes, tooManyEndpoints, tooFewEndpointBits, isHdr, someHdr}
 use Rattle.block_header.specs.Counts.{weightCount, weightBits, componentBits, extraBits, endpointCount, bitsLeft, endpointRangeOf}
-use Rattle.integer_sequence.specs.Reading.{stored}
-use Rattle.symbolic_block.specs.Fields.{gridOf, headerOf, endpointIn, weightIn, Sized}
+use Rattle.symbolic_block.specs.Fields.{headerOf, endpointIn, weightIn, Sized}
 use Rattle.symbolic_block.specs.Refusals.{within, unknownFootprint, badMark, badWidth, badHeight, badRange, badPlanes, badComponent, badPartitions, badIndex, badSelector, badModes, someInUse, noBlockMode, modesMisfit, badEndpoints, badWeights, modeRefusals, Acceptable}
 use Rattle.symbolic_block.specs.Reading.{modeBlock}
-use Rattle.symbolic_block.proofs.Lists.{is-within, all-within, stored-at, zeros-unused}
+use Rattle.symbolic_block.proofs.Lists.{is-within, all-within, stored-at}
 use Rattle.symbolic_block.proofs.Opened.{refusal-is, refusals-mode}
 use Rattle.grey_caption.specs.Caption.{footprint, settings, sheetWith}
 use Rattle.grey_caption.specs.Best.{Weights}

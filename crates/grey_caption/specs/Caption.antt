@@ -6,7 +6,6 @@ use mathlib.Core.List.{List, [], _∷_}
 use lib.Dec.{ltb}
 use lib.ListN.{getD}
 use Rattle.laws.specs.Choice.{pick}
-use Rattle.laws.specs.Table.{tab}
 use Rattle.quantization.specs.Unquantise.{unquantWeight}
 use Rattle.interpolation.specs.declared.Kind.the-variants.{Srgb8}
 use Rattle.interpolation.specs.Expansion.{expandOf, shownOf}

@@ -1,5 +1,4 @@
 use Prim.Native.Nat.{_-_, _≤_}
-use lib.ListN.{length}
 use borrow.Author.Needs.{needs}
 use Rattle.caption_runs.proofs.main.Statement.{statement}
 use Rattle.caption_runs.proofs.main.Tie as tie
