@@ -13,7 +13,7 @@
  *    1 footprint above 13
  *    3 an image side is 0 or above 16384
  *    4 block bytes not exactly 16 for each block
- *    5 the call's other list (texels, tally or numbers) not exactly as long as said
+ *    5 the call's other list (texels, tally, numbers or wanted greys) not exactly as long as said
  * Faults of a block, the first that holds:
  *   11 reserved block mode
  *   12 void extent: bits 11..10 not both 1, or extents neither all ones nor low < high on both axes
@@ -73,6 +73,20 @@ uint8_t stallbrook_astc_read_symbolic(uint8_t footprint, const uint8_t *block, s
  * mark 1: 1, 4, 5, 31, 12). On every refusal block is 16 zeros when it has 16 bytes, also where numbers has a wrong length; a block of
  * another length is left as it was. */
 uint8_t stallbrook_astc_write_symbolic(uint8_t footprint, const uint16_t *numbers, size_t numbers_len, uint8_t *block, size_t block_len);
+
+/* ---- Best grey captions: 4x4 blocks of one partition, one plane, endpoint mode 0, grid 4x4 and weights 0..3 between two grey ends e0 and e1,
+ * which the writer above writes. Every weight is the one whose grey in srgb8 is nearest to the wanted grey of its texel, the smaller among
+ * equals: no choice of weights has a smaller summed squared difference. A wanted grey changes the two bits of its own texel's weight alone. */
+
+/* The block of 16 wanted greys, rows first. Answers 0, or 4 where block is not of 16 bytes, then 5 where there are not 16 greys: nothing is
+ * written. With these lengths every input has a block. */
+uint8_t stallbrook_astc_caption_block(uint8_t e0, uint8_t e1, const uint8_t *wanted, size_t wanted_len, uint8_t *block, size_t block_len);
+
+/* The blocks of an image, in raster order, 16 bytes each, one wanted grey for each texel of width x height. Beyond the image an edge block takes
+ * the nearest wanted grey, which changes no texel that is shown.
+ * Answers 0, or the refusal 3, 4 or 5, which leaves blocks as they were. */
+uint8_t stallbrook_astc_caption_image(uint8_t e0, uint8_t e1, uint32_t width, uint32_t height, const uint8_t *wanted, size_t wanted_len,
+    uint8_t *blocks, size_t blocks_len);
 
 /* A PVRTC1 image of 4 bits per pixel: words of 8 bytes in reflected Morton order, one for each 4 x 4 texels, to 4 bytes R, G, B, A for each
  * texel, rows first, without sRGB curve. At the edges neighbours are those of the opposite side.

@@ -1,5 +1,6 @@
 // The calls exported to C. A slice crosses as pointer and length. Those of each other format and of clips stand in a module of their own.
 mod bc7;
+mod captions;
 mod clips;
 mod files;
 mod pvrtc;

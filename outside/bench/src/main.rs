@@ -6,6 +6,7 @@
 //! is steadier. Buffers are filled once before the first round and not cleared between calls.
 
 mod bc7;
+mod caption;
 mod pvrtc;
 mod clip;
 
@@ -150,4 +151,5 @@ fn main() {
     worst = largest(worst, bc7::run(rounds));
     println!("largest ratio {:.2} (by rounds {:.2})", worst[0], worst[1]);
     clip::measure(rounds.min(7));
+    caption::measure(rounds);
 }

@@ -1,6 +1,7 @@
 //! Compares the proved library with the vectors and the reference: compare [--seed N] [--blocks N]
 
 mod bc7;
+mod caption;
 mod cases;
 mod clip;
 mod file;
@@ -164,6 +165,7 @@ fn main() {
         run.image(make::image(&mut r));
     }
     pvrtc::run(&mut run, &mut r);
+    caption::run(&mut run, &mut r);
     clip::cases(&mut run, &mut r, blocks / 50);
     file::cases(&mut run, &mut r, blocks / 200);
     let never = run.seen.report();

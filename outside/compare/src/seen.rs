@@ -46,6 +46,7 @@ impl Seen {
         seen.require("void extent", 0..2);
         seen.require("block is what the writer makes", 0..2);
         crate::pvrtc::require(&mut seen);
+        crate::caption::require(&mut seen);
         for (sort, numbers) in crate::clip::SORTS {
             seen.require(sort, numbers.iter().copied());
         }

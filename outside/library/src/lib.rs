@@ -14,6 +14,7 @@
 //! ```
 
 pub mod bc7;
+pub mod caption;
 pub mod clip;
 mod ffi;
 pub mod file;

@@ -4,6 +4,7 @@
 //! its "widen" is unquantise (stored numbers) or expand (endpoints to 16 bits).
 
 pub mod bc7;
+pub mod caption;
 mod block;
 mod clip;
 mod colour;

@@ -25,14 +25,10 @@ impl StoredFile {
         self.srgb.chunks(4).flat_map(|t| &t[..3]).copied().collect()
     }
 
-    /// Whether these are its texels: all channels of kind 0, as far as half floats tell them, and the colours of kind 1, whose alpha
-    /// README.md speaks of.
+    /// Whether these are its texels: all channels of kind 0, as far as half floats tell them, and of kind 1.
     pub fn shows(&self, unorm16: &[u16], srgb8: &[u8]) -> bool {
         let halves = self.halves.as_chunks::<2>().0.iter().map(|&h| u16::from_le_bytes(h));
-        let colours = srgb8.chunks(4).zip(self.srgb.chunks(4));
-        halves.eq(unorm16.iter().map(|&c| crate::half_float(c)))
-            && srgb8.len() == self.srgb.len()
-            && colours.into_iter().all(|(t, s)| t[..3] == s[..3])
+        halves.eq(unorm16.iter().map(|&c| crate::half_float(c))) && srgb8 == self.srgb
     }
 }
 

@@ -2,6 +2,7 @@
 
 pub mod bc7;
 pub mod file;
+pub mod caption;
 pub mod pvrtc;
 
 /// Width and height of the footprints in 01's order.

@@ -1,0 +1,24 @@
+-- What the image call in kind 1 shows of these blocks: in every texel the grey that is nearest to its own wanted grey. So it hangs on no other
+-- wanted grey, and what edge blocks take beyond the image changes no texel that is shown.
+-- Theorem: proofs/Shown.antt, `shown`.
+-- Assumes nothing.
+use mathlib.Core.Path.{_≡_}
+use mathlib.Core.List.{List, [], _∷_}
+use Prim.Native.Nat.{ℕ, _+_, _*_, _<_}
+use lib.ListN.{length, getD}
+use Rattle.interpolation.specs.declared.Kind.the-variants.{Srgb8}
+use Rattle.image_layout.specs.Call.{imageRefusal, imageOut}
+use Rattle.image_layout.specs.OwnBlock.{place}
+use Rattle.grey_caption.specs.Caption.{footprint, greyOf, bestWeight}
+use Rattle.caption_image.specs.Image.{imageBlocks}
+
+-- the best grey between the ends for a wanted one
+abbrev pub bestGrey : ℕ → ℕ → ℕ → ℕ
+bestGrey e0 e1 wanted = greyOf e0 e1 (bestWeight e0 e1 wanted)
+
+-- at column x of row y, whatever the 4 w h result bytes held
+pub record Shown (e0 e1 w h : ℕ) (wanted old : List ℕ) (x y : ℕ) : Type 0 where
+  pub taken : imageRefusal footprint w h (length (imageBlocks e0 e1 w h wanted)) (length old) ≡ 0
+  pub texel : (c : ℕ) → c < 4
+      → getD (imageOut footprint Srgb8 w h (imageBlocks e0 e1 w h wanted) old) (place w x y c) 0
+      ≡ getD (bestGrey e0 e1 (getD wanted (y * w + x) 0) ∷ bestGrey e0 e1 (getD wanted (y * w + x) 0) ∷ bestGrey e0 e1 (getD wanted (y * w + x) 0) ∷ 255 ∷ []) c 0

@@ -1,0 +1,6 @@
+pub mod Sheets
+pub mod Picture
+pub mod Choice
+pub mod Bits
+pub mod Demand
+pub mod Samples

@@ -1,0 +1,2 @@
+pub mod Caption
+pub mod Best
