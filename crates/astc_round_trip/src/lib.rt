@@ -14,8 +14,6 @@ pub fn rewrite(file: &[u8]) -> WrittenHeader
             refusal,
             bytes: [0u8; 16],
         },
-        HeaderAnswer::Accepted(h) => {
-            astc_header::write_header(h.footprint, h.width, h.height)
-        }
+        HeaderAnswer::Accepted(h) => { astc_header::write_header(h.footprint, h.width, h.height) }
     }
 }
