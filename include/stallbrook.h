@@ -163,6 +163,13 @@ uint8_t stallbrook_astc_decode_file_srgb8(const uint8_t *file, size_t file_len, 
 /* A block's texels: 16 bytes to 64. Answers 0; 71, and all 64 bytes are 0; or 4, then 5, which leave out as it was. */
 uint8_t stallbrook_bc7_decode_block(const uint8_t *block, size_t block_len, uint8_t *out, size_t out_len);
 
+/* A picture's texels: blocks in raster order, 16 bytes each, to 4 bytes for each texel of width x height; edge blocks are cropped.
+ * Answers 0, or the refusal 3 (a side is 0 or above 16384), 4 or 5, which leaves out as it was. tally is of 3 numbers, as in the ASTC image
+ * calls: the count of blocks with fault 71, and the raster index and the fault of the first one; all 0 on a refusal. A tally of another length
+ * is refused by 5, after 3 and 4, and nothing at all is written. */
+uint8_t stallbrook_bc7_decode_image(uint32_t width, uint32_t height, const uint8_t *blocks, size_t blocks_len, uint8_t *out, size_t out_len,
+    uint64_t *tally, size_t tally_len);
+
 /* A block's sheet: its fields as stored and in the block's order, as 60 numbers. With their places: mode (0), partition (1), rotation (2),
  * index selection (3), 18 endpoints (4 to 21: red of the first subset's two ends, of the second's, of the third's, then green, blue and
  * alpha alike), 6 P bits (22 to 27), 16 primary (28 to 43) and 16 secondary indices (44 to 59); those that the mode lacks are 0.

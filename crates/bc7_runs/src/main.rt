@@ -1,5 +1,7 @@
-// Runs of the BC7 calls: each block of the input, sixteen bytes, is shown, read as a sheet and written again; then sheets that are refused. The
+// Runs of the BC7 calls: each block of the input, sixteen bytes, is shown, read as a sheet and written again; then pictures, and sheets that are refused. The
 // texels of the stored output are Pillow's, the sheets those of the second reader.
+use image_layout::ImageAnswer;
+use image_layout::Tally;
 use libc::STDIN_FILENO;
 use libc::STDOUT_FILENO;
 ghost use Prim.Native.Nat.{_<_};
@@ -40,6 +42,25 @@ fn show(block: &[u8]) {
     write(&numbers);
 }
 
+fn tally(t: Tally) {
+    io::write_all(STDOUT_FILENO, b"faulty ");
+    io::print_decimal(STDOUT_FILENO, t.count);
+    io::write_all(STDOUT_FILENO, b" first ");
+    io::print_decimal(STDOUT_FILENO, t.first);
+    word(b" fault ", t.fault);
+}
+
+// A picture into 280 bytes.
+fn picture(width: u32, height: u32, blocks: &[u8]) {
+    let mut texels = [7u8; 280];
+    let answer = bc7_image::decode_image_bc7(width, height, blocks, &mut texels);
+    match answer {
+        ImageAnswer::Refused(n) => word(b"refused ", n),
+        ImageAnswer::Decoded(t) => tally(t),
+    }
+    list(&texels);
+}
+
 // A sheet with one number.
 fn single(k: usize, n: u8)
     requires { ⌜ k < 60 ⌝ }
@@ -59,6 +80,11 @@ fn main() {
         }
         k += 1;
     }
+    // the last six blocks as a picture of 10 by 7 texels; then a side of 0, a byte too few, and a buffer for other sides
+    picture(10, 7, &input[304..400]);
+    picture(0, 7, &input[304..400]);
+    picture(10, 7, &input[304..399]);
+    picture(9, 7, &input[304..400]);
     // fifteen bytes, a mode of 8, fields of mode 0 that are too wide or unused, and the largest that fit
     show(&input[0..15]);
     single(0, 8);

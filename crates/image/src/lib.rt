@@ -1,5 +1,4 @@
 // The image calls: blocks in raster order to the texels of a whole image (01: picture), in each kind.
-use bits::PhysicalBlock;
 use image_layout::CheckedImage;
 use image_layout::ImageAnswer;
 use image_layout::ImageGrid;
@@ -10,68 +9,13 @@ use interpolation::Kind;
 ghost use mathlib.Core.Path.{_≡_};
 ghost use Prim.Native.Nat.{_+_, _*_, _/_, _%_, _≤_, _<_};
 ghost use lib.ListN.{length};
-ghost use Rattle.bits.specs.Block.{blockNumber};
 ghost use Rattle.interpolation.specs.declared.Kind.the-variants.{Unorm16, Srgb8};
-ghost use Rattle.image_layout.specs.Numbers.{blockAt, faultAt, imageNumberAt, imageNumbers};
+ghost use Rattle.image_layout.specs.Numbers.{faultAt, imageNumberAt, imageNumbers};
 ghost use Rattle.image_layout.specs.Faulty.{tallyOf};
 ghost use Rattle.image_layout.specs.Call.{checkedOf, imageAnswer, imageOut, imageTold, toldOf};
-ghost use Rattle.image_layout.proofs.Regions.{Pasted, Placed, Cropped, Tile};
+ghost use Rattle.image_layout.proofs.Regions.{Pasted, Placed, Tile};
 ghost use Rattle.image_layout.proofs.Calls.{Sound};
-ghost use Rattle.image_layout.proofs.Parts.{Fits, PartOf, RunOf, RunFits};
-
-// How many of n places from `at` on are within a side.
-fn crop(side: usize, at: usize, n: usize) -> usize
-    requires { ⌜ at < side ⌝ }
-    ensures { λ r. ⌜ Cropped side at n r ⌝ }
-{
-    if n <= side - at { n } else { side - at }
-}
-
-// The part of the image that block b covers.
-fn part_of(g: ImageGrid, b: usize) -> Part
-    requires { ⌜ Sound g ⌝ }
-    requires { ⌜ b < g .down * g .across ⌝ }
-    ensures { λ r. ⌜ PartOf g b r ⌝ }
-{
-    let x = b % g.across * g.columns;
-    let y = b / g.across * g.rows;
-    let columns = crop(g.width, x, g.columns);
-    let rows = crop(g.height, y, g.rows);
-    Part {
-        x,
-        y,
-        columns,
-        rows,
-    }
-}
-
-// Row dy of a part.
-fn run_of(g: ImageGrid, p: Part, dy: usize) -> Run
-    requires { ⌜ Sound g ⌝ }
-    requires { ⌜ Fits g p ⌝ }
-    requires { ⌜ dy < p .rows ⌝ }
-    ensures { λ r. ⌜ RunOf g p dy r ⌝ }
-{
-    let x = p.x;
-    let y = p.y;
-    let columns = p.columns;
-    let width = g.width;
-    let step = g.columns;
-    Run {
-        from: 4 * (dy * step),
-        at: 4 * ((y + dy) * width + x),
-        n: 4 * columns,
-    }
-}
-
-// Block b of the bytes.
-fn block_of(s: &[u8], b: usize) -> PhysicalBlock
-    requires { ⌜ 16 * b + 16 ≤ length (now s) ⌝ }
-    ensures { λ r. ⌜ blockNumber r ≡ blockAt (now (s .entry)) b ⌝ }
-{
-    let at = 16 * b;
-    bits::load(&s[at..at + 16])
-}
+ghost use Rattle.image_layout.proofs.Parts.{Fits, RunFits};
 
 // Room for the numbers of the largest block.
 fn blank() -> [u16; 576]
@@ -102,7 +46,7 @@ fn place_numbers(buf: &[u16; 576], g: ImageGrid, p: Part, out: &mut [u16])
     ensures { λ _. ⌜ Placed Unorm16 (g .width) (p .x) (p .y) (p .columns) (p .rows) (g .columns) (now (buf .entry)) (now (out .entry)) (now (out .exit)) ⌝ }
 {
     for dy in 0..p.rows {
-        copy_numbers(buf, run_of(g, p, dy), out);
+        copy_numbers(buf, image_parts::run_of(g, p, dy), out);
     }
 }
 
@@ -117,8 +61,8 @@ fn show_numbers(g: ImageGrid, b: usize, s: &[u8], buf: &mut [u16; 576], out: &mu
     ensures { λ _. ⌜ Tile (g .width) (g .height) (g .columns) (g .rows) (b % g .across) (b / g .across) (imageNumberAt (g .footprint) Unorm16 (g .width) (now (s .entry))) (now (out .entry)) (now (out .exit)) ⌝ }
     ensures { λ _. ⌜ length (now (buf .exit)) ≡ 576 ⌝ }
 {
-    let p = part_of(g, b);
-    let block = block_of(s, b);
+    let p = image_parts::part_of(g, b);
+    let block = image_parts::block_of(s, b);
     let e = block_core::decode_into(block, g.footprint, Kind::Unorm16, buf);
     place_numbers(buf, g, p, out);
     e
@@ -204,7 +148,7 @@ fn place_bytes(buf: &[u16; 576], g: ImageGrid, p: Part, out: &mut [u8])
     ensures { λ _. ⌜ Placed Srgb8 (g .width) (p .x) (p .y) (p .columns) (p .rows) (g .columns) (now (buf .entry)) (now (out .entry)) (now (out .exit)) ⌝ }
 {
     for dy in 0..p.rows {
-        copy_bytes(buf, run_of(g, p, dy), out);
+        copy_bytes(buf, image_parts::run_of(g, p, dy), out);
     }
 }
 
@@ -219,8 +163,8 @@ fn show_bytes(g: ImageGrid, b: usize, s: &[u8], buf: &mut [u16; 576], out: &mut 
     ensures { λ _. ⌜ Tile (g .width) (g .height) (g .columns) (g .rows) (b % g .across) (b / g .across) (imageNumberAt (g .footprint) Srgb8 (g .width) (now (s .entry))) (now (out .entry)) (now (out .exit)) ⌝ }
     ensures { λ _. ⌜ length (now (buf .exit)) ≡ 576 ⌝ }
 {
-    let p = part_of(g, b);
-    let block = block_of(s, b);
+    let p = image_parts::part_of(g, b);
+    let block = image_parts::block_of(s, b);
     let e = block_core::decode_into(block, g.footprint, Kind::Srgb8, buf);
     place_bytes(buf, g, p, out);
     e

@@ -3,5 +3,6 @@ pub mod Regions
 pub mod Blocks
 pub mod Tallies
 pub mod Calls
+pub mod Walking
 pub mod Parts
 pub mod Independence

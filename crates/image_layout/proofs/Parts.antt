@@ -1,6 +1,6 @@
 -- The part of an image that a block covers, and its rows, in terms of an image's layout.
 -- Assumes nothing.
-use mathlib.Core.Path.{_≡_, refl, sym, ap, ap₂, _∙_}
+use mathlib.Core.Path.{_≡_, sym, ap, _∙_}
 use mathlib.Core.List.{List}
 use Prim.Native.Nat.{ℕ, _+_, _*_, _/_, _%_, _≤_, _<_}
 use native.Mathlib.Nat.{div-add-mod'}
@@ -17,10 +17,10 @@ use Rattle.image_layout.specs.Numbers.{blockAt, faultAt, imageNumberAt, 
 use Rattle.image_layout.specs.Faulty.{tallyOf}
 use Rattle.image_layout.proofs.Covering.{mul-bound, below-row, block-place}
 use Rattle.image_size.proofs.Laws.{across-inside}
-use Rattle.image_layout.proofs.Regions.{Pasted, Cropped, Placed, placed-more, Tile, ShownTo, shown-none, shown-more, shown-all}
+use Rattle.image_layout.proofs.Regions.{Pasted, Cropped, Placed, placed-more, Tile}
 use Rattle.image_layout.proofs.Blocks.{tile-shown}
 use Rattle.image_layout.proofs.Calls.{Sound}
-use Rattle.image_layout.proofs.Tallies.{tally-start, tally-more}
+use Rattle.image_layout.proofs.Walking.{Walking, walking-start, walking-more, walking-done}
 use Rattle.image_layout.specs.inner.Noted.{noted}
 
 -- the part is as much of a block as is within the image
@@ -82,13 +82,9 @@ begins g b s h =
 
 -- ---- what a turn of each loop does
 
--- the first b blocks are decoded: they show the image, their faults are counted, and there is room for a block
-pub record Decoding (kind : Kind) (g : ImageGrid) (s old new buf : List ℕ) (t : Tally) (b : ℕ) : Type 0 where
-  pub within : b ≤ g .down * g .across
-  pub same : length new ≡ length old
-  pub shown : ShownTo (g .width) (g .height) (g .columns) (g .rows) (g .across) b (imageNumberAt (g .footprint) kind (g .width) s) new
-  pub tallied : t ≡ tallyOf (faultAt (g .footprint) s) b
-  pub room : length buf ≡ 576
+-- the first b blocks of an ASTC image are decoded
+abbrev pub Decoding : Kind → ImageGrid → List ℕ → List ℕ → List ℕ → List ℕ → Tally → ℕ → Type 0
+Decoding kind g s old new buf t b = Walking (imageNumberAt (g .footprint) kind (g .width) s) (faultAt (g .footprint) s) 576 g old new buf t b
 
 module _ (kind : Kind) (g : ImageGrid) where
   -- a row of a part
@@ -114,35 +110,17 @@ module _ (kind : Kind) (g : ImageGrid) where
 
     -- before the first block
     pub decoding-start : (old buf : List ℕ) → length buf ≡ 576 → Decoding kind g s old old buf (record { count = 0; first = 0; fault = 0 }) 0
-    decoding-start old buf e = record {
-      within = omega arith;
-      same = refl;
-      shown = shown-none (g .width) (g .height) (g .columns) (g .rows) (g .across) (imageNumberAt (g .footprint) kind (g .width) s) old;
-      tallied = sym (tally-start (faultAt (g .footprint) s));
-      room = e;
-    }
+    decoding-start = walking-start (imageNumberAt (g .footprint) kind (g .width) s) (faultAt (g .footprint) s) 576 g sound
 
     -- one block more
     pub decoding-more : (old l buf : List ℕ) (t : Tally) (b : ℕ) (new buf′ : List ℕ) (t′ : Tally) (e : ℕ) → Decoding kind g s old l buf t b
         → b < g .down * g .across → length new ≡ length l → length buf′ ≡ 576
         → Tile (g .width) (g .height) (g .columns) (g .rows) (b % g .across) (b / g .across) (imageNumberAt (g .footprint) kind (g .width) s) l new
         → e ≡ faultAt (g .footprint) s b → t′ ≡ noted t b e → Decoding kind g s old new buf′ t′ (b + 1)
-    decoding-more old l buf t b new buf′ t′ e d h n r tile fault note = record {
-      within = omega arith;
-      same = n ∙ d .same;
-      shown = shown-more (g .width) (g .height) (g .columns) (g .rows) (g .across) (imageNumberAt (g .footprint) kind (g .width) s) b l new (sound .columns-least) (sound .across) (d .shown) tile;
-      tallied = note ∙ ap₂ (λ (t : Tally) (e : ℕ). noted t b e) (d .tallied) fault ∙ tally-more (faultAt (g .footprint) s) b;
-      room = r;
-    }
+    decoding-more = walking-more (imageNumberAt (g .footprint) kind (g .width) s) (faultAt (g .footprint) s) 576 g sound
 
     -- after the last
     pub decoding-done : (old l buf : List ℕ) (t : Tally) (b : ℕ) → length old ≡ 4 * (g .height * g .width) → g .down * g .across ≤ b → Decoding kind g s old l buf t b
         → (t ≡ tallyOf (faultAt (g .footprint) s) (g .down * g .across)) × (l ≡ imageNumbers (g .footprint) kind (g .width) (g .height) s)
     unfolding imageNumbers
-    decoding-done old l buf t b size h d =
-        let q : b ≡ g .down * g .across = let z = d .within in omega arith in
-        let p : ShownTo (g .width) (g .height) (g .columns) (g .rows) (g .across) (g .down * g .across) (imageNumberAt (g .footprint) kind (g .width) s) l = rw q at (d .shown) in (
-          rw q at (d .tallied),
-          shown-all (g .width) (g .height) (g .columns) (g .rows) (g .across) (imageNumberAt (g .footprint) kind (g .width) s) l
-              (sound .width-least) (sound .columns-least) (sound .rows-least) (sound .across) (d .same ∙ size) (rw (sound .down) at p),
-        )
+    decoding-done = walking-done (imageNumberAt (g .footprint) kind (g .width) s) (faultAt (g .footprint) s) 576 g sound

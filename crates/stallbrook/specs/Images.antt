@@ -10,6 +10,7 @@ use Rattle.image_layout.specs.declared.Tally.{Tally}
 use Rattle.image_layout.specs.Call.{Told, imageRefusal, imageOut, imageTold}
 use Rattle.astc_header.specs.Header.{headerRefusal}
 use Rattle.astc_file.specs.File.{fileTold, fileOut}
+use Rattle.bc7_image.specs.Image.{bc7Refusal, bc7Told, bc7Out}
 
 -- the count of blocks with a fault, and the raster index and fault of the first one
 abbrev pub tallyTold : Told → Tally
@@ -57,3 +58,14 @@ fileShown kind s old n = outWith n (fileOut kind s old) old
 
 abbrev pub fileTally : List ℕ → ℕ → List ℕ → List ℕ
 fileTally s places old = tallyWith (fileTold s places) old
+
+-- ---- pictures of BC7 blocks
+
+abbrev pub bc7ImageNumber : ℕ → ℕ → List ℕ → ℕ → ℕ → ℕ
+bc7ImageNumber w h s places n = numberWith (bc7Told w h s places) (bc7Refusal w h (length s) places) n
+
+abbrev pub bc7ImageShown : ℕ → ℕ → List ℕ → List ℕ → ℕ → List ℕ
+bc7ImageShown w h s old n = outWith n (bc7Out w h s old) old
+
+abbrev pub bc7TallyShown : ℕ → ℕ → List ℕ → ℕ → List ℕ → List ℕ
+bc7TallyShown w h s places old = tallyWith (bc7Told w h s places) old

@@ -2,7 +2,9 @@
 
 use std::collections::BTreeMap;
 
-use reference::bc7::{MODES, Sheet, block_refusal, decode, fault, picture, random_sheet, read, refusal, write};
+use reference::bc7::{
+    MODES, Sheet, block_refusal, decode, decode_image, fault, image_refusal, picture, random_sheet, read, refusal, write,
+};
 use reference::random::Random;
 
 /// Filled before each call, so that bytes left alone are seen.
@@ -22,7 +24,13 @@ struct Run {
 impl Run {
     fn new() -> Run {
         let mut run = Run { outcome: Outcome { passed: 0, failed: 0 }, seen: BTreeMap::new() };
-        let sorts: [(&'static str, Vec<u32>); 11] = [
+        let sorts: [(&'static str, Vec<u32>); 17] = [
+            ("picture call", vec![0, 3, 4, 5]),
+            ("picture call, tally not of 3 numbers", vec![3, 4, 5]),
+            ("picture, side modulo 4", (0..4).collect()),
+            ("picture, faulty blocks", vec![0, 1, 2]),
+            ("picture, first faulty block", vec![0, 1]),
+            ("picture, side of 16384", vec![1]),
             ("block call", vec![0, 4, 5, 71]),
             ("read call", vec![0, 4, 5, 71]),
             ("write call", vec![0, 4, 5, 72, 73]),
@@ -107,6 +115,31 @@ impl Run {
             self.expect("written again", block, numbers_len != 60 || told == 0 && again == block);
             self.expect("written again by the reference", block, write(&s) == Ok(again) || numbers_len != 60);
         }
+    }
+
+    /// A picture of any sides, with buffers of any length.
+    fn image(&mut self, width: u32, height: u32, blocks: &[u8], out_len: usize, tally_len: usize) {
+        let mut out = vec![FILL; out_len];
+        let mut tally = vec![FILL as u64; tally_len];
+        let number = library::bc7::raw::decode_image(width, height, blocks, &mut out, &mut tally);
+        let refused = image_refusal(width, height, blocks.len(), out_len);
+        let (mut texels, mut told, mut after) = (vec![FILL; out_len], refused, vec![FILL as u64; tally_len]);
+        if tally_len != 3 {
+            told = if refused == 0 { 5 } else { refused };
+            self.count("picture call, tally not of 3 numbers", told as u32);
+        } else if refused == 0 {
+            let faults = decode_image(width, height, blocks, &mut texels);
+            after = vec![faults.faulty, faults.first_index, faults.first_fault as u64];
+            self.count("picture, side modulo 4", width % 4);
+            self.count("picture, side modulo 4", height % 4);
+            self.count("picture, faulty blocks", faults.faulty.min(2) as u32);
+            self.count("picture, first faulty block", faults.first_index.min(1) as u32);
+            self.count("picture, side of 16384", (width == 16384 || height == 16384) as u32);
+        } else {
+            after = vec![0; 3];
+        }
+        self.count("picture call", told as u32);
+        self.expect("picture call", blocks, number == told && out == texels && tally == after);
     }
 
     /// Sixty numbers, or some other count, and a block of any length: the writer.
@@ -203,6 +236,47 @@ fn edges(run: &mut Run, r: &mut Random) {
     }
 }
 
+/// A picture's blocks, some of them reserved.
+fn picture_blocks(r: &mut Random, width: u32, height: u32) -> Vec<u8> {
+    let count = (width.div_ceil(4) * height.div_ceil(4)) as usize;
+    let reserved = r.below(4);
+    (0..count)
+        .flat_map(|_| {
+            let mut block = r.bytes();
+            block[0] = if r.below(8) < reserved { 0 } else { 1 << r.below(8) };
+            block
+        })
+        .collect()
+}
+
+/// Every small picture, the largest sides, and calls that are refused.
+fn pictures(run: &mut Run, r: &mut Random) {
+    for width in 1..=13 {
+        for height in 1..=13 {
+            let blocks = picture_blocks(r, width, height);
+            run.image(width, height, &blocks, (4 * width * height) as usize, 3);
+        }
+    }
+    for (width, height) in [(16384, 1), (1, 16384), (11_000, 3), (1, 1)] {
+        let blocks = picture_blocks(r, width, height);
+        run.image(width, height, &blocks, (4 * width * height) as usize, 3);
+    }
+    for (width, height) in [(0, 1), (1, 0), (16385, 1), (1, 16385), (65536, 4), (5, 4), (4, 5)] {
+        for bytes in [0, 15, 16, 17, 32] {
+            for out_len in [0, 79, 80, 81] {
+                for tally_len in [0, 2, 3, 4] {
+                    run.image(width, height, &vec![1; bytes], out_len, tally_len);
+                }
+            }
+        }
+    }
+    for _ in 0..2_000 {
+        let (width, height) = (1 + r.below(60) as u32, 1 + r.below(60) as u32);
+        let blocks = picture_blocks(r, width, height);
+        run.image(width, height, &blocks, (4 * width * height) as usize, 3);
+    }
+}
+
 fn vectors(run: &mut Run) {
     let mut agree = 0;
     for (block, texels) in vectors::bc7::stored() {
@@ -221,6 +295,7 @@ pub fn run(seed: u64, blocks: u64) -> Outcome {
     let mut run = Run::new();
     vectors(&mut run);
     edges(&mut run, &mut r);
+    pictures(&mut run, &mut r);
     for i in 0..blocks {
         let mode = r.below(8);
         let mut block = r.bytes();

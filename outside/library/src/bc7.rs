@@ -14,7 +14,7 @@
 //! # Ok::<(), stallbrook::Error>(())
 //! ```
 
-use crate::{Error, refused};
+use crate::{Error, Tally, refused, tally_of};
 
 /// The calls over slices, with request l's number as the answer.
 pub mod raw {
@@ -26,6 +26,19 @@ pub mod raw {
         fn stallbrook_bc7_write_symbolic(
             numbers: *const u8, numbers_len: usize, block: *mut u8, block_len: usize,
         ) -> u8;
+        fn stallbrook_bc7_decode_image(
+            width: u32, height: u32, blocks: *const u8, blocks_len: usize, out: *mut u8, out_len: usize,
+            tally: *mut u64, tally_len: usize,
+        ) -> u8;
+    }
+
+    /// 0, or 3, 4, 5 (texels as they were, zeros in the tally).
+    pub fn decode_image(width: u32, height: u32, blocks: &[u8], out: &mut [u8], tally: &mut [u64]) -> u8 {
+        let (n, m, k) = (blocks.len(), out.len(), tally.len());
+        unsafe {
+            let (blocks, out, tally) = (blocks.as_ptr(), out.as_mut_ptr(), tally.as_mut_ptr());
+            stallbrook_bc7_decode_image(width, height, blocks, n, out, m, tally, k)
+        }
     }
 
     /// 0, 71 (zeros), or 4, 5 (nothing written).
@@ -113,6 +126,23 @@ fn of_block(number: u8) -> Result<(), Error> {
 /// ```
 pub fn decode_block(block: &[u8], out: &mut [u8]) -> Result<(), Error> {
     of_block(raw::decode_block(block, out))
+}
+
+/// A picture's texels as four bytes each, rows first; blocks of 4x4 in raster order, edge blocks cropped.
+///
+/// ```
+/// // three texels of a reserved block: 0, 0, 0, 0, and fault 71 is counted
+/// let mut texels = [7u8; 12];
+/// let tally = stallbrook::bc7::decode_image(3, 1, &[0; 16], &mut texels)?;
+/// assert_eq!((tally.faulty, tally.first, tally.fault), (1, 0, 71));
+/// assert_eq!(texels, [0; 12]);
+/// assert_eq!(stallbrook::bc7::decode_image(0, 1, &[], &mut []), Err(stallbrook::Error::Refused(3)));
+/// # Ok::<(), stallbrook::Error>(())
+/// ```
+pub fn decode_image(width: u32, height: u32, blocks: &[u8], out: &mut [u8]) -> Result<Tally, Error> {
+    let mut tally = [0; 3];
+    let number = raw::decode_image(width, height, blocks, out, &mut tally);
+    tally_of(number, tally)
 }
 
 /// The sheet of a block without fault.

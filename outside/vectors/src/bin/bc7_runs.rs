@@ -23,6 +23,7 @@ fn main() {
     let directory = std::env::args().nth(1).expect("bc7_runs DIRECTORY");
     let mut input = Vec::new();
     let mut out = String::new();
+    let mut shown = Vec::new();
     let mut left = [3; 9];
     left[8] = 1;
     for (block, texels) in vectors::bc7::stored() {
@@ -32,11 +33,23 @@ fn main() {
         }
         left[mode] -= 1;
         input.extend(block);
-        let shown = if mode == 8 { &[0; 64] } else { texels };
-        list(&mut out, "shown", fault(block), shown);
+        let texels = if mode == 8 { &[0; 64] } else { texels };
+        shown.push(texels);
+        list(&mut out, "shown", fault(block), texels);
         let sheet = read(block).unwrap_or(Sheet::ZERO);
         list(&mut out, "read", fault(block), &sheet.to_numbers());
         written(&mut out, &sheet);
+    }
+    // the last six blocks as a picture of 10 by 7 texels, three across, the last one reserved
+    let shown: Vec<Vec<u8>> = shown[19..].iter().map(|t| t.to_vec()).collect();
+    let byte = |n: usize| {
+        let (x, y) = (n / 4 % 10, n / 4 / 10);
+        shown[y / 4 * 3 + x / 4][4 * (y % 4 * 4 + x % 4) + n % 4]
+    };
+    let texels: Vec<u8> = (0..280).map(byte).collect();
+    list(&mut out, "faulty 1 first 5 fault", 71, &texels);
+    for refusal in [3, 4, 5] {
+        list(&mut out, "refused", refusal, &[7; 280]);
     }
     list(&mut out, "shown", 4, &[7; 64]);
     list(&mut out, "read", 4, &[0; 60]);

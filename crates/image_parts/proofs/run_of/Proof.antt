@@ -1,8 +1,8 @@
 use native.Mathlib.Omega.{arith}
 use borrow.Author.Needs.{needs}
 use Rattle.image_layout.proofs.Parts.{Products, products}
-use Rattle.image.proofs.run_of.Statement.{statement}
-use Rattle.image.proofs.run_of.Tie as tie
+use Rattle.image_parts.proofs.run_of.Statement.{statement}
+use Rattle.image_parts.proofs.run_of.Tie as tie
 
 facts : (c : tie.Start) → Products (c .args .g) (c .args .p) (c .args .dy)
 facts c = products (c .args .g) (c .args .p) (c .args .dy) (c .pre .0) (c .pre .1 .0) (c .pre .1 .1)

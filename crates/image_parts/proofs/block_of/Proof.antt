@@ -4,8 +4,8 @@ use native.Mathlib.Omega.{arith}
 use denote.Ref.{now}
 use borrow.Author.Needs.{needs}
 use Rattle.image_layout.proofs.Blocks.{loaded-at}
-use Rattle.image.proofs.block_of.Statement.{statement}
-use Rattle.image.proofs.block_of.Tie as tie
+use Rattle.image_parts.proofs.block_of.Statement.{statement}
+use Rattle.image_parts.proofs.block_of.Tie as tie
 
 mul-at : tie.Need-mul-at
 mul-at c = search needs

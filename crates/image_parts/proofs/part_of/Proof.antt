@@ -1,8 +1,8 @@
 use native.Mathlib.Omega.{arith}
 use borrow.Author.Needs.{needs}
 use Rattle.image_layout.proofs.Parts.{Begins, begins}
-use Rattle.image.proofs.part_of.Statement.{statement}
-use Rattle.image.proofs.part_of.Tie as tie
+use Rattle.image_parts.proofs.part_of.Statement.{statement}
+use Rattle.image_parts.proofs.part_of.Tie as tie
 
 -- where block b begins
 facts : (c : tie.Start) → Begins (c .args .g) (c .args .b)

@@ -1,0 +1,89 @@
+-- A block of 4x4 texels in a picture: its rows lie within 64 bytes, and what is copied of it shows the picture's bytes.
+-- Assumes nothing.
+use mathlib.Core.Path.{_≡_, refl, sym, ap, _∙_}
+use mathlib.Core.List.{List}
+use Prim.Native.Nat.{ℕ, _+_, _*_, _/_, _%_, _≤_, _<_}
+use native.Mathlib.Nat.{div-add-mod'}
+use native.Mathlib.Omega.{arith}
+use lib.ListN.{length, getD}
+use Rattle.laws.specs.Table.{tab}
+use Rattle.laws.proofs.Filling.{getD-tab, length-tab}
+use Rattle.footprint.specs.Footprint.{footprints, widthOf, heightOf}
+use Rattle.interpolation.specs.declared.Kind.the-variants.{Unorm16}
+use Rattle.image_size.specs.Sides.{blocksAcross}
+use Rattle.image_layout.specs.declared.ImageGrid.{ImageGrid}
+use Rattle.image_layout.specs.declared.Part.{Part}
+use Rattle.image_layout.specs.declared.Run.{Run}
+use Rattle.image_layout.specs.Geometry.{blockIndex}
+use Rattle.image_layout.specs.Numbers.{blockAt}
+use Rattle.image_layout.specs.OwnBlock.{place}
+use Rattle.image_layout.proofs.Regions.{Placed, Tile, tile-of}
+use Rattle.image_layout.proofs.Calls.{Sound}
+use Rattle.image_layout.proofs.Parts.{Fits, PartOf, RunOf, RunFits, products}
+use Rattle.bc7_block.specs.Picture.{blockTexel}
+use Rattle.bc7_core.specs.Bytes.{texelBytes, blockBytes}
+use Rattle.bc7_image.specs.Image.{bc7NumberAt}
+
+four-wide : widthOf 0 ≡ 4
+unfolding widthOf footprints
+four-wide = refl
+
+four-high : heightOf 0 ≡ 4
+unfolding heightOf footprints
+four-high = refl
+
+-- blocks of 4x4
+pub record Four (g : ImageGrid) : Type 0 where
+  pub columns : g .columns ≡ 4
+  pub rows : g .rows ≡ 4
+
+pub four : (g : ImageGrid) → Sound g → g .footprint ≡ 0 → Four g
+four g s z = record { columns = s .columns ∙ ap widthOf z ∙ four-wide; rows = s .rows ∙ ap heightOf z ∙ four-high }
+
+-- a row lies within a block's bytes and within the picture
+pub run-fits-64 : (g : ImageGrid) (p : Part) (dy : ℕ) (r : Run) (m : ℕ) → Sound g → g .footprint ≡ 0 → Fits g p → dy < p .rows → RunOf g p dy r → m ≡ 4 * (g .height * g .width) → RunFits r 64 m
+run-fits-64 g p dy r m s z f h o e =
+    let q = products g p dy s f h in
+    let k = four g s z in
+    let n = o .n in
+    let a = rw (k .columns) at (o .from) in
+    let b = rw (k .columns) at (f .columns .in-block) in
+    let c = rw (k .rows) at (f .rows .in-block) in
+    record { in-source = omega (arith, a, b, c, n, h); in-result = omega (arith, o, q) }
+
+-- what a block shows at its place is what the picture shows there
+index-back : (w nx bx by dx dy : ℕ) → nx ≡ blocksAcross w 4 → dx < 4 → dy < 4 → by * nx + bx ≡ blockIndex 0 w (bx * 4 + dx) (by * 4 + dy)
+unfolding blockIndex
+index-back w nx bx by dx dy en hx hy =
+    let qx : (bx * 4 + dx) / 4 ≡ bx = omega arith in
+    let qy : (by * 4 + dy) / 4 ≡ by = omega arith in
+    rw (four-wide, four-high, qx, qy, en)
+
+same-texel : {B B′ i i′ c c′ : ℕ} → B ≡ B′ → i ≡ i′ → c ≡ c′ → blockTexel B i c ≡ blockTexel B′ i′ c′
+same-texel a b d = λ t. blockTexel (a t) (b t) (d t)
+
+module _ (w nx bx by : ℕ) (s : List ℕ) (en : nx ≡ blocksAcross w 4) where
+  pub at-place : (dx dy c : ℕ) → dx < 4 → dy < 4 → c < 4
+      → getD (blockBytes (blockAt s (by * nx + bx))) (place 4 dx dy c) 0 ≡ bc7NumberAt w s (bx * 4 + dx) (by * 4 + dy) c
+  unfolding bc7NumberAt blockBytes texelBytes
+  at-place dx dy c hx hy hc =
+      let B : ℕ = blockAt s (by * nx + bx) in
+      getD-tab (λ n. blockTexel B (n / 4) (n % 4)) 64 (4 * (dy * 4 + dx) + c) 0 (omega arith)
+      ∙ same-texel (ap (blockAt s) (index-back w nx bx by dx dy en hx hy)) (omega arith) (omega arith)
+
+module _ (g : ImageGrid) (sound : Sound g) (z : g .footprint ≡ 0) (s : List ℕ) where
+  pub tile-bc7 : (b : ℕ) (p : Part) (B : ℕ) (buf old new : List ℕ) → PartOf g b p → B ≡ blockAt s b → buf ≡ blockBytes B
+      → Placed Unorm16 (g .width) (p .x) (p .y) (p .columns) (p .rows) (g .columns) buf old new
+      → Tile (g .width) (g .height) (g .columns) (g .rows) (b % g .across) (b / g .across) (bc7NumberAt (g .width) s) old new
+  tile-bc7 b p B buf old new o e held pl =
+      let k = four g sound z in
+      let i : b / g .across * g .across + b % g .across ≡ b = div-add-mod' b (g .across) in
+      let h : buf ≡ blockBytes (blockAt s (b / g .across * g .across + b % g .across)) = held ∙ ap blockBytes (e ∙ ap (blockAt s) (sym i)) in
+      let en : g .across ≡ blocksAcross (g .width) 4 = sound .across ∙ ap (blocksAcross (g .width)) (k .columns) in
+      tile-of Unorm16 (g .width) (g .height) (g .columns) (g .rows) (b % g .across) (b / g .across) (p .columns) (p .rows) (bc7NumberAt (g .width) s) buf old new
+      (sound .columns-least) (sound .rows-least) (rw (o .x) at (o .fits .columns)) (rw (o .y) at (o .fits .rows)) (rw (o .x, o .y) at pl)
+      (rw (k .columns, k .rows, h) (at-place (g .width) (g .across) (b % g .across) (b / g .across) s en))
+
+pub bytes-64 : (B : ℕ) → length (blockBytes B) ≡ 64
+unfolding blockBytes texelBytes
+bytes-64 B = length-tab (λ n. blockTexel B (n / 4) (n % 4)) 64

@@ -1,0 +1,63 @@
+use mathlib.Core.Path.{_≡_, refl, _∙_}
+use Prim.Native.Nat.{_-_, _≤_}
+use native.Mathlib.Omega.{arith}
+use lib.ListN.{length}
+use Rattle.interpolation.specs.declared.Kind.the-variants.{Unorm16}
+use Rattle.image_layout.proofs.Parts.{placed-row}
+use Rattle.bc7_image.proofs.Tiles.{run-fits-64}
+use Rattle.image_layout.proofs.Regions.{Placed, placed-none}
+use Rattle.bc7_image.proofs.place.Statement.{statement}
+use Rattle.bc7_image.proofs.place.Tie as tie
+
+abbrev Inv-loop : tie.InvT-loop
+Inv-loop buf g p out₀ dy₀ dy-end out dy = (dy ≤ dy-end) × (length out ≡ length out₀) × Placed Unorm16 (g .width) (p .x) (p .y) (p .columns) dy (g .columns) buf out₀ out
+
+abbrev μ-loop : tie.MeasureT-loop
+μ-loop buf g p out₀ dy₀ dy-end out dy = dy-end - dy
+
+loop-holds : tie.Need-loop-holds Inv-loop μ-loop
+loop-holds c = (omega arith, refl, placed-none _ _ _ _ _ _ _ _)
+
+run-of-requires : tie.Need-run-of-requires Inv-loop μ-loop
+run-of-requires c κs = let p = c .before .before .before .pre in (p .0, (p .1 .0, c .loop-test .taken))
+
+copy-run-requires : tie.Need-copy-run-requires Inv-loop μ-loop
+copy-run-requires c κs = let l = c .before .before .before .loop in
+    let p = c .before .before .before .before .before .pre in
+    run-fits-64 _ _ (l .dy) _ _ (p .0) (p .1 .1 .1) (p .1 .0) (c .before .before .loop-test .taken) (c .before .run-of .ensures) (l .inv .1 ∙ p .1 .1 .0)
+
+add-dy : tie.Need-add-dy Inv-loop μ-loop
+add-dy c = omega arith
+
+loop-less : tie.Need-loop-less Inv-loop μ-loop
+loop-less c = omega arith
+
+loop-again : tie.Need-loop-again Inv-loop μ-loop
+loop-again c = let k = c .before .before in
+    let l = c .before .before .before .before .before .before .loop in
+    let p = c .before .before .before .before .before .before .before .before .pre in (
+      omega arith,
+      k .copy-run .kept .1 .1 .0 ∙ l .inv .1,
+      placed-row Unorm16 _ _ (l .dy) _ _ _ (l .out) _ (p .1 .0) (k .before .before .run-of .ensures) (l .inv .2) (k .copy-run .ensures),
+    )
+
+same-length : tie.Need-same-length Inv-loop μ-loop
+same-length c = c .before .loop .inv .1
+
+returns : tie.Need-returns Inv-loop μ-loop
+returns c = let q : c .before .loop .dy ≡ c .before .before .before .args .p .rows = omega arith in rw q at (c .before .loop .inv .2)
+
+pub place-spec : {M : Type 1} → statement M
+place-spec =
+    tie.close
+    (tie.spec
+    Inv-loop
+    μ-loop
+    loop-holds
+    run-of-requires
+    copy-run-requires
+    add-dy
+    loop-less
+    loop-again
+    same-length
+    returns)

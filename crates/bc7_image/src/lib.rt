@@ -1,0 +1,120 @@
+// The picture call of BC7: blocks in raster order to the texels of a whole picture.
+use image_layout::CheckedImage;
+use image_layout::ImageAnswer;
+use image_layout::ImageGrid;
+use image_layout::Part;
+use image_layout::Run;
+use image_layout::Tally;
+ghost use mathlib.Core.Path.{_≡_};
+ghost use Prim.Native.Nat.{_+_, _*_, _/_, _%_, _≤_, _<_};
+ghost use lib.ListN.{length};
+ghost use Rattle.interpolation.specs.declared.Kind.the-variants.{Unorm16};
+ghost use Rattle.image_layout.specs.Faulty.{tallyOf};
+ghost use Rattle.image_layout.specs.Call.{checkedOf, toldOf};
+ghost use Rattle.image_layout.proofs.Regions.{Pasted, Placed, Tile};
+ghost use Rattle.image_layout.proofs.Calls.{Sound};
+ghost use Rattle.image_layout.proofs.Parts.{Fits, RunFits};
+ghost use Rattle.bc7_image.specs.Image.{bc7FaultAt, bc7NumberAt, bc7Numbers, bc7Answer, bc7Told, bc7Out};
+
+// Room for a block's bytes.
+fn blank() -> [u8; 64]
+    ensures { λ r. ⌜ length r ≡ 64 ⌝ }
+{
+    [0u8; 64]
+}
+
+// Copies a run of a block's bytes.
+fn copy_run(src: &[u8; 64], r: Run, out: &mut [u8])
+    requires { ⌜ RunFits r 64 (length (now out)) ⌝ }
+    ensures { λ _. ⌜ Pasted Unorm16 (now (src .entry)) (r .from) (r .n) (now (out .entry)) (r .at) (now (out .exit)) ⌝ }
+{
+    let from = r.from;
+    let at = r.at;
+    for i in 0..r.n {
+        out[at + i] = src[from + i];
+    }
+}
+
+// Copies a block's rows to its part of the picture.
+fn place(buf: &[u8; 64], g: ImageGrid, p: Part, out: &mut [u8])
+    requires { ⌜ Sound g ⌝ }
+    requires { ⌜ Fits g p ⌝ }
+    requires { ⌜ length (now out) ≡ 4 * (g .height * g .width) ⌝ }
+    requires { ⌜ g .footprint ≡ 0 ⌝ }
+    ensures { λ _. ⌜ Placed Unorm16 (g .width) (p .x) (p .y) (p .columns) (p .rows) (g .columns) (now (buf .entry)) (now (out .entry)) (now (out .exit)) ⌝ }
+{
+    for dy in 0..p.rows {
+        copy_run(buf, image_parts::run_of(g, p, dy), out);
+    }
+}
+
+// Shows block b, and answers its fault.
+fn show(g: ImageGrid, b: usize, s: &[u8], buf: &mut [u8; 64], out: &mut [u8]) -> u8
+    requires { ⌜ Sound g ⌝ }
+    requires { ⌜ b < g .down * g .across ⌝ }
+    requires { ⌜ length (now s) ≡ 16 * (g .down * g .across) ⌝ }
+    requires { ⌜ length (now out) ≡ 4 * (g .height * g .width) ⌝ }
+    requires { ⌜ length (now buf) ≡ 64 ⌝ }
+    requires { ⌜ g .footprint ≡ 0 ⌝ }
+    ensures { λ r. ⌜ r ≡ bc7FaultAt (now (s .entry)) b ⌝ }
+    ensures { λ _. ⌜ Tile (g .width) (g .height) (g .columns) (g .rows) (b % g .across) (b / g .across) (bc7NumberAt (g .width) (now (s .entry))) (now (out .entry)) (now (out .exit)) ⌝ }
+    ensures { λ _. ⌜ length (now (buf .exit)) ≡ 64 ⌝ }
+{
+    let p = image_parts::part_of(g, b);
+    let block = image_parts::block_of(s, b);
+    let e = bc7_core::decode_into(block, buf);
+    place(buf, g, p, out);
+    e
+}
+
+// Shows every block, in raster order, and counts the faults.
+fn decode(g: ImageGrid, s: &[u8], out: &mut [u8]) -> Tally
+    requires { ⌜ Sound g ⌝ }
+    requires { ⌜ length (now s) ≡ 16 * (g .down * g .across) ⌝ }
+    requires { ⌜ length (now out) ≡ 4 * (g .height * g .width) ⌝ }
+    requires { ⌜ g .footprint ≡ 0 ⌝ }
+    ensures { λ r. ⌜ r ≡ tallyOf (bc7FaultAt (now (s .entry))) (g .down * g .across) ⌝ }
+    ensures { λ _. ⌜ now (out .exit) ≡ bc7Numbers (g .width) (g .height) (now (s .entry)) ⌝ }
+{
+    let mut buf = blank();
+    let mut t = Tally {
+        count: 0,
+        first: 0,
+        fault: 0,
+    };
+    let n = g.down * g.across;
+    for b in 0..n {
+        let e = show(g, b, s, &mut buf, out);
+        t = image_layout::note(t, b as u64, e);
+    }
+    t
+}
+
+// A picture, once it is checked.
+fn answer(
+    checked: CheckedImage,
+    width: u32,
+    height: u32,
+    blocks: &[u8],
+    out: &mut [u8],
+) -> ImageAnswer
+    requires { ⌜ checked ≡ checkedOf 0 width height (length (now blocks)) (length (now out)) ⌝ }
+    ensures answer { λ r. ⌜ r ≡ bc7Answer width height (now (blocks .entry)) (length (now (out .entry))) ⌝ }
+    ensures told { λ r. ⌜ toldOf r ≡ bc7Told width height (now (blocks .entry)) (length (now (out .entry))) ⌝ }
+    ensures image { λ _. ⌜ now (out .exit) ≡ bc7Out width height (now (blocks .entry)) (now (out .entry)) ⌝ }
+{
+    match checked {
+        CheckedImage::Rejected(e) => ImageAnswer::Refused(e),
+        CheckedImage::Accepted(g) => ImageAnswer::Decoded(decode(g, blocks, out)),
+    }
+}
+
+// A picture to four bytes R, G, B, A for each texel, rows first.
+pub fn decode_image_bc7(width: u32, height: u32, blocks: &[u8], out: &mut [u8]) -> ImageAnswer
+    ensures answer { λ r. ⌜ r ≡ bc7Answer width height (now (blocks .entry)) (length (now (out .entry))) ⌝ }
+    ensures told { λ r. ⌜ toldOf r ≡ bc7Told width height (now (blocks .entry)) (length (now (out .entry))) ⌝ }
+    ensures image { λ _. ⌜ now (out .exit) ≡ bc7Out width height (now (blocks .entry)) (now (out .entry)) ⌝ }
+{
+    let checked = image_layout::check_image(0, width, height, blocks.len(), out.len());
+    answer(checked, width, height, blocks, out)
+}
