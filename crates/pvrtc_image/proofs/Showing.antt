@@ -62,25 +62,15 @@ pub record Showing (xb yb : ℕ) (s top bottom line old out : List ℕ) (y : ℕ
   pub size : length out ≡ length old
   pub filled : Filled (numberAt xb yb s) 0 out (4 * (y * (4 * 2 ^ xb)))
 
--- before the first row of texels the window stands at the last row of words and the first
-pub showing-start : (xb yb m : ℕ) (s top bottom line old : List ℕ) → m ≡ 2 ^ yb → Row (2 ^ xb) (λ X. wordAt xb yb s X (m - 1)) top
-    → Row (2 ^ xb) (λ X. wordAt xb yb s X 0) bottom → length line ≡ 3078 → Showing xb yb s top bottom line old old 0
-unfolding around
-showing-start xb yb m s top bottom line old e a b l =
-    let p : 0 < 2 ^ yb = pow-pos yb in
-    let last : m - 1 ≡ (0 + (2 ^ yb - 1)) % 2 ^ yb = let z : m - 1 ≡ 0 + (2 ^ yb - 1) = omega (arith, e) in z ∙ sym (mod-eq-of-lt (omega arith)) in
-    let n : 1 + (2 ^ yb - 1) ≡ 2 ^ yb = omega arith in
-    let first : 0 ≡ (1 + (2 ^ yb - 1)) % 2 ^ yb = rw n (sym (mod-self (2 ^ yb))) in
-    record {
-      within = omega arith;
-      window = record {
-        above = subst (λ (k : ℕ). Row (2 ^ xb) (λ X. wordAt xb yb s X k) top) last a;
-        below = subst (λ (k : ℕ). Row (2 ^ xb) (λ X. wordAt xb yb s X k) bottom) first b;
-      };
-      room = l;
-      size = refl;
-      filled = let z : 4 * (0 * (4 * 2 ^ xb)) ≡ 0 = ap (λ (k : ℕ). 4 * k) (zero-mul (4 * 2 ^ xb)) in rw z (filled-none (numberAt xb yb s) 0 old);
-    }
+-- before the first row of texels the window stands at the top of the image
+pub showing-start : (xb yb : ℕ) (s top bottom line old : List ℕ) → Window xb yb s 0 top bottom → length line ≡ 3078 → Showing xb yb s top bottom line old old 0
+showing-start xb yb s top bottom line old w l = record {
+  within = omega arith;
+  window = w;
+  room = l;
+  size = refl;
+  filled = let z : 4 * (0 * (4 * 2 ^ xb)) ≡ 0 = ap (λ (k : ℕ). 4 * k) (zero-mul (4 * 2 ^ xb)) in rw z (filled-none (numberAt xb yb s) 0 old);
+}
 
 -- a row's numbers at their places in the image
 number-in-row : (xb yb : ℕ) (s : List ℕ) (y k : ℕ) → k < 4 * (4 * 2 ^ xb) → imageTexel xb yb s (k / 4) y (k % 4) ≡ numberAt xb yb s (4 * (y * (4 * 2 ^ xb)) + k)

@@ -1,7 +1,8 @@
 // The image call of PVRTC1, 4 bits per pixel: words in reflected Morton order to bytes R, G, B, A, rows first.
 //
 // Texels are made row by row. Between two rows of words' samples lie four rows of texels; both rows of words stand unpacked in a window, and
-// the bottom one becomes the next top one, so that each row of words is unpacked once. For a row of texels the window's samples are
+// the bottom one becomes the next top one. The first and the last row, which lie about both edges, are kept, so that each word is unpacked once.
+// For a row of texels the window's samples are
 // interpolated downwards first, once for each word, into a line, and then across, once for each texel.
 use pvrtc_word::Rgba;
 ghost use mathlib.Core.Path.{_≡_};
@@ -12,7 +13,7 @@ ghost use Rattle.laws.specs.Choice.{pick};
 ghost use Rattle.laws.specs.Table.{tab};
 ghost use Rattle.pvrtc_texel.specs.Image.{imageTexel, imageRefusal, imageOut};
 ghost use Rattle.pvrtc_word.specs.inner.Lanes.{rgbaOf};
-ghost use Rattle.pvrtc_rows.specs.inner.Rows.{Sized, putThree, Window};
+ghost use Rattle.pvrtc_rows.specs.inner.Rows.{Sized, putThree, Ends, Window};
 ghost use Rattle.pvrtc_image.specs.inner.Lines.{between, blendOf, ownOf, Low, Line, shownBy, Paintable, Painted, numberAt};
 
 // Room for a row of 1,024 words and its two neighbours at the edges.
@@ -99,6 +100,8 @@ fn show_row(
     xb: u32,
     yb: u32,
     y: usize,
+    first: &[u64; 3078],
+    last: &[u64; 3078],
     top: &mut [u64; 3078],
     bottom: &mut [u64; 3078],
     line: &mut [u64; 3078],
@@ -107,12 +110,13 @@ fn show_row(
     requires { ⌜ Sized xb yb (now s) ⌝ }
     requires { ⌜ (y < 4 * 2 ^ yb) × (length (now line) ≡ 3078) ⌝ }
     requires { ⌜ 4 * (y * (4 * 2 ^ xb)) + 4 * (4 * 2 ^ xb) ≤ length (now out) ⌝ }
+    requires { ⌜ Ends xb yb (now s) (now first) (now last) ⌝ }
     requires { ⌜ Window xb yb (now s) ((y + 1) / 4) (now top) (now bottom) ⌝ }
     ensures { λ _. ⌜ Window xb yb (now (s .entry)) ((y + 2) / 4) (now (top .exit)) (now (bottom .exit)) ⌝ }
     ensures { λ _. ⌜ length (now (line .exit)) ≡ 3078 ⌝ }
     ensures { λ _. ⌜ Painted (λ k. imageTexel xb yb (now (s .entry)) (k / 4) y (k % 4)) (4 * (4 * 2 ^ xb)) (4 * (y * (4 * 2 ^ xb))) (now (out .entry)) (now (out .exit)) ⌝ }
 {
-    pvrtc_rows::move_window(s, xb, yb, y, top, bottom);
+    pvrtc_rows::move_window(s, xb, yb, y, first, last, top, bottom);
     let n = pvrtc_rows::words_along(xb);
     blend_rows(n + 2, ((y + 2) % 4) as u64, top, bottom, line);
     paint_row(line, 4 * n, y, out);
@@ -124,14 +128,25 @@ fn show_rows(s: &[u8], xb: u32, yb: u32, out: &mut [u8])
     requires { ⌜ length (now out) ≡ 4 * (4 * 2 ^ xb * (4 * 2 ^ yb)) ⌝ }
     ensures { λ _. ⌜ now (out .exit) ≡ tab (numberAt xb yb (now (s .entry))) (4 * (4 * 2 ^ xb * (4 * 2 ^ yb))) ⌝ }
 {
+    let mut first = blank();
+    let mut last = blank();
     let mut top = blank();
     let mut bottom = blank();
     let mut line = blank();
-    let m = pvrtc_rows::words_along(yb);
-    pvrtc_rows::unpack_row(s, xb, yb, m - 1, &mut top);
-    pvrtc_rows::unpack_row(s, xb, yb, 0, &mut bottom);
-    for y in 0..4 * m {
-        show_row(s, xb, yb, y, &mut top, &mut bottom, &mut line, out);
+    pvrtc_rows::start_window(s, xb, yb, &mut first, &mut last, &mut top, &mut bottom);
+    for y in 0..4 * pvrtc_rows::words_along(yb) {
+        show_row(
+            s,
+            xb,
+            yb,
+            y,
+            &first,
+            &last,
+            &mut top,
+            &mut bottom,
+            &mut line,
+            out,
+        );
     }
 }
 

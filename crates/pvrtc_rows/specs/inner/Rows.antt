@@ -24,6 +24,10 @@ pub record Three (l : List ℕ) (i u v w : ℕ) : Type 0 where
   pub second : getD l (3 * i + 1) 0 ≡ v
   pub third : getD l (3 * i + 2) 0 ≡ w
 
+-- those of words a, .., k - 1
+unfoldable pub ThreesFrom : (u v w : ℕ → ℕ) → List ℕ → ℕ → ℕ → Type 0
+ThreesFrom u v w l a k = (i : ℕ) → a ≤ i → i < k → Three l i (u i) (v i) (w i)
+
 -- those of the first k words
 unfoldable pub Threes : (u v w : ℕ → ℕ) → List ℕ → ℕ → Type 0
 Threes u v w l k = (i : ℕ) → i < k → Three l i (u i) (v i) (w i)
@@ -36,6 +40,11 @@ putThree l i u v w = set (set (set l (3 * i) u) (3 * i + 1) v) (3 * i + 2) w
 pub record Row (n : ℕ) (word : ℕ → ℕ) (l : List ℕ) : Type 0 where
   pub size : length l ≡ 3078
   pub words : Threes (λ i. lanes (colourA (word (around n i)))) (λ i. lanes (colourB (word (around n i)))) (λ i. word (around n i)) l (n + 2)
+
+-- the first and the last row of the words
+pub record Ends (xb yb : ℕ) (s : List ℕ) (first last : List ℕ) : Type 0 where
+  pub at-first : Row (2 ^ xb) (λ X. wordAt xb yb s X 0) first
+  pub at-last : Row (2 ^ xb) (λ X. wordAt xb yb s X (2 ^ yb - 1)) last
 
 -- rows k and k + 1 of the words, counted like columns
 pub record Window (xb yb : ℕ) (s : List ℕ) (k : ℕ) (top bottom : List ℕ) : Type 0 where

@@ -1,0 +1,49 @@
+use Rattle.pvrtc_rows.specs.inner.Rows.{Ends}
+use lib.Pow.{pow-pos}
+use native.Mathlib.Omega.{arith}
+use Rattle.pvrtc_rows.proofs.Rows.{window-starts}
+use borrow.Author.Needs.{needs}
+use Rattle.pvrtc_rows.proofs.start_window.Statement.{statement}
+use Rattle.pvrtc_rows.proofs.start_window.Tie as tie
+
+words-along-requires : tie.Need-words-along-requires
+words-along-requires c κs = search needs
+
+add-numbers : tie.Need-add-numbers
+add-numbers c = search needs
+
+mul-numbers : tie.Need-mul-numbers
+mul-numbers c = search needs
+
+unpack-row-requires : tie.Need-unpack-row-requires
+unpack-row-requires c κs = let st = c .before .before .before in (st .pre .0, (pow-pos _, st .pre .1 .0))
+
+unpack-last-requires : tie.Need-unpack-last-requires
+unpack-last-requires c κs = search needs
+
+copy-row-requires : tie.Need-copy-row-requires
+copy-row-requires c κs = search needs
+
+copy-row-requires-2 : tie.Need-copy-row-requires-2
+copy-row-requires-2 c κs = search needs
+
+returns : tie.Need-returns
+returns c =
+    let t = c .before .before .before in
+    let l = t .before .before .before in
+    let f = l .before .before .before in
+    let ends : Ends _ _ _ _ _ = record { at-first = f .unpack-row .ensures; at-last = l .unpack-last .ensures } in
+    (ends, window-starts _ _ _ _ _ _ _ _ (f .before .before .words-along .ensures .0) ends (t .copy-row .ensures .0) (t .copy-row .ensures .1) (c .copy-row2 .ensures .0) (c .copy-row2 .ensures .1))
+
+pub start-window-spec : {M : Type 1} → statement M
+start-window-spec =
+    tie.close
+    (tie.spec
+    words-along-requires
+    add-numbers
+    mul-numbers
+    unpack-row-requires
+    unpack-last-requires
+    copy-row-requires
+    copy-row-requires-2
+    returns)
