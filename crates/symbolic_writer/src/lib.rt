@@ -201,7 +201,7 @@ fn with_endpoints(b: PhysicalBlock, s: SymbolicBlock) -> PhysicalBlock
     let xs = s.endpoints;
     let n = block_header::endpoint_count(h) as u8;
     let range = block_header::endpoint_range_of(h);
-    integer_sequence::write_sequence(
+    sequence_writer::write_sequence(
         b,
         block_fault::endpoints_from(s.partitions),
         range,
@@ -218,7 +218,7 @@ fn weights_of(s: SymbolicBlock) -> PhysicalBlock
     let g = grid_of(s);
     let xs = s.weights;
     let n = block_header::weight_count(g) as u8;
-    let b = integer_sequence::write_sequence(no_bits(), 0, s.range, xs, n);
+    let b = sequence_writer::write_sequence(no_bits(), 0, s.range, xs, n);
     bits::part(
         bits::reversed(b),
         weights_from(g),
