@@ -23,19 +23,14 @@ use Rattle.integer_sequence.proofs.Places.{share-group, place-next}
 use Rattle.integer_sequence.proofs.Groups.{place-group}
 use Rattle.integer_sequence.proofs.RoundTrip.{item-lt}
 use Rattle.integer_sequence.proofs.Search.{append-next, value-at}
-use Rattle.sequence_writer.specs.inner.Words.{piece, Absent}
-use Rattle.sequence_writer.proofs.Words.{item-alone}
+use Rattle.sequence_words.specs.inner.Words.{piece}
+use Rattle.sequence_words.proofs.Words.{item-alone}
+use Rattle.sequence_words.proofs.Numbers.{values-length}
 
 -- where number i begins, for numbers of at most 8 bits, at most 64 of them
 pub place-le : (κ : Encoding) (b i : ℕ) → b ≤ 8 → i ≤ 64 → sequenceBits κ b i ≤ 1024
 unfolding sequenceBits
 place-le κ b i h l = let m : i * b ≤ 64 * 8 = mul-le-mul {n₂ = 64} {m₂ = 8} l h in omega (arith, code-le κ i)
-
-pub written-length : (xs : List Stored) (n : ℕ) → length xs ≡ 64 → n ≤ 64 → length (take n (values xs)) ≡ n
-written-length xs n e h = let l : length (values xs) ≡ 64 = length-map xs (λ (s : Stored). s .0) ∙ e in simp length-take (omega arith)
-
-pub value-here : (xs : List Stored) (n j : ℕ) {x : ℕ} → j < n → x ≡ getD xs j (stored 0) .0 → x ≡ getD (take n (values xs)) j 0
-value-here xs n j h e = e ∙ sym (value-at xs j) ∙ sym (getD-take n (values xs) j 0 h)
 
 -- more than 64 numbers count as 64
 pub values-cap : (xs : List Stored) (n : ℕ) → length xs ≡ 64 → take (min n 64) (values xs) ≡ take n (values xs)
@@ -45,7 +40,7 @@ values-cap xs n e = elim (decLe n 64) [
 ]
   where
     l : length (values xs) ≡ 64
-    l = length-map xs (λ (s : Stored). s .0) ∙ e
+    l = values-length xs e
 
 nothing : (x y : ℕ) → 0 * x + y ≡ y
 nothing x y = omega (arith, zero-mul x)
@@ -118,45 +113,59 @@ module _ (κ : Encoding) (b : ℕ) (xs : List ℕ) where
 
 -- ---- a group follows whole groups
 
-module _ (κ : Encoding) (b : ℕ) (xs : List ℕ) (i m : ℕ) (ds : List ℕ) (whole : i / groupSize κ * groupSize κ ≡ i) (count : m ≡ min (groupSize κ) (length xs - i))
-    (there : m ≤ length ds) (same : (k : ℕ) → k < m → getD ds k 0 ≡ getD xs (i + k) 0) where
-  len : length (take m ds) ≡ m
-  len = simp length-take (omega arith)
+module _ (κ : Encoding) (b : ℕ) (xs : List ℕ) (i m : ℕ) (ys : List ℕ) (whole : i / groupSize κ * groupSize κ ≡ i) (group : take (groupSize κ) (drop i xs) ≡ ys)
+    (len : length ys ≡ m) where
+  small : m ≤ groupSize κ
+  small = rw (← len, ← group) (simp length-take (omega arith))
 
-  group-is : take (groupSize κ) (drop (i / groupSize κ * groupSize κ) xs) ≡ take m ds
-  group-is =
-      rw whole
-      (ext-getD 0 _ _ (lengths ∙ sym len)
-      (λ k l. let h : k < m = omega (arith, lengths) in
-      getD-take (groupSize κ) (drop i xs) k 0 (omega arith) ∙ getD-drop i xs k 0 ∙ sym (same k h) ∙ sym (getD-take m ds k 0 h)))
-    where
-      lengths : length (take (groupSize κ) (drop i xs)) ≡ m
-      lengths = simp (length-take, length-drop) (omega (arith, count))
+  value : (k : ℕ) → k < m → getD ys k 0 ≡ getD xs (i / groupSize κ * groupSize κ + k) 0
+  value k h = rw (whole, ← group) (getD-take (groupSize κ) (drop i xs) k 0 (omega (arith, small)) ∙ getD-drop i xs k 0)
 
-  piece-here : (k : ℕ) → k < groupSize κ → getD (take m ds) k 0 ≡ getD xs (i / groupSize κ * groupSize κ + k) 0
-      → piece κ b (codeOf κ (map (λ x. x / 2 ^ b) (take m ds))) (take m ds) k ≡ item κ b xs (i / groupSize κ * groupSize κ + k)
+  group-is : take (groupSize κ) (drop (i / groupSize κ * groupSize κ) xs) ≡ ys
+  group-is = rw whole group
+
+  piece-here : (k : ℕ) → k < groupSize κ → getD ys k 0 ≡ getD xs (i / groupSize κ * groupSize κ + k) 0
+      → piece κ b (codeOf κ (map (λ x. x / 2 ^ b) ys)) ys k ≡ item κ b xs (i / groupSize κ * groupSize κ + k)
   unfolding item piece groupCode digitsOf
   piece-here k l value = rw (digits-div (i / groupSize κ) l, digits-mod (i / groupSize κ) l, share-group κ (i / groupSize κ) k, group-is, value)
 
-  item-here : (k : ℕ) → k < m → item κ b (take m ds) k ≡ item κ b xs (i + k)
+  item-here : (k : ℕ) → k < m → item κ b ys k ≡ item κ b xs (i + k)
   item-here k h =
-      item-alone κ b (take m ds) (omega (arith, len, count)) k (omega (arith, len))
-      ∙ piece-here k (omega (arith, count)) (getD-take m ds k 0 h ∙ same k h ∙ ap (λ (j : ℕ). getD xs (j + k) 0) (sym whole))
+      item-alone κ b ys (omega (arith, len, small)) k (omega (arith, len))
+      ∙ piece-here k (omega (arith, small)) (value k h)
       ∙ ap (λ (j : ℕ). item κ b xs (j + k)) whole
 
-  pub group-follows : Follow κ b xs i m (item κ b (take m ds))
-  group-follows = record {
+  follows : Follow κ b xs i m (item κ b ys)
+  follows = record {
     places = λ k h. subst (λ (j : ℕ). sequenceBits κ b (j + k) ≡ sequenceBits κ b j + sequenceBits κ b k) whole (place-group κ b (i / groupSize κ) k);
     items = item-here;
   }
 
-  pub word-follows : {word : ℕ} → word ≡ packed κ b (take m ds) → word ≡ stream (sequenceBits κ b) (item κ b (take m ds)) m
+  word-is : {word : ℕ} → word ≡ packed κ b ys → word ≡ stream (sequenceBits κ b) (item κ b ys) m
   unfolding packed
-  word-follows e = e ∙ ap (stream (sequenceBits κ b) (item κ b (take m ds))) len
+  word-is e = e ∙ ap (stream (sequenceBits κ b) (item κ b ys)) len
 
   pub group-written : (from B : ℕ) {v out at word next : ℕ} → v ≡ (field B 0 from + 0 * 2 ^ from) % 2 ^ 128 → next ≡ (field out 0 at + word * 2 ^ at) % 2 ^ 128
-      → out ≡ soFar κ b xs from v i % 2 ^ 128 → at ≡ from + sequenceBits κ b i → word ≡ packed κ b (take m ds) → next ≡ soFar κ b xs from v (i + m) % 2 ^ 128
-  group-written from B bare en eo ea ew = write-more κ b xs from B bare (item κ b (take m ds)) i m group-follows en eo ea (word-follows ew)
+      → out ≡ soFar κ b xs from v i % 2 ^ 128 → at ≡ from + sequenceBits κ b i → word ≡ packed κ b ys → next ≡ soFar κ b xs from v (i + m) % 2 ^ 128
+  group-written from B bare en eo ea ew = write-more κ b xs from B bare (item κ b ys) i m follows en eo ea (word-is ew)
+
+-- a whole group of the first n numbers is one of all
+pub whole-taken : (size n i : ℕ) (xs : List ℕ) → i + size ≤ n → n ≤ length xs → (take size (drop i (take n xs)) ≡ take size (drop i xs)) × (length (take size (drop i xs)) ≡ size)
+whole-taken size n i xs h l =
+    (ext-getD 0 _ _ (long ∙ sym whole)
+    (λ k p. let q : k < size = omega (arith, long) in
+    getD-take size (drop i (take n xs)) k 0 q ∙ getD-drop i (take n xs) k 0 ∙ getD-take n xs (i + k) 0 (omega arith)
+    ∙ sym (getD-drop i xs k 0) ∙ sym (getD-take size (drop i xs) k 0 q)), whole)
+  where
+    long : length (take size (drop i (take n xs))) ≡ size
+    long = simp (length-take, length-drop) (omega arith)
+
+    whole : length (take size (drop i xs)) ≡ size
+    whole = simp (length-take, length-drop) (omega arith)
+
+-- the last group, which is cut, has the numbers that are left
+pub cut-length : (size n i : ℕ) (xs : List ℕ) → length xs ≡ n → n < i + size → length (take size (drop i xs)) ≡ n - i
+cut-length size n i xs e h = simp (length-take, length-drop) (omega arith)
 
 -- the place of the next group
 pub place-more : (κ : Encoding) (b from i : ℕ) {at step : ℕ} → i / groupSize κ * groupSize κ ≡ i → at ≡ from + sequenceBits κ b i → step ≡ sequenceBits κ b (groupSize κ)
@@ -166,33 +175,6 @@ place-more κ b from i whole ea es =
     subst (λ (j : ℕ). sequenceBits κ b (j + groupSize κ) ≡ sequenceBits κ b j + sequenceBits κ b (groupSize κ)) whole (place-group κ b (i / groupSize κ) (groupSize κ)) in
     omega (arith, p, ea, es)
 
--- numbers that stand one after the other
-pub five-same : (xs : List ℕ) (i : ℕ) {x0 x1 x2 x3 x4 : ℕ} → x0 ≡ getD xs i 0 → x1 ≡ getD xs (i + 1) 0 → x2 ≡ getD xs (i + 2) 0 → x3 ≡ getD xs (i + 3) 0
-    → x4 ≡ getD xs (i + 4) 0 → (k : ℕ) → k < 5 → getD (x0 ∷ x1 ∷ x2 ∷ x3 ∷ x4 ∷ []) k 0 ≡ getD xs (i + k) 0
-five-same xs i e0 e1 e2 e3 e4 zero h = rw (add-zero i) e0
-five-same xs i e0 e1 e2 e3 e4 (suc zero) h = e1
-five-same xs i e0 e1 e2 e3 e4 (suc (suc zero)) h = e2
-five-same xs i e0 e1 e2 e3 e4 (suc (suc (suc zero))) h = e3
-five-same xs i e0 e1 e2 e3 e4 (suc (suc (suc (suc zero)))) h = e4
-five-same xs i e0 e1 e2 e3 e4 (suc (suc (suc (suc (suc k))))) h = absurd (not-suc-le-zero (le-of-suc-le-suc (le-of-suc-le-suc (le-of-suc-le-suc (le-of-suc-le-suc (le-of-suc-le-suc h))))))
-
-pub three-same : (xs : List ℕ) (i : ℕ) {x0 x1 x2 : ℕ} → x0 ≡ getD xs i 0 → x1 ≡ getD xs (i + 1) 0 → x2 ≡ getD xs (i + 2) 0 → (k : ℕ) → k < 3
-    → getD (x0 ∷ x1 ∷ x2 ∷ []) k 0 ≡ getD xs (i + k) 0
-three-same xs i e0 e1 e2 zero h = rw (add-zero i) e0
-three-same xs i e0 e1 e2 (suc zero) h = e1
-three-same xs i e0 e1 e2 (suc (suc zero)) h = e2
-three-same xs i e0 e1 e2 (suc (suc (suc k))) h = absurd (not-suc-le-zero (le-of-suc-le-suc (le-of-suc-le-suc (le-of-suc-le-suc h))))
-
--- past the end of xs they are 0
-pub past-absent : (xs ds : List ℕ) (i m n : ℕ) → length xs ≤ i + m → length ds ≤ n → ((k : ℕ) → k < n → getD ds k 0 ≡ getD xs (i + k) 0) → Absent m ds
-past-absent xs ds i m n h l same k p = elim (decLe n k) [
-  | yes q ↦ List·getD-eq-default ds 0 {n = k} (omega arith)
-  | no q ↦ same k (omega arith) ∙ List·getD-eq-default xs 0 {n = i + k} (omega arith)
-]
-
-pub past-end : (xs : List ℕ) (i : ℕ) → length xs ≤ i → 0 ≡ getD xs i 0
-past-end xs i h = sym (List·getD-eq-default xs 0 {n = i} h)
-
 -- numbers without digits follow any number
 pub bits-follow : (b : ℕ) (xs : List ℕ) (i m : ℕ) (v : ℕ → ℕ) → ((k : ℕ) → k < m → v k ≡ getD xs (i + k) 0 % 2 ^ b) → Follow Bits b xs i m v
 unfolding sequenceBits item
@@ -200,20 +182,3 @@ bits-follow b xs i m v h = record {
   places = λ k l. omega (arith, add-mul i k b);
   items = λ k l. h k l ∙ sym (rw field-none (nothing (2 ^ b) (getD xs (i + k) 0 % 2 ^ b)));
 }
-
--- the word of numbers without digits, one more at a time
-module _ (b : ℕ) (u : ℕ → ℕ) (h : b ≤ 8) (small : (k : ℕ) → u k < 2 ^ b) where
-  pub bits-next : (i : ℕ) → sequenceBits Bits b (suc i) ≡ b + sequenceBits Bits b i
-  unfolding sequenceBits
-  bits-next i = rw (suc-mul i b) (omega arith)
-
-  pub bits-le : (k : ℕ) → sequenceBits Bits b k ≤ k * 8
-  unfolding sequenceBits
-  bits-le k = let m : k * b ≤ k * 8 = mul-le-mul-left k h in omega arith
-
-  pub bits-more : (k : ℕ) → k < 8 → {x p word : ℕ} → x ≡ u k → p ≡ sequenceBits Bits b k → word ≡ stream (sequenceBits Bits b) u k
-      → (x * 2 ^ p % 2 ^ 64 + word ≡ stream (sequenceBits Bits b) u (suc k)) × (stream (sequenceBits Bits b) u (suc k) < 2 ^ 64)
-  unfolding stream
-  bits-more k l ex ep ew =
-      let e : u k * 2 ^ sequenceBits Bits b k % 2 ^ 64 ≡ u k * 2 ^ sequenceBits Bits b k = shl-exact {a = u k} b (sequenceBits Bits b k) 64 (small k) (omega (arith, bits-le k, h)) in
-      (rw (ex, ep, ew, e), lt-of-lt-of-le (stream-lt (sequenceBits Bits b) (λ i. b) bits-next u small (suc k)) (pow-mono {i = sequenceBits Bits b (suc k)} {j = 64} (omega (arith, bits-le (suc k)))))

@@ -9,7 +9,8 @@ use Rattle.bits.specs.Block.{blockNumber}
 use Rattle.encoding.specs.declared.Encoding.the-variants.{Bits}
 use Rattle.encoding.specs.Encoding.{sequenceBits}
 use Rattle.integer_sequence.specs.Writing.{values}
-use Rattle.sequence_writer.proofs.Growing.{soFar, place-le, written-length, write-start, write-more, write-done, bits-follow}
+use Rattle.sequence_writer.proofs.Growing.{soFar, place-le, write-start, write-more, write-done, bits-follow}
+use Rattle.sequence_words.proofs.Numbers.{written-length}
 use Rattle.sequence_writer.proofs.write_bits.Statement.{statement}
 use Rattle.sequence_writer.proofs.write_bits.Tie as tie
 

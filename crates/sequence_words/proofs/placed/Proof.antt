@@ -5,8 +5,8 @@ use native.Mathlib.Omega.{arith}
 use lib.Arith.{digits-lt}
 use lib.Pow.{pow-add, pow-mono, shl-lt, shl-exact}
 use borrow.Author.Needs.{needs}
-use Rattle.sequence_writer.proofs.placed.Statement.{statement}
-use Rattle.sequence_writer.proofs.placed.Tie as tie
+use Rattle.sequence_words.proofs.placed.Statement.{statement}
+use Rattle.sequence_words.proofs.placed.Tie as tie
 
 -- the bits of the number with its share
 item-is : (c : tie.After-low) → let a = c .before .args in

@@ -2,10 +2,10 @@ use mathlib.Core.Path.{_≡_, _∙_}
 use mathlib.Core.List.{[], _∷_}
 use native.Mathlib.Omega.{arith}
 use Rattle.encoding.specs.declared.Encoding.the-variants.{Trits}
-use Rattle.sequence_writer.proofs.Words.{word-alone}
+use Rattle.sequence_words.proofs.Words.{word-alone}
 use borrow.Author.Needs.{needs}
-use Rattle.sequence_writer.proofs.five_trits.Statement.{statement}
-use Rattle.sequence_writer.proofs.five_trits.Tie as tie
+use Rattle.sequence_words.proofs.whole_trits.Statement.{statement}
+use Rattle.sequence_words.proofs.whole_trits.Tie as tie
 
 shr-five-trits : tie.Need-shr-five-trits
 shr-five-trits c = search needs
@@ -31,8 +31,8 @@ trit-word-requires c κs = search needs
 returns : tie.Need-returns
 returns c = let a = c .before .before .args in c .trit-word .ensures ∙ word-alone Trits (a .b) (a .x0 ∷ a .x1 ∷ a .x2 ∷ a .x3 ∷ a .x4 ∷ []) (omega arith) (c .before .five-trits .ensures)
 
-pub five-trits-spec : {M : Type 1} → statement M
-five-trits-spec =
+pub whole-trits-spec : {M : Type 1} → statement M
+whole-trits-spec =
     tie.close
     (tie.spec
     shr-five-trits

@@ -4,8 +4,8 @@ use native.Mathlib.Omega.{arith}
 use lib.Pow.{pow-pos}
 use Rattle.bits.proofs.Halves.{one-shl}
 use borrow.Author.Needs.{needs}
-use Rattle.sequence_writer.proofs.low.Statement.{statement}
-use Rattle.sequence_writer.proofs.low.Tie as tie
+use Rattle.sequence_words.proofs.low.Statement.{statement}
+use Rattle.sequence_words.proofs.low.Tie as tie
 
 shl-result : tie.Need-shl-result
 shl-result c = search needs

@@ -6,10 +6,10 @@ use Rattle.bits.specs.Field.{field}
 use Rattle.bits.proofs.Halves.{low-is}
 use Rattle.encoding.specs.declared.Encoding.the-variants.{Trits}
 use Rattle.encoding.specs.Encoding.{sequenceBits}
-use Rattle.sequence_writer.proofs.Words.{piece-laid, five-laid}
+use Rattle.sequence_words.proofs.Words.{piece-laid, five-laid}
 use borrow.Author.Needs.{needs}
-use Rattle.sequence_writer.proofs.trit_word.Statement.{statement}
-use Rattle.sequence_writer.proofs.trit_word.Tie as tie
+use Rattle.sequence_words.proofs.trit_word.Statement.{statement}
+use Rattle.sequence_words.proofs.trit_word.Tie as tie
 
 placed-requires : tie.Need-placed-requires
 placed-requires c κs = search needs

@@ -25,7 +25,7 @@ use Rattle.integer_sequence.specs.Writing.{codeOf, digitsOf, groupCode, item, p
 use Rattle.integer_sequence.proofs.Codes.{Below, code-lt}
 use Rattle.integer_sequence.proofs.Places.{code-mono}
 use Rattle.smallest_codes.proofs.Entries.{below-none, below-more, no-code}
-use Rattle.sequence_writer.specs.inner.Words.{piece, groupWord, Absent}
+use Rattle.sequence_words.specs.inner.Words.{piece, groupWord, Absent}
 
 -- ---- shares of a code past the digits that are there
 

@@ -6,10 +6,10 @@ use Rattle.bits.specs.Field.{field}
 use Rattle.bits.proofs.Halves.{low-is}
 use Rattle.encoding.specs.declared.Encoding.the-variants.{Quints}
 use Rattle.encoding.specs.Encoding.{sequenceBits}
-use Rattle.sequence_writer.proofs.Words.{piece-laid, three-laid}
+use Rattle.sequence_words.proofs.Words.{piece-laid, three-laid}
 use borrow.Author.Needs.{needs}
-use Rattle.sequence_writer.proofs.quint_word.Statement.{statement}
-use Rattle.sequence_writer.proofs.quint_word.Tie as tie
+use Rattle.sequence_words.proofs.quint_word.Statement.{statement}
+use Rattle.sequence_words.proofs.quint_word.Tie as tie
 
 placed-requires : tie.Need-placed-requires
 placed-requires c κs = search needs

@@ -2,10 +2,10 @@ use mathlib.Core.Path.{_≡_, _∙_}
 use mathlib.Core.List.{[], _∷_}
 use native.Mathlib.Omega.{arith}
 use Rattle.encoding.specs.declared.Encoding.the-variants.{Quints}
-use Rattle.sequence_writer.proofs.Words.{word-alone}
+use Rattle.sequence_words.proofs.Words.{word-alone}
 use borrow.Author.Needs.{needs}
-use Rattle.sequence_writer.proofs.three_quints.Statement.{statement}
-use Rattle.sequence_writer.proofs.three_quints.Tie as tie
+use Rattle.sequence_words.proofs.whole_quints.Statement.{statement}
+use Rattle.sequence_words.proofs.whole_quints.Tie as tie
 
 shr-three-quints : tie.Need-shr-three-quints
 shr-three-quints c = search needs
@@ -25,8 +25,8 @@ quint-word-requires c κs = search needs
 returns : tie.Need-returns
 returns c = let a = c .before .before .args in c .quint-word .ensures ∙ word-alone Quints (a .b) (a .x0 ∷ a .x1 ∷ a .x2 ∷ []) (omega arith) (c .before .three-quints .ensures)
 
-pub three-quints-spec : {M : Type 1} → statement M
-three-quints-spec =
+pub whole-quints-spec : {M : Type 1} → statement M
+whole-quints-spec =
     tie.close
     (tie.spec
     shr-three-quints

@@ -2,10 +2,10 @@ use mathlib.Core.Path.{_≡_, sym}
 use native.Mathlib.Omega.{arith}
 use lib.ListN.{take, List·getD-eq-default}
 use Rattle.integer_sequence.specs.Writing.{values}
-use Rattle.sequence_writer.proofs.Growing.{written-length, value-here}
+use Rattle.sequence_words.proofs.Numbers.{written-length, value-here}
 use borrow.Author.Needs.{needs}
-use Rattle.sequence_writer.proofs.number_at.Statement.{statement}
-use Rattle.sequence_writer.proofs.number_at.Tie as tie
+use Rattle.sequence_words.proofs.number_at.Statement.{statement}
+use Rattle.sequence_words.proofs.number_at.Tie as tie
 
 array-copy-out-x : tie.Need-array-copy-out-x
 array-copy-out-x c = search needs

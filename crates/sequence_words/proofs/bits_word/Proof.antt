@@ -11,9 +11,9 @@ use Rattle.encoding.specs.declared.Encoding.the-variants.{Bits}
 use Rattle.encoding.specs.Encoding.{sequenceBits}
 use Rattle.integer_sequence.specs.Writing.{values}
 use Rattle.integer_sequence.proofs.Search.{value-at}
-use Rattle.sequence_writer.proofs.Growing.{bits-next, bits-le, bits-more}
-use Rattle.sequence_writer.proofs.bits_word.Statement.{statement}
-use Rattle.sequence_writer.proofs.bits_word.Tie as tie
+use Rattle.sequence_words.proofs.Numbers.{bits-next, bits-le, bits-more}
+use Rattle.sequence_words.proofs.bits_word.Statement.{statement}
+use Rattle.sequence_words.proofs.bits_word.Tie as tie
 
 abbrev Inv-loop : tie.InvT-loop
 Inv-loop i m b xs word₀ p₀ k₀ word p k = (k ≤ m) × (p ≡ sequenceBits Bits b k) × (word ≡ stream (sequenceBits Bits b) (λ j. getD (values xs) (i + j) 0 % 2 ^ b) k)

@@ -6,8 +6,8 @@ use lib.ListN.{take}
 use Rattle.encoding.specs.declared.Encoding.the-variants.{Trits}
 use Rattle.integer_sequence.specs.Writing.{codeOf}
 use borrow.Author.Needs.{needs}
-use Rattle.sequence_writer.proofs.cut_trit_code.Statement.{statement}
-use Rattle.sequence_writer.proofs.cut_trit_code.Tie as tie
+use Rattle.sequence_words.proofs.cut_trit_code.Statement.{statement}
+use Rattle.sequence_words.proofs.cut_trit_code.Tie as tie
 
 taken : (b m k : ℕ) (xs : List ℕ) {code : ℕ} → m ≡ k → code ≡ codeOf Trits (map (λ x. x / 2 ^ b) (take k xs)) → code ≡ codeOf Trits (map (λ x. x / 2 ^ b) (take m xs))
 taken b m k xs e q = q ∙ ap (λ (j : ℕ). codeOf Trits (map (λ x. x / 2 ^ b) (take j xs))) (sym e)
