@@ -1,3 +1,4 @@
+pub mod Laid
 pub mod Clip
 pub mod Laws
 pub mod Back

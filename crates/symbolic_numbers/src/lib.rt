@@ -12,7 +12,7 @@ ghost use Rattle.integer_sequence.specs.Reading.{stored};
 ghost use Rattle.symbolic_block.specs.Refusals.{unknownFootprint};
 ghost use Rattle.symbolic_refusal.specs.inner.Stages.{orElse};
 ghost use Rattle.symbolic_calls.specs.Writing.{writingOf};
-ghost use Rattle.symbolic_numbers.specs.Numbers.{settingsOf, flatAt, flatOf, blockOver, blockFrom, clippedNumbers, endpointsFit};
+ghost use Rattle.symbolic_numbers.specs.Numbers.{settingsOf, flatOf, blockOver, blockFrom, clippedNumbers, endpointsFit};
 ghost use Rattle.symbolic_numbers.specs.Calls.{refusedOr5, readNumber, readNumbers, writeNumber, writeBlock};
 
 // ---- a symbolic block's list
@@ -55,22 +55,7 @@ fn settings_of(s: SymbolicBlock) -> [u16; 21]
     ]
 }
 
-// Number i of the list.
-fn flat_at(settings: [u16; 21], endpoints: [Stored; 18], weights: [Stored; 64], i: usize) -> u16
-    requires { ⌜ i < 103 ⌝ }
-    ensures { λ r. ⌜ r ≡ flatAt settings endpoints weights i ⌝ }
-{
-    if i < 21 {
-        return settings[i];
-    }
-    if i < 39 {
-        let e = endpoints[i - 21];
-        return wide(e.0);
-    }
-    let w = weights[i - 39];
-    wide(w.0)
-}
-
+// The settings, the endpoint numbers and the weights, each list in a loop of its own.
 fn put(s: SymbolicBlock, numbers: &mut [u16])
     requires { ⌜ length (now numbers) ≡ 103 ⌝ }
     ensures { λ r. ⌜ now (numbers .exit) ≡ flatOf s ⌝ }
@@ -79,9 +64,21 @@ fn put(s: SymbolicBlock, numbers: &mut [u16])
     let endpoints = s.endpoints;
     let weights = s.weights;
     let mut i: usize = 0;
-    while i < 103 {
-        numbers[i] = flat_at(settings, endpoints, weights, i);
+    while i < 21 {
+        numbers[i] = settings[i];
         i += 1;
+    }
+    let mut j: usize = 0;
+    while j < 18 {
+        let e = endpoints[j];
+        numbers[21 + j] = wide(e.0);
+        j += 1;
+    }
+    let mut k: usize = 0;
+    while k < 64 {
+        let w = weights[k];
+        numbers[39 + k] = wide(w.0);
+        k += 1;
     }
 }
 
