@@ -1,12 +1,11 @@
 -- The layout of the groups: where numbers and their shares of the codes lie.
 -- Assumes nothing.
-use mathlib.Core.Path.{_≡_, refl, sym, ap, _∙_, subst}
-use Prim.Native.Nat.{ℕ, zero, suc, _+_, _-_, _*_, _/_, _%_, _^_, _≤_, _<_}
+use mathlib.Core.Path.{_≡_, refl, subst}
+use Prim.Native.Nat.{ℕ, suc, _+_, _*_, _^_, _≤_, _<_}
 use native.Mathlib.Nat.{suc-mul, add-suc, add-mul-div-right}
 use native.Mathlib.Omega.{arith}
 use Rattle.encoding.specs.declared.Encoding.{Encoding}
 use Rattle.encoding.specs.declared.Encoding.the-variants.{Bits, Trits, Quints}
-use Rattle.bits.specs.Field.{field, stream}
 use Rattle.encoding.specs.Encoding.{groupSize, codeBits, sequenceBits}
 use Rattle.integer_sequence.specs.Reading.{shareBits, share, codeAt}
 use Rattle.bits.proofs.Fields.{pos-mono, field-lt, stream-lt}

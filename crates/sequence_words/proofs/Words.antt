@@ -1,22 +1,21 @@
 -- The bits of one group, whole or cut: the sequence of its numbers alone.
 -- Assumes nothing.
-use mathlib.Core.Path.{_≡_, refl, sym, ap, ap₂, _∙_}
+use mathlib.Core.Path.{_≡_, sym, ap, _∙_}
 use mathlib.Core.Logic.{_⊎_, inl, inr, ⊎-elim}
 use mathlib.Core.Bool.{Bool}
 use mathlib.Core.List.{List, [], _∷_, map}
-use Prim.Native.Nat.{ℕ, zero, suc, _+_, _-_, _*_, _/_, _%_, _^_, _≤_, _<_, min}
-use native.Mathlib.Nat.{zero-mul, zero-mod, zero-add, add-zero, add-suc, div-eq-of-lt, mod-eq-of-lt, lt-of-lt-of-le, div-one, mod-one, le-of-suc-le-suc, lt-of-not-le}
+use Prim.Native.Nat.{ℕ, zero, suc, _+_, _-_, _*_, _/_, _%_, _^_, _≤_, _<_}
+use native.Mathlib.Nat.{zero-mul, zero-mod, add-zero, add-suc, div-eq-of-lt, mod-eq-of-lt, lt-of-lt-of-le, lt-of-not-le}
 use native.Mathlib.Decide.{decLe}
 use native.Mathlib.Omega.{arith}
 use lib.Dec.{T, eqb, eqb→eq}
-use lib.ListN.{length, getD, take, drop, length-take, length-map, List·getD-map}
-use lib.Pow.{pow-mono, pow-pos}
+use lib.ListN.{length, getD, take, length-take, length-map}
+use lib.Pow.{pow-mono}
 use lib.Seq.{getD-take, take-all}
 use Rattle.laws.specs.Choice.{all}
 use Rattle.laws.proofs.Computed.{each}
 use Rattle.bits.specs.Field.{field, stream}
 use Rattle.bits.proofs.Fields.{field-past, field-none, stream-ext}
-use Rattle.bits.proofs.Halves.{low-is}
 use Rattle.encoding.specs.declared.Encoding.{Encoding}
 use Rattle.encoding.specs.declared.Encoding.the-variants.{Bits, Trits, Quints}
 use Rattle.encoding.specs.Encoding.{groupSize, radix, codeBits, sequenceBits}
@@ -40,7 +39,7 @@ in-or-out r [] = inl (below-none r)
 in-or-out r (d ∷ ds) = elim (decLe r d) [
   | yes h ↦ inr (record { place = 0; inside = omega arith; above = h })
   | no h ↦ ⊎-elim (λ b. inl (below-more r d ds (lt-of-not-le h) b))
-    (λ o. inr (record { place = suc (o .place); inside = let l = o .inside in omega arith; above = o .above })) (in-or-out r ds)
+      (λ o. inr (record { place = suc (o .place); inside = let l = o .inside in omega arith; above = o .above })) (in-or-out r ds)
 ]
 
 none : Encoding → ℕ → Bool

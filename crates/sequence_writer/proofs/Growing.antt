@@ -1,28 +1,28 @@
 -- A sequence in a block as it grows, some numbers at a time.
 -- Assumes nothing.
-use mathlib.Core.Path.{_≡_, refl, sym, ap, ap₂, _∙_, subst}
-use mathlib.Core.List.{List, [], _∷_, map}
+use mathlib.Core.Path.{_≡_, sym, ap, _∙_, subst}
+use mathlib.Core.List.{List, map}
 use Prim.Native.Nat.{ℕ, zero, suc, _+_, _-_, _*_, _/_, _%_, _^_, _≤_, _<_, min}
-use native.Mathlib.Nat.{not-suc-le-zero, le-of-suc-le-suc, zero-mul, zero-add, add-zero, add-suc, add-comm, add-mul, mul-assoc, mul-comm, mul-le-mul, mul-le-mul-left, div-one, mod-mod, mod-le, mod-lt, add-mod-mod, suc-mul, lt-of-lt-of-le, lt-of-le-of-lt, min-eq-left, min-eq-right}
+use native.Mathlib.Nat.{zero-mul, add-zero, add-suc, add-comm, add-mul, mul-assoc, mul-comm, mul-le-mul, mod-mod, mod-le, add-mod-mod, lt-of-le-of-lt, min-eq-left, min-eq-right}
 use native.Mathlib.Decide.{decLe}
 use native.Mathlib.Omega.{arith}
 use lib.Arith.{digits-lt, digits-div, digits-mod}
-use lib.ListN.{length, getD, take, drop, length-take, length-drop, length-map, List·getD-eq-default}
-use lib.Pow.{pow-add, pow-mono, shl-exact}
+use lib.ListN.{length, getD, take, drop, length-take, length-drop}
+use lib.Pow.{pow-add}
 use lib.Seq.{ext-getD, getD-take, getD-drop, take-all}
 use Rattle.bits.specs.Field.{field, stream}
 use Rattle.bits.proofs.Fields.{field-lt, field-none, stream-lt}
 use Rattle.encoding.specs.declared.Encoding.{Encoding}
-use Rattle.encoding.specs.declared.Encoding.the-variants.{Bits, Trits, Quints}
+use Rattle.encoding.specs.declared.Encoding.the-variants.{Bits}
 use Rattle.encoding.specs.declared.Stored.{Stored}
-use Rattle.encoding.specs.Encoding.{groupSize, codeBits, sequenceBits}
+use Rattle.encoding.specs.Encoding.{groupSize, sequenceBits}
 use Rattle.encoding.proofs.Laws.{code-le}
-use Rattle.integer_sequence.specs.Reading.{shareBits, stored}
+use Rattle.integer_sequence.specs.Reading.{shareBits}
 use Rattle.integer_sequence.specs.Writing.{codeOf, digitsOf, groupCode, item, packed, values, withSequence}
 use Rattle.integer_sequence.proofs.Places.{share-group, place-next}
 use Rattle.integer_sequence.proofs.Groups.{place-group}
 use Rattle.integer_sequence.proofs.RoundTrip.{item-lt}
-use Rattle.integer_sequence.proofs.Search.{append-next, value-at}
+use Rattle.integer_sequence.proofs.Search.{append-next}
 use Rattle.sequence_words.specs.inner.Words.{piece}
 use Rattle.sequence_words.proofs.Words.{item-alone}
 use Rattle.sequence_words.proofs.Numbers.{values-length}
@@ -151,11 +151,13 @@ module _ (κ : Encoding) (b : ℕ) (xs : List ℕ) (i m : ℕ) (ys : List ℕ) (
 
 -- a whole group of the first n numbers is one of all
 pub whole-taken : (size n i : ℕ) (xs : List ℕ) → i + size ≤ n → n ≤ length xs → (take size (drop i (take n xs)) ≡ take size (drop i xs)) × (length (take size (drop i xs)) ≡ size)
-whole-taken size n i xs h l =
-    (ext-getD 0 _ _ (long ∙ sym whole)
-    (λ k p. let q : k < size = omega (arith, long) in
-    getD-take size (drop i (take n xs)) k 0 q ∙ getD-drop i (take n xs) k 0 ∙ getD-take n xs (i + k) 0 (omega arith)
-    ∙ sym (getD-drop i xs k 0) ∙ sym (getD-take size (drop i xs) k 0 q)), whole)
+whole-taken size n i xs h l = (
+  ext-getD 0 _ _ (long ∙ sym whole)
+      (λ k p. let q : k < size = omega (arith, long) in
+      getD-take size (drop i (take n xs)) k 0 q ∙ getD-drop i (take n xs) k 0 ∙ getD-take n xs (i + k) 0 (omega arith)
+      ∙ sym (getD-drop i xs k 0) ∙ sym (getD-take size (drop i xs) k 0 q)),
+  whole,
+)
   where
     long : length (take size (drop i (take n xs))) ≡ size
     long = simp (length-take, length-drop) (omega arith)

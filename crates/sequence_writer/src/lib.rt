@@ -17,17 +17,11 @@ fn smaller(a: usize, b: usize) -> usize
 }
 
 // A block's bits below bit from, and from there on the first n numbers: group by group, the last may be cut.
-fn write_trits(
-    block: PhysicalBlock,
-    from: u32,
-    b: u32,
-    xs: [Stored; 64],
-    n: usize,
-) -> PhysicalBlock
+fn write_trits(block: PhysicalBlock, from: u32, b: u32, xs: [Stored; 64], n: usize) -> PhysicalBlock
     requires { ⌜ (n ≤ 64) × (from ≤ 255) × (b ≤ 8) ⌝ }
     ensures { λ r. ⌜ blockNumber r ≡ withSequence Trits b (blockNumber block) from (take n (values xs)) ⌝ }
 {
-    let table = smallest_codes::tables::five_trits();
+    let table = smallest_codes::whole::five_trits();
     let mut out = bits::append(block, from, 0);
     let mut at = from;
     let mut i: usize = 0;
@@ -52,7 +46,7 @@ fn write_quints(
     requires { ⌜ (n ≤ 64) × (from ≤ 255) × (b ≤ 8) ⌝ }
     ensures { λ r. ⌜ blockNumber r ≡ withSequence Quints b (blockNumber block) from (take n (values xs)) ⌝ }
 {
-    let table = smallest_codes::tables::three_quints();
+    let table = smallest_codes::whole::three_quints();
     let mut out = bits::append(block, from, 0);
     let mut at = from;
     let mut i: usize = 0;
@@ -68,13 +62,7 @@ fn write_quints(
 }
 
 // The same, eight numbers at once.
-fn write_bits(
-    block: PhysicalBlock,
-    from: u32,
-    b: u32,
-    xs: [Stored; 64],
-    n: usize,
-) -> PhysicalBlock
+fn write_bits(block: PhysicalBlock, from: u32, b: u32, xs: [Stored; 64], n: usize) -> PhysicalBlock
     requires { ⌜ (n ≤ 64) × (from ≤ 255) × (b ≤ 8) ⌝ }
     ensures { λ r. ⌜ blockNumber r ≡ withSequence Bits b (blockNumber block) from (take n (values xs)) ⌝ }
 {

@@ -1,5 +1,6 @@
 // The smallest code whose present digits are the wanted ones (01, "Packed numbers"), looked up; 256 where there is none.
-pub mod tables;
+mod cut;
+pub mod whole;
 
 ghost use mathlib.Core.Path.{_≡_};
 ghost use mathlib.Core.List.{[], _∷_};
@@ -53,7 +54,7 @@ pub fn four_trits(d0: u64, d1: u64, d2: u64, d3: u64) -> u64
     if 2 < d3 {
         return 256;
     }
-    let table = tables::four_trits();
+    let table = cut::four_trits();
     let at = (((d3 * 3 + d2) * 3 + d1) * 3 + d0) as usize;
     wide(table[at])
 }
@@ -70,7 +71,7 @@ pub fn three_trits(d0: u64, d1: u64, d2: u64) -> u64
     if 2 < d2 {
         return 256;
     }
-    let table = tables::three_trits();
+    let table = cut::three_trits();
     let at = ((d2 * 3 + d1) * 3 + d0) as usize;
     wide(table[at])
 }
@@ -84,7 +85,7 @@ pub fn two_trits(d0: u64, d1: u64) -> u64
     if 2 < d1 {
         return 256;
     }
-    let table = tables::two_trits();
+    let table = cut::two_trits();
     let at = (d1 * 3 + d0) as usize;
     wide(table[at])
 }
@@ -95,8 +96,8 @@ pub fn one_trit(d0: u64) -> u64
     if 2 < d0 {
         return 256;
     }
-    let table = tables::one_trit();
-    let at = (d0) as usize;
+    let table = cut::one_trit();
+    let at = d0 as usize;
     wide(table[at])
 }
 
@@ -128,7 +129,7 @@ pub fn two_quints(d0: u64, d1: u64) -> u64
     if 4 < d1 {
         return 256;
     }
-    let table = tables::two_quints();
+    let table = cut::two_quints();
     let at = (d1 * 5 + d0) as usize;
     wide(table[at])
 }
@@ -139,7 +140,7 @@ pub fn one_quint(d0: u64) -> u64
     if 4 < d0 {
         return 256;
     }
-    let table = tables::one_quint();
-    let at = (d0) as usize;
+    let table = cut::one_quint();
+    let at = d0 as usize;
     wide(table[at])
 }

@@ -1,4 +1,3 @@
 pub mod Laid
-pub mod Clip
 pub mod Laws
 pub mod Back

@@ -5,8 +5,9 @@ use symbolic_block::SymbolicBlock;
 use symbolic_calls::Writing;
 ghost use mathlib.Core.Path.{_≡_};
 ghost use Prim.Native.Nat.{_+_, _<_, min};
+ghost use lib.Dec.{leb};
 ghost use lib.ListN.{length, getD};
-ghost use Rattle.laws.specs.Choice.{pick};
+ghost use Rattle.laws.specs.Choice.{pick, both};
 ghost use Rattle.laws.specs.Table.{tab};
 ghost use Rattle.integer_sequence.specs.Reading.{stored};
 ghost use Rattle.symbolic_block.specs.Refusals.{unknownFootprint};
@@ -176,19 +177,25 @@ fn block_from(numbers: &[u16]) -> SymbolicBlock
     }
 }
 
+// Whether a number is not above 255, and those before it were not.
+fn fits(x: u16, before: bool) -> bool
+    ensures { λ r. ⌜ r ≡ both (leb x 255) before ⌝ }
+{
+    if x < 256 { before } else { false }
+}
+
 // Whether no endpoint number is above 255.
 fn endpoints_fit(numbers: &[u16]) -> bool
     requires { ⌜ length (now numbers) ≡ 103 ⌝ }
     ensures { λ r. ⌜ r ≡ endpointsFit (now (numbers .entry)) ⌝ }
 {
+    let mut ok = true;
     let mut i: usize = 0;
     while i < 18 {
-        if 255 < numbers[21 + i] {
-            return false;
-        }
+        ok = fits(numbers[21 + i], ok);
         i += 1;
     }
-    true
+    ok
 }
 
 fn or_34(n: u8) -> u8
@@ -203,13 +210,13 @@ fn writing_of(footprint: u8, numbers: &[u16]) -> Writing
     requires { ⌜ length (now numbers) ≡ 103 ⌝ }
     ensures { λ r. ⌜ r ≡ writingOf footprint (blockFrom (now (numbers .entry))) ⌝ }
 {
-    let s = block_from(numbers);
+    let written = symbolic_calls::write_symbolic(footprint, block_from(numbers));
     if endpoints_fit(numbers) {
-        return symbolic_calls::write_symbolic(footprint, s);
+        return written;
     }
-    let n = symbolic_refusal::refusal(footprint, s);
+    let answer = written.answer;
     Writing {
-        answer: Answer::Refused(or_34(n)),
+        answer: Answer::Refused(or_34(one_block::number_told(answer))),
         bytes: [0u8; 16],
     }
 }

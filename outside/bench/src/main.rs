@@ -8,6 +8,7 @@
 mod bc7;
 mod pvrtc;
 mod clip;
+mod symbolic;
 
 use reference::random::{Random, mode_block};
 use reference::{FOOTPRINTS, decode_image_u8, decode_image_u16};
@@ -148,6 +149,7 @@ fn main() {
     }
     worst = largest(worst, pvrtc::ratios(rounds));
     worst = largest(worst, bc7::run(rounds));
+    worst = largest(worst, symbolic::run(rounds));
     println!("largest ratio {:.2} (by rounds {:.2})", worst[0], worst[1]);
     clip::measure(rounds.min(7));
 }

@@ -1,5 +1,3 @@
-use mathlib.Core.Path.{_≡_}
-use native.Mathlib.Omega.{arith}
 use borrow.Author.Needs.{needs}
 use Rattle.sequence_writer.proofs.write.Statement.{statement}
 use Rattle.sequence_writer.proofs.write.Tie as tie

@@ -1,5 +1,5 @@
 use mathlib.Core.Path.{_≡_, sym, ap}
-use Prim.Native.Nat.{ℕ, _+_, _-_, _*_, _%_, _^_, _≤_, _<_}
+use Prim.Native.Nat.{ℕ, _+_, _-_, _*_, _%_, _^_, _≤_}
 use native.Mathlib.Nat.{zero-mul, add-mul, mul-le-mul}
 use native.Mathlib.Omega.{arith}
 use borrow.Author.Needs.{needs}
@@ -73,11 +73,13 @@ loop-again c =
     let a = c .before .before .before .before .before .before .args in
     let l = c .before .before .before .before .loop in
     let m = c .before .before .smaller .result in
-    let e = c .before .before .smaller .ensures in
-    (omega (arith, e), omega (arith, l .inv .1, add-mul (l .i) m (a .b)),
-    write-more Bits (a .b) (take (a .n) (values (a .xs))) (a .from) (blockNumber (a .block)) (c .before .before .before .before .before .append .ensures) (λ k. getD (values (a .xs)) (l .i + k) 0 % 2 ^ a .b) (l .i) m
-    (bits-follow (a .b) (take (a .n) (values (a .xs))) (l .i) m _ (λ k h. ap (λ (x : ℕ). x % 2 ^ a .b) (sym (getD-take (a .n) (values (a .xs)) (l .i + k) 0 (omega (arith, e))))))
-    (c .append2 .ensures) (l .inv .2) (l .inv .1) (c .before .bits-word .ensures))
+    let e = c .before .before .smaller .ensures in (
+      omega (arith, e),
+      omega (arith, l .inv .1, add-mul (l .i) m (a .b)),
+      write-more Bits (a .b) (take (a .n) (values (a .xs))) (a .from) (blockNumber (a .block)) (c .before .before .before .before .before .append .ensures) (λ k. getD (values (a .xs)) (l .i + k) 0 % 2 ^ a .b) (l .i) m
+          (bits-follow (a .b) (take (a .n) (values (a .xs))) (l .i) m _ (λ k h. ap (λ (x : ℕ). x % 2 ^ a .b) (sym (getD-take (a .n) (values (a .xs)) (l .i + k) 0 (omega (arith, e))))))
+          (c .append2 .ensures) (l .inv .2) (l .inv .1) (c .before .bits-word .ensures),
+    )
 
 returns : tie.Need-returns Inv-loop μ-loop
 returns c =

@@ -1,5 +1,5 @@
 use mathlib.Core.Path.{_≡_, refl}
-use Prim.Native.Nat.{ℕ, _+_, _-_, _*_, _/_, _%_, _^_, _≤_, _<_}
+use Prim.Native.Nat.{_+_, _-_, _*_, _/_, _%_, _^_, _≤_}
 use native.Mathlib.Nat.{zero-mul}
 use native.Mathlib.Omega.{arith}
 use borrow.Author.Needs.{needs}
@@ -71,10 +71,13 @@ unfolding sequenceBits
 loop-again c =
     let a = c .before .before .before .before .before .before .before .args in
     let l = c .before .before .before .before .loop in
-    let group = whole-taken 3 (a .n) (l .i) (values (a .xs)) (omega arith) (omega (arith, values-length (a .xs) (sized (c .before .before .before .before .before .before .before)))) in
-    (omega arith, groups-next Quints (l .i) (l .inv .1), place-more Quints (a .b) (a .from) (l .i) (l .inv .1) (l .inv .2) (omega arith),
-    group-written Quints (a .b) (take (a .n) (values (a .xs))) (l .i) 3 (take 3 (drop (l .i) (values (a .xs)))) (l .inv .1) (group .0) (group .1)
-    (a .from) (blockNumber (a .block)) (c .before .before .before .before .before .append .ensures) (c .append2 .ensures) (l .inv .3) (l .inv .2) (c .before .three-quints2 .ensures))
+    let group = whole-taken 3 (a .n) (l .i) (values (a .xs)) (omega arith) (omega (arith, values-length (a .xs) (sized (c .before .before .before .before .before .before .before)))) in (
+      omega arith,
+      groups-next Quints (l .i) (l .inv .1),
+      place-more Quints (a .b) (a .from) (l .i) (l .inv .1) (l .inv .2) (omega arith),
+      group-written Quints (a .b) (take (a .n) (values (a .xs))) (l .i) 3 (take 3 (drop (l .i) (values (a .xs)))) (l .inv .1) (group .0) (group .1)
+          (a .from) (blockNumber (a .block)) (c .before .before .before .before .before .append .ensures) (c .append2 .ensures) (l .inv .3) (l .inv .2) (c .before .three-quints2 .ensures),
+    )
 
 last-quints-requires : tie.Need-last-quints-requires Inv-loop μ-loop
 last-quints-requires c κs = (omega arith, omega arith, omega arith, omega arith)

@@ -1,4 +1,4 @@
-use mathlib.Core.Path.{_≡_, _∙_}
+use mathlib.Core.Path.{_∙_}
 use native.Mathlib.Omega.{arith}
 use Rattle.quantization.proofs.Ranges.{bits-le}
 use Rattle.sequence_writer.proofs.Growing.{values-cap}
