@@ -1,22 +1,14 @@
 -- The layout of the groups: where numbers and their shares of the codes lie.
 -- Assumes nothing.
-use mathlib.Core.Path.{_≡_, refl, sym, ap, _∙_, subst}
-use Prim.Native.Nat.{ℕ, zero, suc, _+_, _-_, _*_, _/_, _%_, _^_, _≤_, _<_}
-use native.Mathlib.Nat.{suc-mul, add-suc, add-mul-div-right, mul-le-mul, mod-lt, mod-one, one-mul, mod-eq-of-lt, lt-of-lt-of-le}
-use lib.Arith.{digits-lt}
-use mathlib.Core.List.{List, [], _∷_, _++_, append-assoc}
-use lib.ListN.{length, drop, set, length-append, length-drop}
-use lib.Seq.{drop-cons, set-at}
-use native.Mathlib.Numerals.{add-one}
+use mathlib.Core.Path.{_≡_, refl, subst}
+use Prim.Native.Nat.{ℕ, suc, _+_, _*_, _^_, _≤_, _<_}
+use native.Mathlib.Nat.{suc-mul, add-suc, add-mul-div-right}
 use native.Mathlib.Omega.{arith}
-use lib.Pow.{pow-pos, pow-mono, pow-lt, shl-exact}
 use Rattle.encoding.specs.declared.Encoding.{Encoding}
 use Rattle.encoding.specs.declared.Encoding.the-variants.{Bits, Trits, Quints}
-use Rattle.bits.specs.Field.{field, stream}
 use Rattle.encoding.specs.Encoding.{groupSize, codeBits, sequenceBits}
-use Rattle.encoding.proofs.Laws.{code-le, size-pos, size-le}
-use Rattle.integer_sequence.specs.Reading.{shareBits, share, codeAt, number}
-use Rattle.bits.proofs.Fields.{pos-mono, field-lt, field-past, field-in, stream-lt}
+use Rattle.integer_sequence.specs.Reading.{shareBits, share, codeAt}
+use Rattle.bits.proofs.Fields.{pos-mono, field-lt, stream-lt}
 
 pub bits-zero : (κ : Encoding) → codeBits κ 0 ≡ 0
 bits-zero Bits = refl
@@ -56,24 +48,8 @@ module _ (κ : Encoding) (b : ℕ) where
   unfolding share
   share-lt s i = field-lt s (sequenceBits κ b i + b) (shareBits κ i)
 
-pub share-le : (κ : Encoding) (i : ℕ) → shareBits κ i ≤ 3
-share-le Bits i = omega arith
-share-le Trits i = omega arith
-share-le Quints i = omega arith
-
 pub code-lt : (κ : Encoding) (b s g : ℕ) → codeAt κ b s g < 2 ^ codeBits κ (groupSize κ)
 unfolding codeAt
 code-lt κ b s g =
     stream-lt (codeBits κ) (shareBits κ) (bits-next κ) (λ j. share κ b s (g * groupSize κ + j))
     (λ j. subst (λ (w : ℕ). share κ b s (g * groupSize κ + j) < 2 ^ w) (share-group κ g j) (share-lt κ b s (g * groupSize κ + j))) (groupSize κ)
-
--- where number i begins, for numbers of at most 8 bits, at most 64 of them
-pub place-le : (κ : Encoding) (b i : ℕ) → b ≤ 8 → i ≤ 64 → sequenceBits κ b i ≤ 1024
-unfolding sequenceBits
-place-le κ b i h l = let m : i * b ≤ 64 * 8 = mul-le-mul {n₂ = 64} {m₂ = 8} l h in omega (arith, code-le κ i)
-
--- a number that begins no group is in the group of the number before
-pub same-group : (κ : Encoding) (i : ℕ) → ((i + 1) % groupSize κ ≡ 0 → ⊥) → (i + 1) / groupSize κ ≡ i / groupSize κ
-same-group Bits i h = absurd (h (mod-one (i + 1)))
-same-group Trits i h = omega arith
-same-group Quints i h = omega arith

@@ -1,28 +1,26 @@
 -- What was packed is read back: once, over the kind, the bits and the numbers.
 -- Assumes nothing.
-use mathlib.Core.Path.{_≡_, refl, subst, sym, ap, ap₂, _∙_}
-use mathlib.Core.Logic.{⊎-elim}
-use mathlib.Core.List.{List, [], _∷_, _++_, map, append-nil}
-use Prim.Native.Nat.{ℕ, zero, suc, _+_, _-_, _*_, _/_, _%_, _^_, _≤_, _<_, min}
-use native.Mathlib.Nat.{le-refl, zero-mul, zero-add, lt-of-not-le, lt-of-lt-of-le, lt-of-le-of-lt, mod-lt, mod-eq-of-lt, suc-mul, add-suc, add-mul-div-right, div-add-mod', div-lt-iff-lt-mul, div-mul-le-self, mul-le-mul-right, le-trans, zero-div, min-le-left, min-le-right, le-min}
+use mathlib.Core.Path.{_≡_, sym, ap, _∙_}
+use mathlib.Core.List.{List}
+use Prim.Native.Nat.{ℕ, _+_, _-_, _*_, _/_, _%_, _^_, _≤_, _<_, min}
+use native.Mathlib.Nat.{lt-of-not-le, lt-of-lt-of-le, mod-lt, mod-eq-of-lt, div-add-mod', div-lt-iff-lt-mul, zero-div}
 use native.Mathlib.Decide.{decLe}
 use native.Mathlib.Omega.{arith}
 use native.Mathlib.Nat
 use lib.Arith.{digits-lt, digits-div, digits-mod}
 use lib.Pow.{pow-pos, pow-add, pow-mono, high, low}
-use lib.ListN.{length, take, drop, getD, drop-of-length-le, length-map, length-take, length-drop, List·getD-map}
-use lib.Seq.{getD-take, getD-drop, take-suc, take-length}
-use Rattle.bits.specs.Field.{field, stream}
+use lib.ListN.{length, take, drop, getD, length-map, length-take, length-drop, List·getD-map}
+use lib.Seq.{getD-take, getD-drop}
+use Rattle.bits.specs.Field.{field}
 use Rattle.encoding.specs.declared.Encoding.{Encoding}
-use Rattle.encoding.specs.declared.Encoding.the-variants.{Bits, Trits, Quints}
 use Rattle.encoding.specs.Encoding.{groupSize, radix, codeBits, sequenceBits}
 use Rattle.encoding.proofs.Laws.{size-pos}
 use Rattle.integer_sequence.specs.Codes.{digit}
 use Rattle.integer_sequence.specs.Reading.{shareBits, share, codeAt, number, sequenceAt}
-use Rattle.integer_sequence.specs.Writing.{codeOf, digitsOf, groupCode, item, packed}
+use Rattle.integer_sequence.specs.Writing.{digitsOf, groupCode, item, packed}
 use Rattle.integer_sequence.proofs.Codes.{Below, code-lt, code-digit}
 use Rattle.integer_sequence.proofs.Places.{bits-zero, bits-next, share-group, code-mono, place-next}
-use Rattle.bits.proofs.Fields.{field-lt, field-past, field-low, field-high, stream-ext, restream, stream-lt, stream-at, stream-past, pos-mono}
+use Rattle.bits.proofs.Fields.{field-lt, field-past, field-low, field-high, stream-ext, restream, stream-lt, stream-at, pos-mono}
 
 module _ (κ : Encoding) (b : ℕ) (xs : List ℕ) where
   pub item-lt : (i : ℕ) → item κ b xs i < 2 ^ (shareBits κ i + b)

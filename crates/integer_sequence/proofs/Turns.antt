@@ -23,7 +23,7 @@ use Rattle.integer_sequence.proofs.Places.{bits-zero}
 use Rattle.integer_sequence.proofs.Groups.{place-group, number-in}
 
 -- whole groups, and one more
-groups-next : (κ : Encoding) (i : ℕ) → i / groupSize κ * groupSize κ ≡ i → (i + groupSize κ) / groupSize κ * groupSize κ ≡ i + groupSize κ
+pub groups-next : (κ : Encoding) (i : ℕ) → i / groupSize κ * groupSize κ ≡ i → (i + groupSize κ) / groupSize κ * groupSize κ ≡ i + groupSize κ
 groups-next Bits i h = omega arith
 groups-next Trits i h = omega arith
 groups-next Quints i h = omega arith

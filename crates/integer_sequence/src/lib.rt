@@ -1,17 +1,14 @@
-// Packed numbers (000: integer sequence encoding): read from a block and written into one.
+// Packed numbers (000: integer sequence encoding) read from a block. Crate sequence_writer writes them.
 mod reading;
 mod tables;
-mod writing;
 
 use bits::PhysicalBlock;
 use encoding::Stored;
 ghost use mathlib.Core.Path.{_≡_};
 ghost use Prim.Native.Nat.{min};
-ghost use lib.ListN.{take};
 ghost use Rattle.bits.specs.Block.{blockNumber};
 ghost use Rattle.quantization.specs.Ranges.{encodingAt, bitsAt};
 ghost use Rattle.integer_sequence.specs.Reading.{numbers, sequenceAt};
-ghost use Rattle.integer_sequence.specs.Writing.{values, withSequence};
 
 fn at_most_64(n: u8) -> usize
     ensures { λ r. ⌜ r ≡ min n 64 ⌝ }
@@ -28,19 +25,4 @@ pub fn read_sequence(block: PhysicalBlock, from: u8, range: u8, n: u8) -> [Store
     let w = encoding::sequence_bits(e, b, n as u32) as u32;
     let s = bits::part(block, from as u32, w);
     reading::read(s, e, b, at_most_64(n))
-}
-
-// A block's bits below bit from, and from there on the first n numbers, at most 64; spare bits above are 0.
-pub fn write_sequence(
-    block: PhysicalBlock,
-    from: u8,
-    range: u8,
-    xs: [Stored; 64],
-    n: u8,
-) -> PhysicalBlock
-    ensures { λ r. ⌜ blockNumber r ≡ withSequence (encodingAt range) (bitsAt range) (blockNumber block) from (take n (values xs)) ⌝ }
-{
-    let e = quantization::encoding_at(range);
-    let b = quantization::bits_at(range);
-    writing::write(block, from as u32, e, b, xs, at_most_64(n))
 }

@@ -410,19 +410,3 @@ pub fn quints() -> [u16; 128]
 {
     QUINTS
 }
-
-// The five trits of a code.
-pub fn trits_of(code: u8) -> u16
-    ensures { λ r. ⌜ r ≡ digitsEntry Trits code ⌝ }
-{
-    let table = trits();
-    table[code as usize]
-}
-
-// The three quints of a code, of which bit 7 does not count.
-pub fn quints_of(code: u8) -> u16
-    ensures { λ r. ⌜ r ≡ digitsEntry Quints code ⌝ }
-{
-    let table = quints();
-    table[(code % 128) as usize]
-}

@@ -1,45 +1,34 @@
 -- 01: "The writer takes the smallest code whose present digits are the wanted ones".
 -- Assumes nothing.
-use mathlib.Core.Path.{_≡_, refl, sym, ap, _∙_}
-use mathlib.Core.Bool.{true}
-use mathlib.Core.List.{List, [], _∷_}
-use Prim.Native.Nat.{ℕ, suc, _+_, _*_, _/_, _%_, _^_, _≤_, _<_, suc-le-suc}
-use native.Mathlib.Nat.{add-suc, suc-add, add-zero, zero-add}
+use mathlib.Core.Path.{_≡_, sym, ap, _∙_}
+use mathlib.Core.List.{List}
+use Prim.Native.Nat.{ℕ, _+_, _*_, _/_, _%_, _^_, _≤_, _<_}
+use native.Mathlib.Nat.{zero-add}
 use native.Mathlib.Decide.{decLt}
 use native.Mathlib.Omega.{arith}
 use lib.Dec.{T}
 use lib.ListN.{length, getD, take}
-use borrow.Author.Tests.{eq-eqb}
 use Rattle.encoding.specs.declared.Encoding.{Encoding}
 use Rattle.encoding.specs.declared.Stored.{Stored}
 use Rattle.encoding.specs.Encoding.{groupSize}
 use Rattle.quantization.specs.Ranges.{encodingAt, bitsAt, mostAt}
 use Rattle.integer_sequence.specs.Codes.{digit}
 use Rattle.integer_sequence.specs.Reading.{codeAt}
-use Rattle.integer_sequence.specs.Writing.{begins, digitsOf, groupCode, packed, values, InRange, Smallest}
+use Rattle.integer_sequence.specs.Writing.{digitsOf, groupCode, packed, values, InRange, Smallest}
 use Rattle.integer_sequence.proofs.Codes.{codes}
 use Rattle.integer_sequence.proofs.Places.{code-lt}
-use Rattle.integer_sequence.proofs.Search.{code-least}
+use Rattle.integer_sequence.proofs.Search.{begins-all, code-least}
 use Rattle.integer_sequence.proofs.RoundTrip.{count, digit-at, code-is, digit-is}
 use Rattle.symbolic_block.specs.Fields.{numberIn}
 use Rattle.symbolic_block.specs.Refusals.{within}
 use Rattle.symbolic_block.proofs.Numbers.{taken, in-range, value}
-
--- digits that are those of ds
-begin : (e : Encoding) (t j : ℕ) (ds : List ℕ) → ((k : ℕ) → k < length ds → digit e t (j + k) ≡ getD ds k 0) → begins e t j ds ≡ true
-unfolding digit
-begin e t j [] h = refl
-begin e t j (d ∷ ds) h =
-    let first : digit e t j ≡ d = ap (digit e t) (sym (add-zero j)) ∙ h 0 (omega arith) in
-    let rest : begins e t (suc j) ds ≡ true = begin e t (suc j) ds (λ k l. ap (digit e t) (suc-add j k ∙ sym (add-suc j k)) ∙ h (suc k) (suc-le-suc l)) in
-    rw (eq-eqb (digit e t j) d first) rest
 
 module _ (e : Encoding) (b : ℕ) (xs : List ℕ) (fit : InRange e b xs) (g t : ℕ) where
   least-of : ((k : ℕ) → k < groupSize e → g * groupSize e + k < length xs → digit e t k ≡ getD xs (g * groupSize e + k) 0 / 2 ^ b)
       → codeAt e b (packed e b xs) g ≤ t
   unfolding groupCode
   least-of h = elim (decLt t 256) [
-    | yes l ↦ rw (code-is e b xs fit g) (code-least e (digitsOf e b xs g) t l (begin e t 0 (digitsOf e b xs g) (λ k m. ap (digit e t) (zero-add k) ∙ here k m)))
+    | yes l ↦ rw (code-is e b xs fit g) (code-least e (digitsOf e b xs g) t l (begins-all e t 0 (digitsOf e b xs g) (λ k m. ap (digit e t) (zero-add k) ∙ here k m)))
     | no l ↦ omega (arith, code-lt e b (packed e b xs) g, codes e)
   ]
     where

@@ -24,7 +24,7 @@ use Rattle.symbolic_calls.proofs.Laws.{told-number}
 use Rattle.symbolic_reader.specs.Answers.{readingOf}
 use Rattle.symbolic_numbers.specs.Numbers.{settingsWith, settingsOf, flatAt, flatOf, blockOver, blockFrom, clippedNumbers, endpointsFit}
 use Rattle.symbolic_numbers.specs.Calls.{refusedOr5, readNumber, readNumbers, lentRefusal, writeNumber, writeBlock}
-use Rattle.symbolic_numbers.proofs.Clip.{clip, fits, refused-1}
+use Rattle.symbolic_clip.proofs.Clip.{clip, fits, refused-1}
 
 -- ---- the reader's call
 

@@ -1,3 +1,3 @@
-pub mod Clip
+pub mod Laid
 pub mod Laws
 pub mod Back

@@ -5,14 +5,15 @@ use symbolic_block::SymbolicBlock;
 use symbolic_calls::Writing;
 ghost use mathlib.Core.Path.{_≡_};
 ghost use Prim.Native.Nat.{_+_, _<_, min};
+ghost use lib.Dec.{leb};
 ghost use lib.ListN.{length, getD};
-ghost use Rattle.laws.specs.Choice.{pick};
+ghost use Rattle.laws.specs.Choice.{pick, both};
 ghost use Rattle.laws.specs.Table.{tab};
 ghost use Rattle.integer_sequence.specs.Reading.{stored};
 ghost use Rattle.symbolic_block.specs.Refusals.{unknownFootprint};
 ghost use Rattle.symbolic_refusal.specs.inner.Stages.{orElse};
 ghost use Rattle.symbolic_calls.specs.Writing.{writingOf};
-ghost use Rattle.symbolic_numbers.specs.Numbers.{settingsOf, flatAt, flatOf, blockOver, blockFrom, clippedNumbers, endpointsFit};
+ghost use Rattle.symbolic_numbers.specs.Numbers.{settingsOf, flatOf, blockOver, blockFrom, clippedNumbers, endpointsFit};
 ghost use Rattle.symbolic_numbers.specs.Calls.{refusedOr5, readNumber, readNumbers, writeNumber, writeBlock};
 
 // ---- a symbolic block's list
@@ -55,22 +56,7 @@ fn settings_of(s: SymbolicBlock) -> [u16; 21]
     ]
 }
 
-// Number i of the list.
-fn flat_at(settings: [u16; 21], endpoints: [Stored; 18], weights: [Stored; 64], i: usize) -> u16
-    requires { ⌜ i < 103 ⌝ }
-    ensures { λ r. ⌜ r ≡ flatAt settings endpoints weights i ⌝ }
-{
-    if i < 21 {
-        return settings[i];
-    }
-    if i < 39 {
-        let e = endpoints[i - 21];
-        return wide(e.0);
-    }
-    let w = weights[i - 39];
-    wide(w.0)
-}
-
+// The settings, the endpoint numbers and the weights, each list in a loop of its own.
 fn put(s: SymbolicBlock, numbers: &mut [u16])
     requires { ⌜ length (now numbers) ≡ 103 ⌝ }
     ensures { λ r. ⌜ now (numbers .exit) ≡ flatOf s ⌝ }
@@ -79,9 +65,21 @@ fn put(s: SymbolicBlock, numbers: &mut [u16])
     let endpoints = s.endpoints;
     let weights = s.weights;
     let mut i: usize = 0;
-    while i < 103 {
-        numbers[i] = flat_at(settings, endpoints, weights, i);
+    while i < 21 {
+        numbers[i] = settings[i];
         i += 1;
+    }
+    let mut j: usize = 0;
+    while j < 18 {
+        let e = endpoints[j];
+        numbers[21 + j] = wide(e.0);
+        j += 1;
+    }
+    let mut k: usize = 0;
+    while k < 64 {
+        let w = weights[k];
+        numbers[39 + k] = wide(w.0);
+        k += 1;
     }
 }
 
@@ -179,19 +177,25 @@ fn block_from(numbers: &[u16]) -> SymbolicBlock
     }
 }
 
+// Whether a number is not above 255, and those before it were not.
+fn fits(x: u16, before: bool) -> bool
+    ensures { λ r. ⌜ r ≡ both (leb x 255) before ⌝ }
+{
+    if x < 256 { before } else { false }
+}
+
 // Whether no endpoint number is above 255.
 fn endpoints_fit(numbers: &[u16]) -> bool
     requires { ⌜ length (now numbers) ≡ 103 ⌝ }
     ensures { λ r. ⌜ r ≡ endpointsFit (now (numbers .entry)) ⌝ }
 {
+    let mut ok = true;
     let mut i: usize = 0;
     while i < 18 {
-        if 255 < numbers[21 + i] {
-            return false;
-        }
+        ok = fits(numbers[21 + i], ok);
         i += 1;
     }
-    true
+    ok
 }
 
 fn or_34(n: u8) -> u8
@@ -206,13 +210,13 @@ fn writing_of(footprint: u8, numbers: &[u16]) -> Writing
     requires { ⌜ length (now numbers) ≡ 103 ⌝ }
     ensures { λ r. ⌜ r ≡ writingOf footprint (blockFrom (now (numbers .entry))) ⌝ }
 {
-    let s = block_from(numbers);
+    let written = symbolic_calls::write_symbolic(footprint, block_from(numbers));
     if endpoints_fit(numbers) {
-        return symbolic_calls::write_symbolic(footprint, s);
+        return written;
     }
-    let n = symbolic_refusal::refusal(footprint, s);
+    let answer = written.answer;
     Writing {
-        answer: Answer::Refused(or_34(n)),
+        answer: Answer::Refused(or_34(block_answer::number_told(answer))),
         bytes: [0u8; 16],
     }
 }

@@ -13,7 +13,7 @@ ghost use Rattle.bits.specs.Field.{reverse};
 ghost use Rattle.bits.specs.Block.{blockNumber};
 ghost use Rattle.integer_sequence.specs.Reading.{stored};
 ghost use Rattle.block_mode.specs.Back2D.{modeBits};
-ghost use Rattle.block_header.specs.Counts.{weightBits, extraBits};
+ghost use Rattle.block_header.specs.Counts.{weightBits, extraBits, endpointCount, endpointRangeOf};
 ghost use Rattle.block_fault.specs.Bits.{endpointsFrom};
 ghost use Rattle.symbolic_block.specs.Fields.{gridOf, headerOf};
 ghost use Rattle.symbolic_block.specs.Refusals.{refusalOf};
@@ -115,12 +115,11 @@ fn modes_code(h: Header) -> u64
     lows * power(count) + classes
 }
 
-// The bit where they end.
-fn endpoints_end(h: Header) -> u32
+// The bit where the endpoint numbers end, n of a range.
+fn endpoints_end(h: Header, n: u32, range: u8) -> u32
+    requires { ⌜ (n ≡ endpointCount h) × (range ≡ endpointRangeOf h) × (n ≤ 18) ⌝ }
     ensures { λ r. ⌜ r ≡ endpointsEnd h ⌝ }
 {
-    let n = block_header::endpoint_count(h);
-    let range = block_header::endpoint_range_of(h);
     block_fault::endpoints_from(h.partitions) as u32 + quantization::range_bits(range, n) as u32
 }
 
@@ -178,9 +177,9 @@ fn with_block(b: PhysicalBlock, p: u32, t: PhysicalBlock) -> PhysicalBlock
     bits::append(bits::append(b, p, t.lo), p + 64, t.hi)
 }
 
-// The block mode, the partitions, their index, the selector and the first four mode bits.
-fn settings(s: SymbolicBlock) -> PhysicalBlock
-    requires { ⌜ Packable s ⌝ }
+// The block mode, the partitions, their index, the selector and the first four mode bits, of the code of the modes.
+fn settings(s: SymbolicBlock, code: u64) -> PhysicalBlock
+    requires { ⌜ Packable s × (code ≡ modesCode (headerOf s)) ⌝ }
     ensures { λ r. ⌜ blockNumber r ≡ piled 0 (take 5 (modeCells s)) ⌝ }
 {
     let partitions = s.partitions;
@@ -190,18 +189,15 @@ fn settings(s: SymbolicBlock) -> PhysicalBlock
     let b = bits::append(b, 13, wide16(s.index));
     let b = bits::append(b, index_end, wide(s.selector));
     let modes_from = index_end + block_header::selector_bits(partitions);
-    bits::append(b, modes_from, modes_code(header_of(s)) % 16)
+    bits::append(b, modes_from, code % 16)
 }
 
-fn with_endpoints(b: PhysicalBlock, s: SymbolicBlock) -> PhysicalBlock
-    requires { ⌜ Packable s ⌝ }
+fn with_endpoints(b: PhysicalBlock, s: SymbolicBlock, n: u8, range: u8) -> PhysicalBlock
+    requires { ⌜ Packable s × (n ≡ endpointCount (headerOf s)) × (range ≡ endpointRangeOf (headerOf s)) ⌝ }
     ensures { λ r. ⌜ blockNumber r ≡ withValue (blockNumber b) (endpointsFrom (s .partitions)) (endpointStream s) ⌝ }
 {
-    let h = header_of(s);
     let xs = s.endpoints;
-    let n = block_header::endpoint_count(h) as u8;
-    let range = block_header::endpoint_range_of(h);
-    integer_sequence::write_sequence(
+    sequence_writer::write_sequence(
         b,
         block_fault::endpoints_from(s.partitions),
         range,
@@ -218,7 +214,7 @@ fn weights_of(s: SymbolicBlock) -> PhysicalBlock
     let g = grid_of(s);
     let xs = s.weights;
     let n = block_header::weight_count(g) as u8;
-    let b = integer_sequence::write_sequence(no_bits(), 0, s.range, xs, n);
+    let b = sequence_writer::write_sequence(no_bits(), 0, s.range, xs, n);
     bits::part(
         bits::reversed(b),
         weights_from(g),
@@ -232,11 +228,14 @@ fn mode_block(s: SymbolicBlock) -> PhysicalBlock
 {
     let h = header_of(s);
     let g = h.grid;
-    let b = with_endpoints(settings(s), s);
+    let code = modes_code(h);
+    let n = block_header::endpoint_count(h);
+    let range = block_header::endpoint_range_of(h);
+    let b = with_endpoints(settings(s, code), s, n as u8, range);
     // spare bits
-    let b = bits::append(b, endpoints_end(h), 0);
+    let b = bits::append(b, endpoints_end(h, n, range), 0);
     let b = bits::append(b, component_from(h), wide(h.component));
-    let b = bits::append(b, extra_from(h), modes_code(h) / 16);
+    let b = bits::append(b, extra_from(h), code / 16);
     with_block(b, weights_from(g), weights_of(s))
 }
 

@@ -9,6 +9,7 @@ mod bc7;
 mod caption;
 mod pvrtc;
 mod clip;
+mod symbolic;
 
 use reference::random::{Random, mode_block};
 use reference::{FOOTPRINTS, decode_image_u8, decode_image_u16};
@@ -149,6 +150,7 @@ fn main() {
     }
     worst = largest(worst, pvrtc::ratios(rounds));
     worst = largest(worst, bc7::run(rounds));
+    worst = largest(worst, symbolic::run(rounds));
     println!("largest ratio {:.2} (by rounds {:.2})", worst[0], worst[1]);
     clip::measure(rounds.min(7));
     caption::measure(rounds);

@@ -1,39 +1,35 @@
-use denote.Ref.{now}
-use mathlib.Core.Path.{_≡_, refl, sym}
-use mathlib.Core.Bool.{true}
+use mathlib.Core.Path.{_≡_, refl}
 use Prim.Native.Nat.{_+_, _-_, _≤_}
 use native.Mathlib.Numerals.{add-one}
 use native.Mathlib.Omega.{arith}
-use borrow.Author.Tests.{le-leb, lt-leb}
+use borrow.Author.Needs.{needs}
 use lib.Dec.{leb}
 use lib.ListN.{length, getD}
 use Rattle.laws.specs.Choice.{all}
 use Rattle.symbolic_numbers.specs.Numbers.{endpointsFit}
-use Rattle.symbolic_numbers.proofs.Clip.{all-false}
 use Rattle.symbolic_numbers.proofs.endpoints_fit.Statement.{statement}
 use Rattle.symbolic_numbers.proofs.endpoints_fit.Tie as tie
 
 abbrev Inv-loop : tie.InvT-loop
-Inv-loop numbers i₀ i = (i ≤ 18) × (length numbers ≡ 103) × (all (λ k. leb (getD numbers (21 + k) 0) 255) i ≡ true)
+Inv-loop numbers ok₀ i₀ ok i = (i ≤ 18) × (length numbers ≡ 103) × (ok ≡ all (λ k. leb (getD numbers (21 + k) 0) 255) i)
 
 abbrev μ-loop : tie.MeasureT-loop
-μ-loop numbers i₀ i = 18 - i
+μ-loop numbers ok₀ i₀ ok i = 18 - i
 
 loop-holds : tie.Need-loop-holds Inv-loop μ-loop
-loop-holds c = (omega arith, c .pre, refl)
+loop-holds c = (omega arith, c .before .pre, refl)
 
-add-if1 : tie.Need-add-if1 Inv-loop μ-loop
-add-if1 c = omega arith
+add-fits : tie.Need-add-fits Inv-loop μ-loop
+add-fits c = omega arith
 
-mul-if1 : tie.Need-mul-if1 Inv-loop μ-loop
-mul-if1 c = omega arith
+mul-fits : tie.Need-mul-fits Inv-loop μ-loop
+mul-fits c = omega arith
 
-shared-slice-read-if1 : tie.Need-shared-slice-read-if1 Inv-loop μ-loop
-shared-slice-read-if1 c = omega arith
+shared-slice-read-fits : tie.Need-shared-slice-read-fits Inv-loop μ-loop
+shared-slice-read-fits c = omega arith
 
-returns : tie.Need-returns Inv-loop μ-loop
-unfolding endpointsFit
-returns c = sym (all-false (λ k. leb (getD (now (c .before .before .before .before .args .numbers)) (21 + k) 0) 255) 18 (c .before .before .before .loop .i) (omega arith) (lt-leb _ 255 (c .if1 .taken)))
+fits-requires : tie.Need-fits-requires Inv-loop μ-loop
+fits-requires c κs = search needs
 
 add-i : tie.Need-add-i Inv-loop μ-loop
 add-i c = omega arith
@@ -42,11 +38,11 @@ loop-less : tie.Need-loop-less Inv-loop μ-loop
 loop-less c = omega arith
 
 loop-again : tie.Need-loop-again Inv-loop μ-loop
-loop-again c = (omega arith, omega arith, rw (add-one, le-leb _ 255 (c .if1 .left)) (c .before .before .before .loop .inv .2))
+loop-again c = (omega arith, omega arith, rw (c .fits2 .ensures, c .before .before .before .loop .inv .2, add-one))
 
-returns-2 : tie.Need-returns-2 Inv-loop μ-loop
+returns : tie.Need-returns Inv-loop μ-loop
 unfolding endpointsFit
-returns-2 c = let z : c .before .loop .i ≡ 18 = omega arith in sym (rw z at (c .before .loop .inv .2))
+returns c = let z : c .before .loop .i ≡ 18 = omega arith in rw z at (c .before .loop .inv .2)
 
 pub endpoints-fit-spec : {M : Type 1} → statement M
 endpoints-fit-spec =
@@ -55,11 +51,11 @@ endpoints-fit-spec =
     Inv-loop
     μ-loop
     loop-holds
-    add-if1
-    mul-if1
-    shared-slice-read-if1
-    returns
+    add-fits
+    mul-fits
+    shared-slice-read-fits
+    fits-requires
     add-i
     loop-less
     loop-again
-    returns-2)
+    returns)

@@ -1,53 +1,130 @@
-use mathlib.Core.Path.{sym, ap, _∙_}
-use Prim.Native.Nat.{ℕ, _-_, _≤_}
+use mathlib.Core.Path.{_≡_, refl, sym, ap, _∙_}
+use Prim.Native.Nat.{ℕ, _+_, _-_, _≤_}
 use mathlib.Core.List.{List}
 use native.Mathlib.Omega.{arith}
 use borrow.Author.Needs.{needs}
+use lib.ListN.{length, getD, length-set}
 use Rattle.laws.specs.Table.{tab}
-use Rattle.laws.proofs.Filling.{Filling, filling-start, filling-more, filling-done}
+use Rattle.symbolic_block.specs.Fields.{numberIn}
 use Rattle.symbolic_numbers.specs.Numbers.{flatAt}
 use Rattle.symbolic_numbers.proofs.Laws.{flat-by-position}
+use Rattle.symbolic_numbers.proofs.Laid.{Laid, laid-none, laid-more, all-laid}
 use Rattle.symbolic_numbers.proofs.put.Statement.{statement}
 use Rattle.symbolic_numbers.proofs.put.Tie as tie
 
 abbrev Inv-loop : tie.InvT-loop
-Inv-loop numbers₀ settings endpoints weights i₀ numbers i = (i ≤ 103) × Filling (flatAt settings endpoints weights) 0 103 numbers i
+Inv-loop numbers₀ settings endpoints weights i₀ numbers i = (i ≤ 21) × Laid 0 i (λ k. getD settings k 0) numbers₀ numbers × (length numbers ≡ 103)
 
 abbrev μ-loop : tie.MeasureT-loop
-μ-loop numbers₀ settings endpoints weights i₀ numbers i = 103 - i
+μ-loop numbers₀ settings endpoints weights i₀ numbers i = 21 - i
 
-settings-of-requires : tie.Need-settings-of-requires Inv-loop μ-loop
+abbrev Inv-loop2 : tie.InvT-loop2
+Inv-loop2 numbers₀ endpoints weights i j₀ numbers j = (j ≤ 18) × Laid 21 j (numberIn endpoints) numbers₀ numbers × (length numbers ≡ 103)
+
+abbrev μ-loop2 : tie.MeasureT-loop2
+μ-loop2 numbers₀ endpoints weights i j₀ numbers j = 18 - j
+
+abbrev Inv-loop3 : tie.InvT-loop3
+Inv-loop3 numbers₀ weights i j k₀ numbers k = (k ≤ 64) × Laid 39 k (numberIn weights) numbers₀ numbers × (length numbers ≡ 103)
+
+abbrev μ-loop3 : tie.MeasureT-loop3
+μ-loop3 numbers₀ weights i j k₀ numbers k = 64 - k
+
+settings-of-requires :
+    tie.Need-settings-of-requires Inv-loop μ-loop Inv-loop2 μ-loop2 Inv-loop3 μ-loop3
 settings-of-requires c κs = search needs
 
-loop-holds : tie.Need-loop-holds Inv-loop μ-loop
-loop-holds c = (omega arith, filling-start _ 0 _ _ (c .before .before .before .before .pre))
+loop-holds : tie.Need-loop-holds Inv-loop μ-loop Inv-loop2 μ-loop2 Inv-loop3 μ-loop3
+loop-holds c = (omega arith, laid-none 0 _ _, c .before .before .before .before .pre)
 
-flat-at-requires : tie.Need-flat-at-requires Inv-loop μ-loop
-flat-at-requires c κs = omega arith
-
-mul-numbers : tie.Need-mul-numbers Inv-loop μ-loop
+mul-numbers : tie.Need-mul-numbers Inv-loop μ-loop Inv-loop2 μ-loop2 Inv-loop3 μ-loop3
 mul-numbers c = omega arith
 
-slice-write-numbers : tie.Need-slice-write-numbers Inv-loop μ-loop
-slice-write-numbers c = omega (arith, c .before .before .loop .inv .1 .size)
+array-read-numbers :
+    tie.Need-array-read-numbers Inv-loop μ-loop Inv-loop2 μ-loop2 Inv-loop3 μ-loop3
+array-read-numbers c = omega arith
 
-add-i : tie.Need-add-i Inv-loop μ-loop
+mul-numbers-2 : tie.Need-mul-numbers-2 Inv-loop μ-loop Inv-loop2 μ-loop2 Inv-loop3 μ-loop3
+mul-numbers-2 c = omega arith
+
+slice-write-numbers :
+    tie.Need-slice-write-numbers Inv-loop μ-loop Inv-loop2 μ-loop2 Inv-loop3 μ-loop3
+slice-write-numbers c = omega (arith, c .before .loop .inv .2)
+
+add-i : tie.Need-add-i Inv-loop μ-loop Inv-loop2 μ-loop2 Inv-loop3 μ-loop3
 add-i c = omega arith
 
-loop-less : tie.Need-loop-less Inv-loop μ-loop
+loop-less : tie.Need-loop-less Inv-loop μ-loop Inv-loop2 μ-loop2 Inv-loop3 μ-loop3
 loop-less c = omega arith
 
-loop-again : tie.Need-loop-again Inv-loop μ-loop
-loop-again c = (omega arith, filling-more _ 0 103 _ _ _ (omega arith) (c .before .before .loop .inv .1) (c .flat-at .ensures))
+loop-again : tie.Need-loop-again Inv-loop μ-loop Inv-loop2 μ-loop2 Inv-loop3 μ-loop3
+loop-again c = let l = c .before .loop in (omega arith, laid-more 0 (l .i) (l .i) _ _ (l .numbers) (omega arith) (omega (arith, l .inv .2)) (l .inv .1) refl, length-set (l .numbers) (l .i) _ ∙ l .inv .2)
 
-same-length : tie.Need-same-length Inv-loop μ-loop
-same-length c = c .before .loop .inv .1 .size ∙ sym (c .before .before .before .before .before .before .pre)
+loop2-holds : tie.Need-loop2-holds Inv-loop μ-loop Inv-loop2 μ-loop2 Inv-loop3 μ-loop3
+loop2-holds c = (omega arith, laid-none 21 _ _, c .before .loop .inv .2)
 
-returns : tie.Need-returns Inv-loop μ-loop
+array-copy-out-e : tie.Need-array-copy-out-e Inv-loop μ-loop Inv-loop2 μ-loop2 Inv-loop3 μ-loop3
+array-copy-out-e c = omega arith
+
+wide-requires : tie.Need-wide-requires Inv-loop μ-loop Inv-loop2 μ-loop2 Inv-loop3 μ-loop3
+wide-requires c κs = search needs
+
+add-numbers : tie.Need-add-numbers Inv-loop μ-loop Inv-loop2 μ-loop2 Inv-loop3 μ-loop3
+add-numbers c = omega arith
+
+mul-numbers-3 : tie.Need-mul-numbers-3 Inv-loop μ-loop Inv-loop2 μ-loop2 Inv-loop3 μ-loop3
+mul-numbers-3 c = omega arith
+
+slice-write-numbers-2 :
+    tie.Need-slice-write-numbers-2 Inv-loop μ-loop Inv-loop2 μ-loop2 Inv-loop3 μ-loop3
+slice-write-numbers-2 c = omega (arith, c .before .before .before .loop2 .inv .2)
+
+add-j : tie.Need-add-j Inv-loop μ-loop Inv-loop2 μ-loop2 Inv-loop3 μ-loop3
+add-j c = omega arith
+
+loop2-less : tie.Need-loop2-less Inv-loop μ-loop Inv-loop2 μ-loop2 Inv-loop3 μ-loop3
+loop2-less c = omega arith
+
+loop2-again : tie.Need-loop2-again Inv-loop μ-loop Inv-loop2 μ-loop2 Inv-loop3 μ-loop3
+loop2-again c = let l = c .before .before .before .loop2 in (omega arith, laid-more 21 (l .j) (21 + l .j) _ _ (l .numbers) refl (omega (arith, l .inv .2)) (l .inv .1) (c .wide .ensures), length-set (l .numbers) (21 + l .j) _ ∙ l .inv .2)
+
+loop3-holds : tie.Need-loop3-holds Inv-loop μ-loop Inv-loop2 μ-loop2 Inv-loop3 μ-loop3
+loop3-holds c = (omega arith, laid-none 39 _ _, c .before .loop2 .inv .2)
+
+array-copy-out-w : tie.Need-array-copy-out-w Inv-loop μ-loop Inv-loop2 μ-loop2 Inv-loop3 μ-loop3
+array-copy-out-w c = omega arith
+
+wide-requires-2 : tie.Need-wide-requires-2 Inv-loop μ-loop Inv-loop2 μ-loop2 Inv-loop3 μ-loop3
+wide-requires-2 c κs = search needs
+
+add-numbers-2 : tie.Need-add-numbers-2 Inv-loop μ-loop Inv-loop2 μ-loop2 Inv-loop3 μ-loop3
+add-numbers-2 c = omega arith
+
+mul-numbers-4 : tie.Need-mul-numbers-4 Inv-loop μ-loop Inv-loop2 μ-loop2 Inv-loop3 μ-loop3
+mul-numbers-4 c = omega arith
+
+slice-write-numbers-3 :
+    tie.Need-slice-write-numbers-3 Inv-loop μ-loop Inv-loop2 μ-loop2 Inv-loop3 μ-loop3
+slice-write-numbers-3 c = omega (arith, c .before .before .before .loop3 .inv .2)
+
+add-k : tie.Need-add-k Inv-loop μ-loop Inv-loop2 μ-loop2 Inv-loop3 μ-loop3
+add-k c = omega arith
+
+loop3-less : tie.Need-loop3-less Inv-loop μ-loop Inv-loop2 μ-loop2 Inv-loop3 μ-loop3
+loop3-less c = omega arith
+
+loop3-again : tie.Need-loop3-again Inv-loop μ-loop Inv-loop2 μ-loop2 Inv-loop3 μ-loop3
+loop3-again c = let l = c .before .before .before .loop3 in (omega arith, laid-more 39 (l .k) (39 + l .k) _ _ (l .numbers) refl (omega (arith, l .inv .2)) (l .inv .1) (c .wide2 .ensures), length-set (l .numbers) (39 + l .k) _ ∙ l .inv .2)
+
+same-length : tie.Need-same-length Inv-loop μ-loop Inv-loop2 μ-loop2 Inv-loop3 μ-loop3
+same-length c = c .before .loop3 .inv .2 ∙ sym (c .before .before .before .before .before .before .before .before .before .before .pre)
+
+returns : tie.Need-returns Inv-loop μ-loop Inv-loop2 μ-loop2 Inv-loop3 μ-loop3
 returns c =
-    let s = c .before .before .before .before .before .before .args .s in
-    filling-done _ 0 103 _ _ (omega arith) (c .before .loop .inv .1)
-    ∙ ap (λ (l : List ℕ). tab (flatAt l (s .endpoints) (s .weights)) 103) (c .before .before .before .before .settings-of .ensures)
+    let s = c .before .before .before .before .before .before .before .before .before .before .args .s in
+    all-laid (c .before .before .before .before .before .before .before .before .settings-of .result) (s .endpoints) (s .weights) (c .before .before .before .before .before .before .before .before .before .before .pre) (omega arith) (omega arith) (omega arith)
+    (c .before .before .before .before .before .loop .inv .1) (c .before .before .before .loop2 .inv .1) (c .before .loop3 .inv .1)
+    ∙ ap (λ (l : List ℕ). tab (flatAt l (s .endpoints) (s .weights)) 103) (c .before .before .before .before .before .before .before .before .settings-of .ensures)
     ∙ flat-by-position s
 
 pub put-spec : {M : Type 1} → statement M
@@ -56,13 +133,36 @@ put-spec =
     (tie.spec
     Inv-loop
     μ-loop
+    Inv-loop2
+    μ-loop2
+    Inv-loop3
+    μ-loop3
     settings-of-requires
     loop-holds
-    flat-at-requires
     mul-numbers
+    array-read-numbers
+    mul-numbers-2
     slice-write-numbers
     add-i
     loop-less
     loop-again
+    loop2-holds
+    array-copy-out-e
+    wide-requires
+    add-numbers
+    mul-numbers-3
+    slice-write-numbers-2
+    add-j
+    loop2-less
+    loop2-again
+    loop3-holds
+    array-copy-out-w
+    wide-requires-2
+    add-numbers-2
+    mul-numbers-4
+    slice-write-numbers-3
+    add-k
+    loop3-less
+    loop3-again
     same-length
     returns)

@@ -7,12 +7,6 @@ use borrow.Author.Needs.{needs}
 use Rattle.symbolic_writer.proofs.endpoints_end.Statement.{statement}
 use Rattle.symbolic_writer.proofs.endpoints_end.Tie as tie
 
-endpoint-count-requires : tie.Need-endpoint-count-requires
-endpoint-count-requires c κs = search needs
-
-endpoint-range-of-requires : tie.Need-endpoint-range-of-requires
-endpoint-range-of-requires c κs = search needs
-
 endpoints-from-requires : tie.Need-endpoints-from-requires
 endpoints-from-requires c κs = search needs
 
@@ -24,8 +18,8 @@ range-bits-requires c κs = search needs
 
 small : (c : tie.After-range-bits) → c .range-bits .result ≤ 359040
 small c =
-    let n = c .before .before .before .endpoint-count in
-    rw (c .range-bits .ensures) (range-bits-le (c .before .before .endpoint-range-of .result) (n .result) 32640 (n .ensures .1))
+    let a = c .before .before .args in
+    rw (c .range-bits .ensures) (range-bits-le (a .range) (a .n) 32640 (omega arith))
 
 cast-result-2 : tie.Need-cast-result-2
 cast-result-2 c = omega (arith, small c)
@@ -36,14 +30,13 @@ add-result c = omega (arith, small c)
 returns : tie.Need-returns
 unfolding endpointsEnd
 returns c =
-    ap₂ _+_ (c .before .endpoints-from .ensures) (c .range-bits .ensures ∙ rw (c .before .before .endpoint-range-of .ensures, c .before .before .before .endpoint-count .ensures .0))
+    let p = c .before .before .pre in
+    ap₂ _+_ (c .before .endpoints-from .ensures) (c .range-bits .ensures ∙ rw (p .0, p .1))
 
 pub endpoints-end-spec : {M : Type 1} → statement M
 endpoints-end-spec =
     tie.close
     (tie.spec
-    endpoint-count-requires
-    endpoint-range-of-requires
     endpoints-from-requires
     cast-result
     range-bits-requires

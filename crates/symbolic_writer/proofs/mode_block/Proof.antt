@@ -1,68 +1,87 @@
 use native.Mathlib.Omega.{arith}
-use mathlib.Core.Path.{refl, ap, _∙_}
-use Prim.Native.Nat.{ℕ, _-_, _/_}
+use mathlib.Core.Path.{_≡_, refl, ap, _∙_}
+use Prim.Native.Nat.{ℕ, _-_, _/_, _≤_}
 use Rattle.block_header.specs.declared.Header.{Header}
-use Rattle.block_header.specs.Counts.{weightBits, extraBits}
+use Rattle.block_header.specs.Counts.{weightBits, extraBits, endpointCount, endpointRangeOf}
+use Rattle.symbolic_block.specs.Fields.{headerOf}
 use Rattle.symbolic_block.specs.Writing.{modesCode, endpointsEnd, componentFrom, modeCells}
 use Rattle.symbolic_writer.specs.inner.Piled.{piled}
 use Rattle.symbolic_writer.proofs.Piled.{placed, appended}
 use Rattle.symbolic_writer.proofs.mode_block.Statement.{statement}
 use Rattle.symbolic_writer.proofs.mode_block.Tie as tie
+use borrow.Author.Needs.{needs}
 
 header-of-requires : tie.Need-header-of-requires
-header-of-requires c κs = tt
-
-settings-requires : tie.Need-settings-requires
-settings-requires c κs = c .before .before .pre
-
-with-endpoints-requires : tie.Need-with-endpoints-requires
-with-endpoints-requires c κs = c .before .before .before .pre
-
-endpoints-end-requires : tie.Need-endpoints-end-requires
-endpoints-end-requires c κs = tt
-
-append-requires : tie.Need-append-requires
-append-requires c κs = tt
-
-component-from-requires : tie.Need-component-from-requires
-component-from-requires c κs = tt
-
-wide-requires : tie.Need-wide-requires
-wide-requires c κs = tt
-
-append-requires-2 : tie.Need-append-requires-2
-append-requires-2 c κs = tt
-
-extra-from-requires : tie.Need-extra-from-requires
-extra-from-requires c κs = tt
+header-of-requires c κs = search needs
 
 modes-code-requires : tie.Need-modes-code-requires
-modes-code-requires c κs = rw (c .before .before .before .before .before .before .before .before .before .header-of .ensures) (c .before .before .before .before .before .before .before .before .before .before .pre .partitions-most)
+modes-code-requires c κs = rw (c .before .header-of .ensures) (c .before .before .pre .partitions-most)
+
+endpoint-count-requires : tie.Need-endpoint-count-requires
+endpoint-count-requires c κs = search needs
+
+endpoint-range-of-requires : tie.Need-endpoint-range-of-requires
+endpoint-range-of-requires c κs = search needs
+
+settings-requires : tie.Need-settings-requires
+settings-requires c κs = (c .before .before .before .before .before .pre, c .before .before .modes-code .ensures ∙ ap modesCode (c .before .before .before .before .header-of .ensures))
+
+-- how many endpoint numbers there are, and their range
+counted : (c : tie.After-endpoint-range-of) → let s = c .before .before .before .before .before .args .s in
+    (c .before .endpoint-count .result ≡ endpointCount (headerOf s)) × (c .endpoint-range-of .result ≡ endpointRangeOf (headerOf s)) × (c .before .endpoint-count .result ≤ 18)
+counted c =
+    let h = c .before .before .before .before .header-of .ensures in
+    let n : c .before .endpoint-count .result ≡ endpointCount (headerOf (c .before .before .before .before .before .args .s)) = c .before .endpoint-count .ensures .0 ∙ ap endpointCount h in
+    (n, c .endpoint-range-of .ensures ∙ ap endpointRangeOf h, omega (arith, c .before .before .before .before .before .pre .endpoints-most))
+
+cast-with-endpoints : tie.Need-cast-with-endpoints
+cast-with-endpoints c = omega (arith, counted (c .before) .2)
+
+with-endpoints-requires : tie.Need-with-endpoints-requires
+with-endpoints-requires c κs = (c .before .before .before .before .before .before .pre, counted (c .before) .0, counted (c .before) .1)
+
+endpoints-end-requires : tie.Need-endpoints-end-requires
+endpoints-end-requires c κs = (c .before .before .before .endpoint-count .ensures .0, c .before .before .endpoint-range-of .ensures, counted (c .before .before) .2)
+
+append-requires : tie.Need-append-requires
+append-requires c κs = search needs
+
+component-from-requires : tie.Need-component-from-requires
+component-from-requires c κs = search needs
+
+wide-requires : tie.Need-wide-requires
+wide-requires c κs = search needs
+
+append-requires-2 : tie.Need-append-requires-2
+append-requires-2 c κs = search needs
+
+extra-from-requires : tie.Need-extra-from-requires
+extra-from-requires c κs = search needs
 
 append-requires-3 : tie.Need-append-requires-3
-append-requires-3 c κs = tt
+append-requires-3 c κs = search needs
 
 weights-from-requires : tie.Need-weights-from-requires
-weights-from-requires c κs = tt
+weights-from-requires c κs = search needs
 
 weights-of-requires : tie.Need-weights-of-requires
-weights-of-requires c κs = c .before .before .before .before .before .before .before .before .before .before .before .before .before .pre
+weights-of-requires c κs = search needs
 
 with-block-requires : tie.Need-with-block-requires
-with-block-requires c κs = omega (arith, c .before .weights-from .ensures .1)
+with-block-requires c κs = search needs
 
 returns : tie.Need-returns
 unfolding piled modeCells
 returns c =
-    let h = c .before .before .before .before .before .before .before .before .before .before .before .before .before .before .header-of .ensures in
+    let h = c .before .before .before .before .before .before .before .before .before .before .before .before .before .before .before .before .header-of .ensures in
     placed (c .with-block .ensures) (c .before .before .weights-from .ensures .0 ∙ ap (λ (x : Header). 128 - weightBits (x .grid)) h)
-    (appended (c .before .before .before .append3 .ensures) (c .before .before .before .before .before .extra-from .ensures ∙ ap (λ (x : Header). 128 - weightBits (x .grid) - extraBits (x .partitions) (x .selector)) h)
-    (appended (c .before .before .before .before .before .before .append2 .ensures) (c .before .before .before .before .before .before .before .before .component-from .ensures ∙ ap componentFrom h)
-    (appended (c .before .before .before .before .before .before .before .before .before .append .ensures) (c .before .before .before .before .before .before .before .before .before .before .endpoints-end .ensures ∙ ap endpointsEnd h)
-    (placed (c .before .before .before .before .before .before .before .before .before .before .before .with-endpoints .ensures) refl (c .before .before .before .before .before .before .before .before .before .before .before .before .settings .ensures) refl)
+    (appended (c .before .before .before .append3 .ensures) (c .before .before .before .before .extra-from .ensures ∙ ap (λ (x : Header). 128 - weightBits (x .grid) - extraBits (x .partitions) (x .selector)) h)
+    (appended (c .before .before .before .before .before .append2 .ensures) (c .before .before .before .before .before .before .before .component-from .ensures ∙ ap componentFrom h)
+    (appended (c .before .before .before .before .before .before .before .before .append .ensures) (c .before .before .before .before .before .before .before .before .before .endpoints-end .ensures ∙ ap endpointsEnd h)
+    (placed (c .before .before .before .before .before .before .before .before .before .before .with-endpoints .ensures) refl (c .before .before .before .before .before .before .before .before .before .before .before .settings .ensures) refl)
     refl)
-    (c .before .before .before .before .before .before .before .wide .ensures .0 ∙ ap (λ (x : Header). x .component) h))
-    (ap (λ (x : ℕ). x / 16) (c .before .before .before .before .modes-code .ensures ∙ ap modesCode h)))
+    (c .before .before .before .before .before .before .wide .ensures .0 ∙ ap (λ (x : Header). x .component) h))
+    (ap (λ (x : ℕ). x / 16) (c .before .before .before .before .before .before .before .before .before .before .before .before .before .before .modes-code .ensures ∙ ap modesCode h)))
     (c .before .weights-of .ensures)
 
 pub mode-block-spec : {M : Type 1} → statement M
@@ -70,7 +89,11 @@ mode-block-spec =
     tie.close
     (tie.spec
     header-of-requires
+    modes-code-requires
+    endpoint-count-requires
+    endpoint-range-of-requires
     settings-requires
+    cast-with-endpoints
     with-endpoints-requires
     endpoints-end-requires
     append-requires
@@ -78,7 +101,6 @@ mode-block-spec =
     wide-requires
     append-requires-2
     extra-from-requires
-    modes-code-requires
     append-requires-3
     weights-from-requires
     weights-of-requires

@@ -2,7 +2,7 @@ use mathlib.Core.Path.{refl, ap, ap₂, _∙_}
 use Prim.Native.Nat.{ℕ, _+_, _-_, _%_}
 use Rattle.block_mode.specs.declared.WeightGrid.{WeightGrid}
 use Rattle.block_mode.specs.Back2D.{modeBits}
-use Rattle.symbolic_block.specs.Writing.{modeNumber, modesCode, modeCells}
+use Rattle.symbolic_block.specs.Writing.{modeNumber, modeCells}
 use Rattle.symbolic_writer.specs.inner.Piled.{piled}
 use Rattle.symbolic_writer.proofs.Piled.{appended}
 use borrow.Author.Needs.{needs}
@@ -54,28 +54,22 @@ selector-bits-requires c κs = search needs
 add-modes-from : tie.Need-add-modes-from
 add-modes-from c = search needs
 
-header-of-requires : tie.Need-header-of-requires
-header-of-requires c κs = search needs
-
-modes-code-requires : tie.Need-modes-code-requires
-modes-code-requires c κs = rw (c .header-of .ensures) (c .before .before .before .before .before .before .before .before .before .before .before .before .before .pre .partitions-most)
-
 append-requires-5 : tie.Need-append-requires-5
 append-requires-5 c κs = search needs
 
 returns : tie.Need-returns
 unfolding piled modeCells
 returns c =
-    let index-end = ap (λ (x : ℕ). 13 + x) (c .before .before .before .before .before .before .before .before .before .before .before .before .before .before .index-bits .ensures .0) in
-    appended (c .append5 .ensures) (ap₂ _+_ index-end (c .before .before .before .selector-bits .ensures .0))
-    (appended (c .before .before .before .before .append4 .ensures) index-end
-    (appended {p = 13} (c .before .before .before .before .before .before .append3 .ensures) refl
-    (appended {p = 11} (c .before .before .before .before .before .before .before .before .append2 .ensures) refl
-    (appended {p = 0} (c .before .before .before .before .before .before .before .before .before .before .append .ensures) refl (c .before .before .before .before .before .before .before .before .before .before .before .before .before .no-bits .ensures) (c .before .before .before .before .before .before .before .before .before .before .before .mode-number .ensures ∙ ap (λ (g : WeightGrid). modeNumber (modeBits g)) (c .before .before .before .before .before .before .before .before .before .before .before .before .grid-of .ensures)))
-    (ap (λ (x : ℕ). x - 1) (c .before .before .before .before .before .before .before .before .before .wide .ensures .0)))
-    (c .before .before .before .before .before .before .before .wide16 .ensures))
-    (c .before .before .before .before .before .wide2 .ensures .0))
-    (ap (λ (x : ℕ). x % 16) (c .before .modes-code .ensures ∙ ap modesCode (c .before .before .header-of .ensures)))
+    let index-end = ap (λ (x : ℕ). 13 + x) (c .before .before .before .before .before .before .before .before .before .before .before .before .index-bits .ensures .0) in
+    appended (c .append5 .ensures) (ap₂ _+_ index-end (c .before .selector-bits .ensures .0))
+    (appended (c .before .before .append4 .ensures) index-end
+    (appended {p = 13} (c .before .before .before .before .append3 .ensures) refl
+    (appended {p = 11} (c .before .before .before .before .before .before .append2 .ensures) refl
+    (appended {p = 0} (c .before .before .before .before .before .before .before .before .append .ensures) refl (c .before .before .before .before .before .before .before .before .before .before .before .no-bits .ensures) (c .before .before .before .before .before .before .before .before .before .mode-number .ensures ∙ ap (λ (g : WeightGrid). modeNumber (modeBits g)) (c .before .before .before .before .before .before .before .before .before .before .grid-of .ensures)))
+    (ap (λ (x : ℕ). x - 1) (c .before .before .before .before .before .before .before .wide .ensures .0)))
+    (c .before .before .before .before .before .wide16 .ensures))
+    (c .before .before .before .wide2 .ensures .0))
+    (ap (λ (x : ℕ). x % 16) (c .before .before .before .before .before .before .before .before .before .before .before .before .before .pre .1))
 
 pub settings-spec : {M : Type 1} → statement M
 settings-spec =
@@ -96,7 +90,5 @@ settings-spec =
     append-requires-4
     selector-bits-requires
     add-modes-from
-    header-of-requires
-    modes-code-requires
     append-requires-5
     returns)

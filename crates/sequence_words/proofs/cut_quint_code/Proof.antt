@@ -1,0 +1,46 @@
+use mathlib.Core.Path.{_≡_, sym, ap, _∙_}
+use mathlib.Core.List.{List, [], _∷_, map}
+use Prim.Native.Nat.{ℕ, _/_, _^_}
+use native.Mathlib.Omega.{arith}
+use lib.ListN.{take}
+use Rattle.encoding.specs.declared.Encoding.the-variants.{Quints}
+use Rattle.integer_sequence.specs.Writing.{codeOf}
+use borrow.Author.Needs.{needs}
+use Rattle.sequence_words.proofs.cut_quint_code.Statement.{statement}
+use Rattle.sequence_words.proofs.cut_quint_code.Tie as tie
+
+taken : (b m k : ℕ) (xs : List ℕ) {code : ℕ} → m ≡ k → code ≡ codeOf Quints (map (λ x. x / 2 ^ b) (take k xs)) → code ≡ codeOf Quints (map (λ x. x / 2 ^ b) (take m xs))
+taken b m k xs e q = q ∙ ap (λ (j : ℕ). codeOf Quints (map (λ x. x / 2 ^ b) (take j xs))) (sym e)
+
+shr-two-quints : tie.Need-shr-two-quints
+shr-two-quints c = search needs
+
+shr-two-quints-2 : tie.Need-shr-two-quints-2
+shr-two-quints-2 c = search needs
+
+two-quints-requires : tie.Need-two-quints-requires
+two-quints-requires c κs = search needs
+
+returns : tie.Need-returns
+returns c = let a = c .before .before .args in taken (a .b) (a .m) 2 (a .x0 ∷ a .x1 ∷ 0 ∷ []) (omega arith) (c .two-quints .ensures)
+
+shr-one-quint : tie.Need-shr-one-quint
+shr-one-quint c = search needs
+
+one-quint-requires : tie.Need-one-quint-requires
+one-quint-requires c κs = search needs
+
+returns-2 : tie.Need-returns-2
+returns-2 c = let a = c .before .before .args in taken (a .b) (a .m) 1 (a .x0 ∷ a .x1 ∷ 0 ∷ []) (omega arith) (c .one-quint .ensures)
+
+pub cut-quint-code-spec : {M : Type 1} → statement M
+cut-quint-code-spec =
+    tie.close
+    (tie.spec
+    shr-two-quints
+    shr-two-quints-2
+    two-quints-requires
+    returns
+    shr-one-quint
+    one-quint-requires
+    returns-2)

@@ -1,0 +1,66 @@
+use mathlib.Core.Path.{_≡_, sym, ap, _∙_}
+use mathlib.Core.List.{[], _∷_}
+use Prim.Native.Nat.{_+_}
+use native.Mathlib.Omega.{arith}
+use lib.ListN.{length}
+use Rattle.encoding.specs.declared.Encoding.the-variants.{Quints}
+use Rattle.integer_sequence.specs.Writing.{packed, values}
+use Rattle.integer_sequence.proofs.Search.{value-at}
+use Rattle.sequence_words.proofs.Numbers.{values-length, listed, three-same}
+use borrow.Author.Needs.{needs}
+use Rattle.sequence_words.proofs.three_quints.Statement.{statement}
+use Rattle.sequence_words.proofs.three_quints.Tie as tie
+
+sized : (c : tie.Start) → length (c .args .t2) ≡ 64
+sized c = search needs
+
+array-copy-out-value : tie.Need-array-copy-out-value
+array-copy-out-value c = search needs
+
+value-requires : tie.Need-value-requires
+value-requires c κs = search needs
+
+add-value : tie.Need-add-value
+add-value c = search needs
+
+array-copy-out-value-2 : tie.Need-array-copy-out-value-2
+array-copy-out-value-2 c = search needs
+
+value-requires-2 : tie.Need-value-requires-2
+value-requires-2 c κs = search needs
+
+add-value-2 : tie.Need-add-value-2
+add-value-2 c = search needs
+
+array-copy-out-value-3 : tie.Need-array-copy-out-value-3
+array-copy-out-value-3 c = search needs
+
+value-requires-3 : tie.Need-value-requires-3
+value-requires-3 c κs = search needs
+
+whole-quints-requires : tie.Need-whole-quints-requires
+whole-quints-requires c κs = search needs
+
+returns : tie.Need-returns
+returns c =
+    let a = c .before .before .before .before .before .before .before .args in
+    let xs = values (a .t2) in
+    c .whole-quints .ensures
+    ∙ ap (packed Quints (a .b))
+    (listed xs (c .before .before .before .before .before .value .result ∷ c .before .before .before .value2 .result ∷ c .before .value3 .result ∷ []) (a .i) 3 3 (omega (arith, values-length (a .t2) (sized (c .before .before .before .before .before .before .before)))) (omega arith)
+    (three-same xs (a .i) (c .before .before .before .before .before .value .ensures .0 ∙ sym (value-at (a .t2) (a .i))) (c .before .before .before .value2 .ensures .0 ∙ sym (value-at (a .t2) (a .i + 1))) (c .before .value3 .ensures .0 ∙ sym (value-at (a .t2) (a .i + 2)))))
+
+pub three-quints-spec : {M : Type 1} → statement M
+three-quints-spec =
+    tie.close
+    (tie.spec
+    array-copy-out-value
+    value-requires
+    add-value
+    array-copy-out-value-2
+    value-requires-2
+    add-value-2
+    array-copy-out-value-3
+    value-requires-3
+    whole-quints-requires
+    returns)

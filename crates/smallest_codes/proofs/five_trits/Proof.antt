@@ -1,0 +1,80 @@
+use mathlib.Core.Path.{refl, _∙_}
+use mathlib.Core.List.{[], _∷_}
+use native.Mathlib.Omega.{arith}
+use Rattle.encoding.specs.declared.Encoding.the-variants.{Trits}
+use Rattle.smallest_codes.proofs.Entries.{below-none, below-more, entry-code, no-code}
+use borrow.Author.Needs.{needs}
+use Rattle.smallest_codes.proofs.five_trits.Statement.{statement}
+use Rattle.smallest_codes.proofs.five_trits.Tie as tie
+
+returns : tie.Need-returns
+returns c = let a = c .before .args in no-code Trits (a .d0 ∷ a .d1 ∷ a .d2 ∷ a .d3 ∷ a .d4 ∷ []) 0 (omega arith) (omega arith) (omega arith)
+
+returns-2 : tie.Need-returns-2
+returns-2 c = let a = c .before .before .args in no-code Trits (a .d0 ∷ a .d1 ∷ a .d2 ∷ a .d3 ∷ a .d4 ∷ []) 1 (omega arith) (omega arith) (omega arith)
+
+returns-3 : tie.Need-returns-3
+returns-3 c = let a = c .before .before .before .args in no-code Trits (a .d0 ∷ a .d1 ∷ a .d2 ∷ a .d3 ∷ a .d4 ∷ []) 2 (omega arith) (omega arith) (omega arith)
+
+returns-4 : tie.Need-returns-4
+returns-4 c = let a = c .before .before .before .before .args in no-code Trits (a .d0 ∷ a .d1 ∷ a .d2 ∷ a .d3 ∷ a .d4 ∷ []) 3 (omega arith) (omega arith) (omega arith)
+
+returns-5 : tie.Need-returns-5
+returns-5 c = let a = c .before .before .before .before .before .args in no-code Trits (a .d0 ∷ a .d1 ∷ a .d2 ∷ a .d3 ∷ a .d4 ∷ []) 4 (omega arith) (omega arith) (omega arith)
+
+mul-at : tie.Need-mul-at
+mul-at c = search needs
+
+add-at : tie.Need-add-at
+add-at c = search needs
+
+mul-at-2 : tie.Need-mul-at-2
+mul-at-2 c = search needs
+
+add-at-2 : tie.Need-add-at-2
+add-at-2 c = search needs
+
+mul-at-3 : tie.Need-mul-at-3
+mul-at-3 c = search needs
+
+add-at-3 : tie.Need-add-at-3
+add-at-3 c = search needs
+
+mul-at-4 : tie.Need-mul-at-4
+mul-at-4 c = search needs
+
+add-at-4 : tie.Need-add-at-4
+add-at-4 c = search needs
+
+element-copy-out-wide : tie.Need-element-copy-out-wide
+element-copy-out-wide c = search needs
+
+wide-requires : tie.Need-wide-requires
+wide-requires c κs = search needs
+
+returns-6 : tie.Need-returns-6
+returns-6 c =
+    let a = c .before .before .before .before .before .before .before .args in
+    c .wide .ensures ∙ entry-code Trits (a .d0 ∷ a .d1 ∷ a .d2 ∷ a .d3 ∷ a .d4 ∷ []) (c .before .before .before .before .before .before .before .pre) refl (omega arith) (omega arith)
+    (below-more 3 (a .d0) (a .d1 ∷ a .d2 ∷ a .d3 ∷ a .d4 ∷ []) (omega arith) (below-more 3 (a .d1) (a .d2 ∷ a .d3 ∷ a .d4 ∷ []) (omega arith) (below-more 3 (a .d2) (a .d3 ∷ a .d4 ∷ []) (omega arith) (below-more 3 (a .d3) (a .d4 ∷ []) (omega arith) (below-more 3 (a .d4) [] (omega arith) (below-none 3))))))
+
+pub five-trits-spec : {M : Type 1} → statement M
+five-trits-spec =
+    tie.close
+    (tie.spec
+    returns
+    returns-2
+    returns-3
+    returns-4
+    returns-5
+    mul-at
+    add-at
+    mul-at-2
+    add-at-2
+    mul-at-3
+    add-at-3
+    mul-at-4
+    add-at-4
+    element-copy-out-wide
+    wide-requires
+    returns-6)

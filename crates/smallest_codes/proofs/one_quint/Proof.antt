@@ -1,0 +1,30 @@
+use mathlib.Core.Path.{refl, _∙_}
+use mathlib.Core.List.{[], _∷_}
+use native.Mathlib.Omega.{arith}
+use Rattle.encoding.specs.declared.Encoding.the-variants.{Quints}
+use Rattle.smallest_codes.proofs.Entries.{below-none, below-more, entry-code, no-code}
+use borrow.Author.Needs.{needs}
+use Rattle.smallest_codes.proofs.one_quint.Statement.{statement}
+use Rattle.smallest_codes.proofs.one_quint.Tie as tie
+
+returns : tie.Need-returns
+returns c = let a = c .before .args in no-code Quints (a .d0 ∷ []) 0 (omega arith) (omega arith) (omega arith)
+
+one-quint-requires : tie.Need-one-quint-requires
+one-quint-requires c κs = search needs
+
+array-read-wide : tie.Need-array-read-wide
+array-read-wide c = search needs
+
+wide-requires : tie.Need-wide-requires
+wide-requires c κs = search needs
+
+returns-2 : tie.Need-returns-2
+returns-2 c =
+    let a = c .before .before .before .args in
+    c .wide .ensures ∙ entry-code Quints (a .d0 ∷ []) (c .before .one-quint .ensures) refl (omega arith) (omega arith)
+    (below-more 5 (a .d0) [] (omega arith) (below-none 5))
+
+pub one-quint-spec : {M : Type 1} → statement M
+one-quint-spec =
+    tie.close (tie.spec returns one-quint-requires array-read-wide wide-requires returns-2)

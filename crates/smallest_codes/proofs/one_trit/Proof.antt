@@ -1,0 +1,30 @@
+use mathlib.Core.Path.{refl, _∙_}
+use mathlib.Core.List.{[], _∷_}
+use native.Mathlib.Omega.{arith}
+use Rattle.encoding.specs.declared.Encoding.the-variants.{Trits}
+use Rattle.smallest_codes.proofs.Entries.{below-none, below-more, entry-code, no-code}
+use borrow.Author.Needs.{needs}
+use Rattle.smallest_codes.proofs.one_trit.Statement.{statement}
+use Rattle.smallest_codes.proofs.one_trit.Tie as tie
+
+returns : tie.Need-returns
+returns c = let a = c .before .args in no-code Trits (a .d0 ∷ []) 0 (omega arith) (omega arith) (omega arith)
+
+one-trit-requires : tie.Need-one-trit-requires
+one-trit-requires c κs = search needs
+
+array-read-wide : tie.Need-array-read-wide
+array-read-wide c = search needs
+
+wide-requires : tie.Need-wide-requires
+wide-requires c κs = search needs
+
+returns-2 : tie.Need-returns-2
+returns-2 c =
+    let a = c .before .before .before .args in
+    c .wide .ensures ∙ entry-code Trits (a .d0 ∷ []) (c .before .one-trit .ensures) refl (omega arith) (omega arith)
+    (below-more 3 (a .d0) [] (omega arith) (below-none 3))
+
+pub one-trit-spec : {M : Type 1} → statement M
+one-trit-spec =
+    tie.close (tie.spec returns one-trit-requires array-read-wide wide-requires returns-2)

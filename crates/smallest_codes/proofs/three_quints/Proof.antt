@@ -1,0 +1,56 @@
+use mathlib.Core.Path.{refl, _∙_}
+use mathlib.Core.List.{[], _∷_}
+use native.Mathlib.Omega.{arith}
+use Rattle.encoding.specs.declared.Encoding.the-variants.{Quints}
+use Rattle.smallest_codes.proofs.Entries.{below-none, below-more, entry-code, no-code}
+use borrow.Author.Needs.{needs}
+use Rattle.smallest_codes.proofs.three_quints.Statement.{statement}
+use Rattle.smallest_codes.proofs.three_quints.Tie as tie
+
+returns : tie.Need-returns
+returns c = let a = c .before .args in no-code Quints (a .d0 ∷ a .d1 ∷ a .d2 ∷ []) 0 (omega arith) (omega arith) (omega arith)
+
+returns-2 : tie.Need-returns-2
+returns-2 c = let a = c .before .before .args in no-code Quints (a .d0 ∷ a .d1 ∷ a .d2 ∷ []) 1 (omega arith) (omega arith) (omega arith)
+
+returns-3 : tie.Need-returns-3
+returns-3 c = let a = c .before .before .before .args in no-code Quints (a .d0 ∷ a .d1 ∷ a .d2 ∷ []) 2 (omega arith) (omega arith) (omega arith)
+
+mul-at : tie.Need-mul-at
+mul-at c = search needs
+
+add-at : tie.Need-add-at
+add-at c = search needs
+
+mul-at-2 : tie.Need-mul-at-2
+mul-at-2 c = search needs
+
+add-at-2 : tie.Need-add-at-2
+add-at-2 c = search needs
+
+element-copy-out-wide : tie.Need-element-copy-out-wide
+element-copy-out-wide c = search needs
+
+wide-requires : tie.Need-wide-requires
+wide-requires c κs = search needs
+
+returns-4 : tie.Need-returns-4
+returns-4 c =
+    let a = c .before .before .before .before .before .args in
+    c .wide .ensures ∙ entry-code Quints (a .d0 ∷ a .d1 ∷ a .d2 ∷ []) (c .before .before .before .before .before .pre) refl (omega arith) (omega arith)
+    (below-more 5 (a .d0) (a .d1 ∷ a .d2 ∷ []) (omega arith) (below-more 5 (a .d1) (a .d2 ∷ []) (omega arith) (below-more 5 (a .d2) [] (omega arith) (below-none 5))))
+
+pub three-quints-spec : {M : Type 1} → statement M
+three-quints-spec =
+    tie.close
+    (tie.spec
+    returns
+    returns-2
+    returns-3
+    mul-at
+    add-at
+    mul-at-2
+    add-at-2
+    element-copy-out-wide
+    wide-requires
+    returns-4)

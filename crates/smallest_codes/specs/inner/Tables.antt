@@ -1,0 +1,26 @@
+-- The constant tables of the smallest codes.
+-- Assumes nothing.
+use mathlib.Core.Path.{_≡_}
+use mathlib.Core.List.{List, [], _∷_}
+use Prim.Native.Nat.{ℕ, zero, suc, _/_, _%_, _^_, _≤_, _<_}
+use lib.ListN.{length, getD}
+use Rattle.laws.specs.Table.{tab}
+use Rattle.encoding.specs.Encoding.{radix}
+use Rattle.encoding.specs.declared.Encoding.{Encoding}
+use Rattle.integer_sequence.specs.Codes.{digit}
+use Rattle.integer_sequence.specs.Writing.{codeOf}
+
+-- the m lowest digits of j in base r, the lowest first
+abbrev pub digitsIn : ℕ → ℕ → ℕ → List ℕ
+digitsIn r zero j = []
+digitsIn r (suc m) j = j % r ∷ digitsIn r m (j / r)
+
+-- the table for groups of m digits: entry j is the smallest code whose first m digits are those of j
+unfoldable pub smallestCodes : Encoding → ℕ → List ℕ
+unfolding tab codeOf
+smallestCodes e m = tab (λ j. codeOf e (digitsIn (radix e) m j)) (radix e ^ m)
+
+-- the code t gives the digits ds, and no smaller code does
+pub record SmallestCode (e : Encoding) (ds : List ℕ) (t : ℕ) : Type 0 where
+  pub wanted : (k : ℕ) → k < length ds → digit e t k ≡ getD ds k 0
+  pub least : (u : ℕ) → ((k : ℕ) → k < length ds → digit e u k ≡ getD ds k 0) → t ≤ u
