@@ -4,3 +4,4 @@ pub mod Choice
 pub mod Bits
 pub mod Demand
 pub mod Samples
+pub mod Choices

@@ -1,7 +1,7 @@
 -- 02, n: "no other choice of weights at these settings does better. Among equals take the smaller weight at each place. .. prove also that
 -- changing one wanted grey changes at most that texel's weight, the rest of the block's bits staying equal."
 -- Said of the writer's blocks and of what the one-block call and the reader of sheets tell of them.
--- Theorems: proofs/Demand.antt, `shows`, `best`, `local`.
+-- Theorems: proofs/Demand.antt, `shows`, `best`, `local`, `placed`; proofs/Choices.antt, `chosen`, `at-settings`.
 -- Assumes nothing.
 use mathlib.Core.Path.{_≡_}
 use mathlib.Core.List.{List, [], _∷_}
@@ -12,14 +12,30 @@ use Rattle.bits.specs.Block.{numberOf}
 use Rattle.interpolation.specs.declared.Kind.the-variants.{Srgb8}
 use Rattle.block_answer.specs.declared.Answer.the-variants.{Done}
 use Rattle.one_block.specs.Calls.{blockAnswer, blockOut}
-use Rattle.symbolic_block.specs.Fields.{weightIn}
+use Rattle.symbolic_block.specs.declared.SymbolicBlock.{SymbolicBlock}
+use Rattle.symbolic_block.specs.Fields.{headerOf, endpointIn, weightIn, Sized}
+use Rattle.symbolic_block.specs.Refusals.{Acceptable}
 use Rattle.symbolic_calls.specs.Writing.{writingOf}
 use Rattle.symbolic_reader.specs.Answers.{readingOf}
-use Rattle.grey_caption.specs.Caption.{footprint, most, sheetWith, blockWith, greyOf, squared, weightFor, captionOf}
+use Rattle.grey_caption.specs.Caption.{footprint, most, settings, sheetWith, blockWith, greyOf, squared, weightFor, captionOf}
 
 -- sixteen weights of 0..3
 abbrev pub Weights : (ℕ → ℕ) → Type 0
 Weights w = (i : ℕ) → i < 16 → w i ≤ most
+
+-- a sheet "at these settings" with the two given bytes: one that the writer accepts, whatever its weights
+pub record AtSettings (e0 e1 : ℕ) (s : SymbolicBlock) : Type 0 where
+  pub sized : Sized s
+  pub acceptable : Acceptable footprint s
+  pub mode-sheet : s .mark ≡ 0
+  pub header : headerOf s ≡ settings
+  pub first : endpointIn s 0 ≡ e0
+  pub second : endpointIn s 1 ≡ e1
+
+-- so a choice of sixteen weights is every such sheet, and no other
+pub record Chosen (e0 e1 : ℕ) (s : SymbolicBlock) : Type 0 where
+  pub weights : Weights (weightIn s)
+  pub same : s ≡ sheetWith e0 e1 (weightIn s)
 
 -- what kind 1 shows of a block: the bytes that the one-block call leaves in 64 bytes that held `old`
 abbrev pub shownBy : List ℕ → List ℕ → List ℕ
