@@ -23,7 +23,8 @@ fn mixed() -> Vec<Case> {
 
 /// Three partitions of six endpoint numbers in 0..5, and 32 weights in 0..2.
 fn worst() -> Vec<Case> {
-    let mut s = SymbolicBlock { width: 8, height: 4, range: 1, planes: 1, partitions: 3, index: 77, ..SymbolicBlock::ZERO };
+    let mut s =
+        SymbolicBlock { width: 8, height: 4, range: 1, planes: 1, partitions: 3, index: 77, ..SymbolicBlock::ZERO };
     s.modes = [8, 8, 8, 0];
     let digit = |i: usize| [2, 1, 2, 1, 2][i % 5];
     s.endpoints = std::array::from_fn(|i| 2 * digit(i) + i as u16 % 2);
