@@ -247,6 +247,15 @@ pub alpha-by-set : (m : ℕ) (v : ℕ → ℕ) (i : ℕ) → factorOf (setBits m
 unfolding alphaSet alphaFactor
 alpha-by-set m v i = by-set (both (ltb 0 (secondaryBits m)) (either (eqb (selectionBits m) 0) (eqb (v 3) 0))) m v i
 
+-- where there is no second set, both are the first
+pub same-set : (m : ℕ) (v : ℕ → ℕ) → m < 8 → secondaryBits m ≡ 0 → colourSet m v ≡ alphaSet m v
+unfolding colourSet alphaSet
+same-set m v h z =
+    rw (
+      ne-eqb (selectionBits m) 1 (λ e. let k = selected-has m h e in omega arith),
+      le-ltb 0 (secondaryBits m) (omega arith),
+    )
+
 -- ---- the sets as they are made
 
 pub has-index : (m : ℕ) (w : Mode) (x : ℕ) → w ≡ modeRow m → m < 8 → x ≡ w .index → 2 ≤ x

@@ -4,13 +4,16 @@ use mathlib.Core.Path.{_≡_, refl, sym, ap, ap₂, subst, _∙_}
 use mathlib.Core.Bool.{Bool, true, false}
 use mathlib.Core.List.{List, []}
 use Prim.Native.Nat.{ℕ, zero, suc, _+_, _-_, _*_, _/_, _%_, _^_, _≤_, _<_}
+use native.Mathlib.Nat.{not-suc-le-zero}
+use native.Mathlib.Decide.{decLt}
 use native.Mathlib.Omega.{arith}
 use lib.Dec.{eqb}
-use lib.ListN.{length, getD}
+use lib.ListN.{length, getD, set}
+use lib.Seq.{getD-set-same, getD-set-other}
 use Rattle.laws.specs.Choice.{pick}
 use Rattle.laws.specs.Table.{tab, putFour}
 use Rattle.laws.proofs.Filling.{Filled, filled-four, filled-all, length-four, tab-ext}
-use Rattle.bc7_layout.specs.Modes.{subsets}
+use Rattle.bc7_layout.specs.Modes.{subsets, secondaryBits}
 use Rattle.bc7_layout.specs.Partitions.{subsetOf}
 use Rattle.bc7_layout.specs.Layout.{widthOf, modeAt, partitionAt, isReserved, fieldAt}
 use Rattle.bc7_layout.specs.inner.Plan.{planOf}
@@ -26,43 +29,33 @@ use Rattle.bc7_ends.proofs.Places.{end-byte, turned-lt}
 use Rattle.bc7_ends.proofs.Mixing.{mixed-byte, line-most}
 use Rattle.bc7_core.specs.declared.IndexSet.{IndexSet}
 use Rattle.bc7_core.specs.Bytes.{texelBytes, blockBytes}
-use Rattle.bc7_core.specs.inner.Sets.{setBits, colourSet, alphaSet, restOf, setOf, SetIn, behindOf, Shows}
-use Rattle.bc7_core.proofs.Indices.{set-width, rest-index, rest-next, set-least, set-most, colour-set-in, alpha-set-in, colour-by-set, alpha-by-set}
+use Rattle.bc7_core.specs.inner.Sets.{setBits, colourSet, alphaSet, restOf, setOf, SetIn, behindOf, setFactor, Factors, Shows}
+use Rattle.bc7_core.proofs.Indices.{set-width, rest-index, rest-next, set-least, set-most, colour-by-set, alpha-by-set, same-set}
 
 module _ (B plan : ℕ) (h : modeAt B < 8) (ep : plan ≡ planOf (subsets (modeAt B)) (partitionAt B)) (i : ℕ) (l : i < 16) where
-  module _ (k : ℕ) (s : SetIn (modeAt B) k) (set : IndexSet) (es : set ≡ setOf B k i) where
-    pub bits-least : 2 ≤ set .bits
+  module _ (k : ℕ) (s : SetIn (modeAt B) k) (held : IndexSet) (es : held ≡ setOf B k i) where
+    pub bits-least : 2 ≤ held .bits
     unfolding setOf
     bits-least = rw (ap (λ (x : IndexSet). x .bits) es) (set-least (modeAt B) h k s)
 
-    pub bits-most : set .bits ≤ 4
+    pub bits-most : held .bits ≤ 4
     unfolding setOf
     bits-most = rw (ap (λ (x : IndexSet). x .bits) es) (set-most (modeAt B) h k s)
 
     module _ (short : ℕ) (esh : short ≡ plan / 2 ^ (32 + i) % 2) where
-      pub factor-at : (r : ℕ) → r ≡ factorOf (set .bits) (set .rest % 2 ^ (set .bits - short)) → r ≡ factorOf (setBits (modeAt B) k) (fieldAt B (k + i))
-      unfolding setOf
+      pub factor-at : (r : ℕ) → r ≡ factorOf (held .bits) (held .rest % 2 ^ (held .bits - short)) → r ≡ setFactor B k i
+      unfolding setOf setFactor
       factor-at r er =
           er ∙ (λ t. factorOf (es t .bits) (es t .rest % 2 ^ (es t .bits - esh t)))
           ∙ ap (λ (w : ℕ). factorOf (setBits (modeAt B) k) (restOf B k i % 2 ^ w)) (set-width (modeAt B) (partitionAt B) plan k i h s ep l)
           ∙ ap (factorOf (setBits (modeAt B) k)) (rest-index B k plan h s ep i l)
 
-      pub behind-is : behindOf set short ≡ setOf B k (i + 1)
+      pub behind-is : behindOf held short ≡ setOf B k (i + 1)
       unfolding behindOf setOf
       behind-is =
           let q : restOf B k i / 2 ^ (setBits (modeAt B) k - plan / 2 ^ (32 + i) % 2) ≡ restOf B k (i + 1) =
           ap (λ (w : ℕ). restOf B k i / 2 ^ w) (set-width (modeAt B) (partitionAt B) plan k i h s ep l) ∙ rest-next B k plan h s ep i l in
           (λ t. behindOf (es t) (esh t)) ∙ (λ t. record { first = k; bits = setBits (modeAt B) k; rest = q t })
-
-  pub colour-at : (set : IndexSet) (short r : ℕ) → set ≡ setOf B (colourSet (modeAt B) (fieldAt B)) i → short ≡ plan / 2 ^ (32 + i) % 2
-      → r ≡ factorOf (set .bits) (set .rest % 2 ^ (set .bits - short)) → r ≡ colourFactor (modeAt B) (fieldAt B) i
-  colour-at set short r es esh er =
-      factor-at (colourSet (modeAt B) (fieldAt B)) (colour-set-in (modeAt B) (fieldAt B) h) set es short esh r er ∙ colour-by-set (modeAt B) (fieldAt B) i
-
-  pub alpha-at : (set : IndexSet) (short r : ℕ) → set ≡ setOf B (alphaSet (modeAt B) (fieldAt B)) i → short ≡ plan / 2 ^ (32 + i) % 2
-      → r ≡ factorOf (set .bits) (set .rest % 2 ^ (set .bits - short)) → r ≡ alphaFactor (modeAt B) (fieldAt B) i
-  alpha-at set short r es esh er =
-      factor-at (alphaSet (modeAt B) (fieldAt B)) (alpha-set-in (modeAt B) (fieldAt B)) set es short esh r er ∙ alpha-by-set (modeAt B) (fieldAt B) i
 
   module _ (j : ℕ) (ej : j ≡ plan / 2 ^ (2 * i) % 4) where
     subset-is : j ≡ subsetOf (subsets (modeAt B)) (partitionAt B) i
@@ -91,6 +84,39 @@ module _ (B plan : ℕ) (h : modeAt B < 8) (ep : plan ≡ planOf (subsets (modeA
           ap (λ (x : ℕ). laneByte x c) (e ∙ ap (λ (x : List ℕ). sumOn x f g) eq)
           ∙ mixed-byte m v j f g hf hg (λ n d. end-byte B h j n d subset-here) (turned-lt B h) c hc
           ∙ (λ t. mixed (pick (eqb k 3) (eg t) (ef t)) (endOf m v (subset-by t) 0 k) (endOf m v (subset-by t) 1 k))
+
+-- a set's own first index
+pub first-is : (B k i : ℕ) (held : IndexSet) → held ≡ setOf B k i → held .first ≡ k
+unfolding setOf
+first-is B k i held e = ap (λ (x : IndexSet). x .first) e
+
+pub own-set : (B k i : ℕ) (held : IndexSet) → held ≡ setOf B k i → held ≡ setOf B (held .first) i
+own-set B k i held e = e ∙ ap (λ (x : ℕ). setOf B x i) (sym (first-is B k i held e))
+
+-- ---- factors, one after the other
+
+module _ (g : ℕ → ℕ) where
+  pub factors-none : (l : List ℕ) → Factors g l 0
+  factors-none l = record { each = λ i h. absurd (not-suc-le-zero h); small = λ i h. absurd (not-suc-le-zero h) }
+
+  pub factors-more : (l : List ℕ) (n v : ℕ) → n < length l → Factors g l n → v ≡ g n → v ≤ 64 → Factors g (set l n v) (n + 1)
+  factors-more l n v h w e b = record {
+    each = λ i hi. elim (decLt i n) [
+      | yes p ↦ getD-set-other l n i v 0 (λ r. omega (arith, r)) ∙ w .each i p
+      | no p ↦ let r : i ≡ n = omega arith in rw r (getD-set-same l n v 0 h ∙ e)
+    ];
+    small = λ i hi. elim (decLt i n) [
+      | yes p ↦ rw (getD-set-other l n i v 0 (λ r. omega (arith, r))) (w .small i p)
+      | no p ↦ let r : i ≡ n = omega arith in rw (r, getD-set-same l n v 0 h) b
+    ];
+  }
+
+  pub factors-by : (k : ℕ → ℕ) (l : List ℕ) (n : ℕ) → ((i : ℕ) → g i ≡ k i) → Factors g l n → Factors k l n
+  factors-by k l n e w = record { each = λ i h. w .each i h ∙ e i; small = w .small }
+
+-- where there is no second set, alpha goes by the colours' indices
+pub one-set : (m : ℕ) (v : ℕ → ℕ) → m < 8 → secondaryBits m ≡ 0 → (i : ℕ) → colourFactor m v i ≡ alphaFactor m v i
+one-set m v h z i = sym (colour-by-set m v i) ∙ ap (λ (k : ℕ). factorOf (setBits m k) (v (k + i))) (same-set m v h z) ∙ alpha-by-set m v i
 
 -- ---- the buffer
 

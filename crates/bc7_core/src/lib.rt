@@ -14,11 +14,11 @@ ghost use Rattle.bits.specs.Block.{blockNumber};
 ghost use Rattle.bc7_layout.specs.Modes.{subsets, secondaryBits};
 ghost use Rattle.bc7_layout.specs.Layout.{modeAt, fieldAt};
 ghost use Rattle.bc7_block.specs.Reading.{faultOf};
-ghost use Rattle.bc7_block.specs.Picture.{factorOf, texelOf};
+ghost use Rattle.bc7_block.specs.Picture.{factorOf, colourFactor, alphaFactor, texelOf};
 ghost use Rattle.bc7_ends.specs.inner.Frame.{Framed};
 ghost use Rattle.bc7_ends.specs.inner.Lanes.{lineOf, Line255, sumOn, laneByte};
 ghost use Rattle.bc7_core.specs.Bytes.{texelBytes, blockBytes};
-ghost use Rattle.bc7_core.specs.inner.Sets.{colourSet, alphaSet, setOf, behindOf, Shows};
+ghost use Rattle.bc7_core.specs.inner.Sets.{colourSet, alphaSet, setOf, SetIn, behindOf, setFactor, Factors, Shows};
 
 // A set of indices: the number of its first field, the bits of an index that is no anchor, and the bits that are still to be read.
 struct IndexSet {
@@ -137,6 +137,55 @@ fn behind(s: IndexSet, short: u32) -> IndexSet
     }
 }
 
+// The factor of index i of the block's set, from which the indices before it are gone.
+fn factor_at(b: PhysicalBlock, f: Frame, s: IndexSet, i: u32) -> u64
+    requires { ⌜ Framed (blockNumber b) f × (i < 16) ⌝ }
+    requires { ⌜ (s ≡ setOf (blockNumber b) (s .first) i) × SetIn (modeAt (blockNumber b)) (s .first) ⌝ }
+    ensures { λ r. ⌜ (r ≡ setFactor (blockNumber b) (s .first) i) × (r ≤ 64) ⌝ }
+{
+    next_factor(s, bc7_layout::anchor_in(f.plan, i))
+}
+
+// The set without that index.
+fn past(b: PhysicalBlock, f: Frame, s: IndexSet, i: u32) -> IndexSet
+    requires { ⌜ Framed (blockNumber b) f × (i < 16) ⌝ }
+    requires { ⌜ (s ≡ setOf (blockNumber b) (s .first) i) × SetIn (modeAt (blockNumber b)) (s .first) ⌝ }
+    ensures { λ r. ⌜ r ≡ setOf (blockNumber b) (s .first) (i + 1) ⌝ }
+{
+    behind(s, bc7_layout::anchor_in(f.plan, i))
+}
+
+// The factors of a set's sixteen indices.
+fn factors(b: PhysicalBlock, f: Frame, set: IndexSet) -> [u64; 16]
+    requires { ⌜ Framed (blockNumber b) f ⌝ }
+    requires { ⌜ (set ≡ setOf (blockNumber b) (set .first) 0) × SetIn (modeAt (blockNumber b)) (set .first) ⌝ }
+    ensures { λ r. ⌜ Factors (setFactor (blockNumber b) (set .first)) r 16 ⌝ }
+{
+    let mut r = [0u64; 16];
+    let mut s = set;
+    let mut i: usize = 0;
+    while i < 16 {
+        r[i] = factor_at(b, f, s, i as u32);
+        s = past(b, f, s, i as u32);
+        i += 1;
+    }
+    r
+}
+
+fn colour_factors(b: PhysicalBlock, f: Frame) -> [u64; 16]
+    requires { ⌜ Framed (blockNumber b) f ⌝ }
+    ensures { λ r. ⌜ Factors (colourFactor (modeAt (blockNumber b)) (fieldAt (blockNumber b))) r 16 ⌝ }
+{
+    factors(b, f, colour_set(b, f))
+}
+
+fn alpha_factors(b: PhysicalBlock, f: Frame) -> [u64; 16]
+    requires { ⌜ Framed (blockNumber b) f ⌝ }
+    ensures { λ r. ⌜ Factors (alphaFactor (modeAt (blockNumber b)) (fieldAt (blockNumber b))) r 16 ⌝ }
+{
+    factors(b, f, alpha_set(b, f))
+}
+
 // ---- texels
 
 // The four bytes of a sum at place i of the buffer.
@@ -150,45 +199,40 @@ fn put(out: &mut [u8; 64], i: usize, s: u64)
     out[i + 3] = (s / 18014398509481984 % 256) as u8;
 }
 
-// The sum of texel i; the sets hold the indices from there on.
-fn sum_at(
-    b: PhysicalBlock,
-    f: Frame,
-    lines: &[[u64; 4]; 3],
-    colours: IndexSet,
-    alphas: IndexSet,
-    i: u32,
-) -> u64
+// The sum of texel i.
+fn sum_at(b: PhysicalBlock, f: Frame, lines: &[[u64; 4]; 3], colour: u64, alpha: u64, i: u32) -> u64
     requires { ⌜ Framed (blockNumber b) f × (i < 16) ⌝ }
     requires { ⌜ Filled (lineOf (modeAt (blockNumber b)) (fieldAt (blockNumber b))) [] (now lines) (subsets (modeAt (blockNumber b))) ⌝ }
-    requires { ⌜ (colours ≡ setOf (blockNumber b) (colourSet (modeAt (blockNumber b)) (fieldAt (blockNumber b))) i) × (alphas ≡ setOf (blockNumber b) (alphaSet (modeAt (blockNumber b)) (fieldAt (blockNumber b))) i) ⌝ }
+    requires { ⌜ (colour ≡ colourFactor (modeAt (blockNumber b)) (fieldAt (blockNumber b)) i) × (colour ≤ 64) ⌝ }
+    requires { ⌜ (alpha ≡ alphaFactor (modeAt (blockNumber b)) (fieldAt (blockNumber b)) i) × (alpha ≤ 64) ⌝ }
     ensures { λ s. ⌜ Shows s (modeAt (blockNumber b)) (fieldAt (blockNumber b)) i ⌝ }
 {
-    let short = bc7_layout::anchor_in(f.plan, i);
     let q = lines[bc7_layout::subset_in(f.plan, i)];
-    let colour = next_factor(colours, short);
-    let alpha = next_factor(alphas, short);
     sum_on(q, colour, alpha)
 }
 
 // All texels of a block in raster order.
-fn paint(b: PhysicalBlock, f: Frame, lines: &[[u64; 4]; 3], out: &mut [u8; 64])
+fn paint(
+    b: PhysicalBlock,
+    f: Frame,
+    lines: &[[u64; 4]; 3],
+    colours: &[u64; 16],
+    alphas: &[u64; 16],
+    out: &mut [u8; 64],
+)
     requires { ⌜ Framed (blockNumber b) f × (length (now out) ≡ 64) ⌝ }
     requires { ⌜ Filled (lineOf (modeAt (blockNumber b)) (fieldAt (blockNumber b))) [] (now lines) (subsets (modeAt (blockNumber b))) ⌝ }
+    requires { ⌜ Factors (colourFactor (modeAt (blockNumber b)) (fieldAt (blockNumber b))) (now colours) 16 ⌝ }
+    requires { ⌜ Factors (alphaFactor (modeAt (blockNumber b)) (fieldAt (blockNumber b))) (now alphas) 16 ⌝ }
     ensures { λ _. ⌜ now (out .exit) ≡ texelBytes (texelOf (modeAt (blockNumber b)) (fieldAt (blockNumber b))) ⌝ }
 {
-    let mut colours = colour_set(b, f);
-    let mut alphas = alpha_set(b, f);
-    let mut i: u32 = 0;
+    let mut i: usize = 0;
     while i < 16 {
         put(
             out,
-            (4 * i) as usize,
-            sum_at(b, f, lines, colours, alphas, i),
+            4 * i,
+            sum_at(b, f, lines, colours[i], alphas[i], i as u32),
         );
-        let short = bc7_layout::anchor_in(f.plan, i);
-        colours = behind(colours, short);
-        alphas = behind(alphas, short);
         i += 1;
     }
 }
@@ -217,6 +261,13 @@ pub fn decode_into(b: PhysicalBlock, out: &mut [u8; 64]) -> u8
     }
     let f = bc7_ends::frame_of(b, m);
     let lines = bc7_ends::lines_of(b, f);
-    paint(b, f, &lines, out);
+    let colours = colour_factors(b, f);
+    let row = f.row;
+    if row.secondary == 0 {
+        paint(b, f, &lines, &colours, &colours, out);
+        return 0;
+    }
+    let alphas = alpha_factors(b, f);
+    paint(b, f, &lines, &colours, &alphas, out);
     0
 }

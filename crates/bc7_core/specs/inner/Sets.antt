@@ -1,13 +1,15 @@
 -- The two sets of indices while a block's texels are painted.
 -- Assumes nothing.
 use mathlib.Core.Path.{_≡_}
-use Prim.Native.Nat.{ℕ, _+_, _-_, _/_, _^_, _<_}
+use Prim.Native.Nat.{ℕ, _+_, _-_, _/_, _^_, _≤_, _<_}
+use mathlib.Core.List.{List}
+use lib.ListN.{getD}
 use lib.Dec.{eqb, ltb}
 use Rattle.laws.specs.Choice.{pick, both, either}
 use Rattle.bits.specs.Field.{field}
 use Rattle.bc7_layout.specs.Modes.{indexBits, secondaryBits, selectionBits}
 use Rattle.bc7_layout.specs.Layout.{placeOf, modeAt, partitionAt, fieldAt}
-use Rattle.bc7_block.specs.Picture.{texelOf}
+use Rattle.bc7_block.specs.Picture.{factorOf, texelOf}
 use Rattle.bc7_ends.specs.inner.Lanes.{laneByte}
 use Rattle.bc7_core.specs.declared.IndexSet.{IndexSet}
 
@@ -44,6 +46,16 @@ pub data SetIn : ℕ → ℕ → Type 0 where
 -- a set without its next index, which lacks so many bits
 unfoldable pub behindOf : IndexSet → ℕ → IndexSet
 behindOf s short = record { first = s .first; bits = s .bits; rest = s .rest / 2 ^ (s .bits - short) }
+
+-- the factor of index i of a set of the block
+unfoldable pub setFactor : ℕ → ℕ → ℕ → ℕ
+unfolding setBits
+setFactor B k i = factorOf (setBits (modeAt B) k) (fieldAt B (k + i))
+
+-- the first n numbers of a list are these factors, none above 64
+pub record Factors (g : ℕ → ℕ) (l : List ℕ) (n : ℕ) : Type 0 where
+  pub each : (i : ℕ) → i < n → getD l i 0 ≡ g i
+  pub small : (i : ℕ) → i < n → getD l i 0 ≤ 64
 
 -- the bytes of a sum are the channels of texel i
 abbrev pub Shows : ℕ → ℕ → (ℕ → ℕ) → ℕ → Type 0
