@@ -28,10 +28,9 @@ use Rattle.block_levels.proofs.Levels.{points-le}
 use Rattle.weight_grid.proofs.Reading.{read-lt}
 use Rattle.interpolation.specs.declared.Texel.{Texel}
 use Rattle.interpolation.specs.declared.Kind.{Kind}
-use Rattle.interpolation.specs.inner.Line.{lineTexel}
 use Rattle.texel.specs.Meaning.{channel}
 use Rattle.block_core.specs.declared.Frame.{Frame}
-use Rattle.block_core.specs.inner.Prepared.{texelAt, texelIn}
+use Rattle.block_core.specs.inner.Prepared.{texelOn, texelAt, texelIn}
 use Rattle.block_core.specs.inner.Held.{numberIn, painted}
 
 -- the buffer `old` with the first n numbers of texels given by their place: the invariant of painting
@@ -123,7 +122,7 @@ pub told : (kind : Kind) (g : WeightGrid) (component : ℕ) (points : List Level
     (firstLevel (getD points (n + below) noPoint)) (firstLevel (getD points (n + below + right) noPoint))
     → secondLevel both ≡ blendOf (gs % 16) (gt % 16) (secondLevel (getD points n noPoint)) (secondLevel (getD points (n + right) noPoint))
     (secondLevel (getD points (n + below) noPoint)) (secondLevel (getD points (n + below + right) noPoint))
-    → t ≡ lineTexel kind (getD lines p []) (firstLevel both) (secondLevel both) component → t ≡ texelIn kind g component points lines seeds partitions f x y
+    → t ≡ texelOn kind (getD lines p []) (firstLevel both) (secondLevel both) component → t ≡ texelIn kind g component points lines seeds partitions f x y
 unfolding texelIn texelAt readOf
 told kind g component points lines seeds partitions f x y both h ew ep es et en er eb e1 e2 el =
     rw (el, e1, e2, er, eb, en, es, et, ep ∙ which-told seeds partitions y x ew h)

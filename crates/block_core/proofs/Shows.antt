@@ -43,39 +43,62 @@ use Rattle.color_endpoint.proofs.Pairs.{Bytes, table-bytes}
 use Rattle.interpolation.specs.declared.Kind.{Kind}
 use Rattle.interpolation.specs.declared.Texel.{Texel}
 use Rattle.interpolation.specs.declared.ExpandedPair.{ExpandedPair}
-use Rattle.interpolation.specs.Expansion.{noPair, expandedPair}
+use Rattle.interpolation.specs.declared.Kind.the-variants.{Unorm16, Srgb8, Float16}
+use Rattle.interpolation.specs.Expansion.{noPair, expandedPair, takesHdr}
 use Rattle.interpolation.specs.Texel.{weightOf, channelOf, texelOf}
-use Rattle.interpolation.specs.inner.Line.{lineOf}
+use Rattle.interpolation.specs.inner.Line.{lineOf, lineTexel}
+use Rattle.half_pair.specs.Pair.{noHalf, halfTableOf}
+use Rattle.half_pair.specs.Texel.{halfChannel, halfTexel}
+use Rattle.half_line.specs.inner.Line.{halfLineOf, halfTexelOn}
+use Rattle.half_line.proofs.Line.{half-line}
+use Rattle.block_levels.specs.inner.Lines.{linesBy, linesIn}
 use Rattle.interpolation.proofs.Lines.{line-texel}
 use Rattle.block_header.specs.declared.Header.{Header}
 use Rattle.block_header.specs.Counts.{weightCount, endpointCount, endpointRangeOf}
 use Rattle.block_fault.specs.Bits.{modeAt, isVoid, headerAt, endpointsFrom, endpointAt, weightAt, colourAt}
-use Rattle.block_fault.specs.Faults.{faultOf}
-use Rattle.texel.specs.Meaning.{endpointLevels, weightLevels, planeWeight, secondWeight, secondComponent, mixedTexel, texelFrom, solidTexel, magenta, channel}
+use Rattle.block_fault.specs.Faults.{hdrVoidExtent, faultOf}
+use Rattle.texel.specs.Meaning.{endpointLevels, weightLevels, planeWeight, secondWeight, secondComponent, partitionTexel, mixedTexel, texelFrom, solidTexel, errorTexel, channel}
 use Rattle.texel.specs.BlockTexel.{soundTexel, blockTexel, blockChannel, blockInto}
 use Rattle.block_core.specs.declared.Frame.{Frame}
-use Rattle.block_core.specs.inner.Prepared.{frameOf, texelAt, texelIn, Inside, ByteLevels}
+use Rattle.block_core.specs.inner.Prepared.{frameOf, texelOn, texelAt, texelIn, Inside, ByteLevels}
 use Rattle.block_core.specs.inner.Held.{numberIn, painted, Held}
 use Rattle.block_core.proofs.Frames.{inside}
-use Rattle.block_levels.proofs.Levels.{linesIn, points-le}
+use Rattle.block_levels.proofs.Levels.{points-le}
 
 -- the line of a texel's partition
-line-at : (h : Header) (ends : List Level) (small : Bool) (x y : ℕ)
-    → getD (linesIn h ends) (pick (eqb (h .partitions) 1) 0 (selectBy (seedsOf (h .index) (h .partitions) small) x y)) []
-    ≡ lineOf (getD (tableOf (h .modes) (h .partitions) ends) (partitionOf (h .index) (h .partitions) small x y 0) noPair)
+which-is : (h : Header) (small : Bool) (x y : ℕ)
+    → pick (eqb (h .partitions) 1) 0 (selectBy (seedsOf (h .index) (h .partitions) small) x y) ≡ partitionOf (h .index) (h .partitions) small x y 0
 unfolding partitionOf
-line-at h ends small x y =
-    ap (λ (p : ℕ). getD (linesIn h ends) p []) (go (eqb (h .partitions) 1) refl ∙ agrees (h .index) (h .partitions) small x y)
-    ∙ getD-tab (λ p. lineOf (getD (tableOf (h .modes) (h .partitions) ends) p noPair)) 4 _ [] (partition-lt-4 (h .index) (h .partitions) small x y 0)
-  where
-    go : (t : Bool) → eqb (h .partitions) 1 ≡ t → pick t 0 (selectBy (seedsOf (h .index) (h .partitions) small) x y) ≡ selectBy (seedsOf (h .index) (h .partitions) small) x y
-    go true e = let one = eqb-true (h .partitions) 1 e in sym (agrees (h .index) (h .partitions) small x y ∙ rw (lt-ltb (h .partitions) 2 (omega (arith, one))))
-    go false e = refl
+which-is h small x y = go (eqb (h .partitions) 1) refl ∙ agrees (h .index) (h .partitions) small x y where
+  go : (t : Bool) → eqb (h .partitions) 1 ≡ t → pick t 0 (selectBy (seedsOf (h .index) (h .partitions) small) x y) ≡ selectBy (seedsOf (h .index) (h .partitions) small) x y
+  go true e = let one = eqb-true (h .partitions) 1 e in sym (agrees (h .index) (h .partitions) small x y ∙ rw (lt-ltb (h .partitions) 2 (omega (arith, one))))
+  go false e = refl
+
+module _ (modes : List ℕ) (count : ℕ) (ends : List Level) (p : ℕ) (four : p < 4) (b : Bytes (getD (tableOf modes count ends) p noPair))
+    (first second component : ℕ) (hf : first ≤ 64) (hs : second ≤ 64) where
+  -- on a line of kinds 0 and 1
+  on-line : (kind : Kind) → lineTexel kind (getD (tab (λ k. lineOf (getD (tableOf modes count ends) k noPair)) 4) p []) first second component
+      ≡ texelOf (expandedPair kind (getD (tableOf modes count ends) p noPair)) (level first) (level second) component
+  on-line kind =
+      ap (λ (l : List ℕ). lineTexel kind l first second component) (getD-tab (λ k. lineOf (getD (tableOf modes count ends) k noPair)) 4 p [] four)
+      ∙ line-texel kind (getD (tableOf modes count ends) p noPair) first second component (b .first) (b .second) hf hs
+
+  on-kind : (kind : Kind) → texelOn kind (getD (linesBy kind modes count ends) p []) first second component
+      ≡ partitionTexel kind modes count ends p (level first) (level second) component
+  unfolding texelOn linesBy
+  on-kind Unorm16 = on-line Unorm16
+  on-kind Srgb8 = on-line Srgb8
+  on-kind Float16 =
+      ap (λ (l : List ℕ). halfTexelOn l first second component) (getD-tab (λ k. halfLineOf (getD (halfTableOf modes count ends) k noHalf)) 4 p [] four)
+      ∙ half-line (getD (halfTableOf modes count ends) p noHalf) (level first) (level second) component
 
 -- with no second component the second weight does not count
-no-second : (p : ExpandedPair) (first second third : Level) → texelOf p first second 4 ≡ texelOf p first third 4
-unfolding texelOf channelOf weightOf
-no-second p first second third = refl
+no-second : (kind : Kind) (modes : List ℕ) (count : ℕ) (ends : List Level) (p : ℕ) (first second third : Level)
+    → partitionTexel kind modes count ends p first second 4 ≡ partitionTexel kind modes count ends p first third 4
+unfolding texelOf halfTexel halfChannel channelOf weightOf
+no-second Unorm16 modes count ends p first second third = refl
+no-second Srgb8 modes count ends p first second third = refl
+no-second Float16 modes count ends p first second third = refl
 
 module _ (h : Header) (stored : ℕ → ℕ) where
   abbrev weights : List Level
@@ -142,27 +165,31 @@ module _ (fp : ℕ) (kind : Kind) (h : Header) (ends : List Level) (bytes : (k :
     last-most : read secondLevel ≤ 64
     last-most = second-most (h .grid .width) (h .grid .height) gs gt (omega (arith, l .width-low)) (omega (arith, l .height-low)) column row (weights h stored) (h .grid .planes) (most h stored) (points-le (h .grid) l n)
 
-    abbrev pair : EndpointPair
-    pair = getD (tableOf (h .modes) (h .partitions) ends) (partitionOf (h .index) (h .partitions) (isSmall fp) x y 0) noPair
+    abbrev which : ℕ
+    which = partitionOf (h .index) (h .partitions) (isSmall fp) x y 0
 
-    pair-bytes : Bytes pair
-    pair-bytes = table-bytes (h .modes) (h .partitions) ends bytes (partitionOf (h .index) (h .partitions) (isSmall fp) x y 0) noPair (partition-lt-4 (h .index) (h .partitions) (isSmall fp) x y 0)
+    four : which < 4
+    four = partition-lt-4 (h .index) (h .partitions) (isSmall fp) x y 0
+
+    abbrev shown : Level → Level → ℕ → Texel
+    shown = partitionTexel kind (h .modes) (h .partitions) ends which
 
     -- the second weight counts with two planes only
     second-told : (t : Bool) → eqb (h .grid .planes) 2 ≡ t
-        → texelOf (expandedPair kind pair) (level (infilled 0)) (level (read secondLevel)) (pick t (h .component) 4)
-        ≡ texelOf (expandedPair kind pair) (level (infilled 0)) (level (pick t (infilled 1) (infilled 0))) (pick t (h .component) 4)
-    second-told true e = ap (λ (k : ℕ). texelOf (expandedPair kind pair) (level (infilled 0)) (level k) (h .component)) (second-is (eqb-true (h .grid .planes) 2 e))
-    second-told false e = no-second (expandedPair kind pair) _ _ _
+        → shown (level (infilled 0)) (level (read secondLevel)) (pick t (h .component) 4)
+        ≡ shown (level (infilled 0)) (level (pick t (infilled 1) (infilled 0))) (pick t (h .component) 4)
+    second-told true e = ap (λ (k : ℕ). shown (level (infilled 0)) (level k) (h .component)) (second-is (eqb-true (h .grid .planes) 2 e))
+    second-told false e = no-second kind (h .modes) (h .partitions) ends which _ _ _
 
     -- what is left to do for a texel gives the texel
-    pub prepared : texelIn kind (h .grid) (secondComponent fp kind h ends (weights h stored) x y) (points h stored) (linesIn h ends) (seedsOf (h .index) (h .partitions) (isSmall fp)) (h .partitions) (frameOf fp) x y
+    pub prepared : texelIn kind (h .grid) (secondComponent fp kind h ends (weights h stored) x y) (points h stored) (linesIn kind h ends) (seedsOf (h .index) (h .partitions) (isSmall fp)) (h .partitions) (frameOf fp) x y
         ≡ mixedTexel fp kind h ends (weights h stored) x y
     unfolding texelIn texelAt frameOf mixedTexel planeWeight secondWeight secondComponent
     prepared =
-        rw (line-at h ends (isSmall fp) x y)
-        (line-texel kind pair (read firstLevel) (read secondLevel) _ (pair-bytes .first) (pair-bytes .second) first-most last-most
-        ∙ ap (λ (k : ℕ). texelOf (expandedPair kind pair) (level k) (level (read secondLevel)) (secondComponent fp kind h ends (weights h stored) x y)) first-is
+        rw (which-is h (isSmall fp) x y)
+        (on-kind (h .modes) (h .partitions) ends which four (table-bytes (h .modes) (h .partitions) ends bytes which noPair four)
+        (read firstLevel) (read secondLevel) _ first-most last-most kind
+        ∙ ap (λ (k : ℕ). shown (level k) (level (read secondLevel)) (secondComponent fp kind h ends (weights h stored) x y)) first-is
         ∙ second-told (eqb (h .grid .planes) 2) refl)
 
 one-of : (a b : ℕ) {k : ℕ} → k < a * b → 0 < a
@@ -202,7 +229,7 @@ ends-le range f k = tab-all (λ x. x .0 ≤ 255) (λ i. level (unquantEndpoint r
 pub coded-told : (fp : ℕ) (kind : Kind) (B : ℕ) (h : Header) (old : List ℕ) {l : List ℕ} → Limits (h .grid) → weightCount (h .grid) ≤ 64
     → {points : List LevelPair} {lines : List (List ℕ)} {small : Bool} {seeds : Seeds} {component : ℕ} {f : Frame}
     → points ≡ pointsOf (weightLevels (h .grid .range) (weightAt B h)) (h .grid .planes) (h .grid .width * h .grid .height)
-    → lines ≡ linesIn h (endpointLevels (endpointRangeOf h) (endpointAt B h))
+    → lines ≡ linesIn kind h (endpointLevels (endpointRangeOf h) (endpointAt B h))
     → small ≡ isSmall fp → seeds ≡ seedsOf (h .index) (h .partitions) small → component ≡ pick (eqb (h .grid .planes) 2) (h .component) 4 → f ≡ frameOf fp
     → l ≡ painted (f .width) (texelIn kind (h .grid) component points lines seeds (h .partitions) f) (f .height * f .width) old
     → l ≡ painted (widthOf fp) (texelFrom fp kind h (endpointAt B h) (weightAt B h)) (texelsOf fp) old
@@ -216,15 +243,15 @@ coded-told fp kind B h old {l} i n {points} {lines} {small} {seeds} {component} 
 -- ---- the three verdicts
 
 module _ (fp : ℕ) (kind : Kind) (B : ℕ) (x y : ℕ) where
-  pub shows-fault : (faultOf fp B ≡ 0 → ⊥) → magenta ≡ blockTexel fp kind B x y
+  pub shows-fault : (faultOf (takesHdr kind) fp B ≡ 0 → ⊥) → errorTexel kind ≡ blockTexel fp kind B x y
   unfolding blockTexel
   shows-fault h = rw (ne-eqb _ 0 h)
 
-  pub shows-void : faultOf fp B ≡ 0 → isVoid (modeAt B) ≡ true → solidTexel (colourAt B) ≡ blockTexel fp kind B x y
+  pub shows-void : faultOf (takesHdr kind) fp B ≡ 0 → isVoid (modeAt B) ≡ true → solidTexel kind (hdrVoidExtent B) (colourAt B) ≡ blockTexel fp kind B x y
   unfolding blockTexel soundTexel
   shows-void e v = rw (eq-eqb _ 0 e, v)
 
-  pub shows-coded : faultOf fp B ≡ 0 → isVoid (modeAt B) ≡ false → (h : Header) → h ≡ headerAt B
+  pub shows-coded : faultOf (takesHdr kind) fp B ≡ 0 → isVoid (modeAt B) ≡ false → (h : Header) → h ≡ headerAt B
       → texelFrom fp kind h (endpointAt B h) (weightAt B h) x y ≡ blockTexel fp kind B x y
   unfolding blockTexel soundTexel
   shows-coded e v h q = rw (eq-eqb _ 0 e, v, q)

@@ -18,11 +18,13 @@ ghost use Rattle.footprint.specs.Footprint.{widthOf, texelsOf};
 ghost use Rattle.block_header.specs.Counts.{weightCount, endpointCount, endpointRangeOf};
 ghost use Rattle.block_mode.specs.Back2D.{Limits};
 ghost use Rattle.partition.specs.inner.Seeds.{selectBy};
-ghost use Rattle.texel.specs.Meaning.{texelFrom};
+ghost use Rattle.interpolation.specs.Expansion.{takesHdr};
+ghost use Rattle.encoding.specs.Levels.{firstLevel, secondLevel};
+ghost use Rattle.texel.specs.Meaning.{errorTexel, texelFrom};
 ghost use Rattle.texel.specs.BlockTexel.{blockInto};
 ghost use Rattle.block_fault.specs.Bits.{endpointAt, weightAt};
 ghost use Rattle.block_fault.specs.Faults.{faultOf};
-ghost use Rattle.block_core.specs.inner.Prepared.{frameOf, texelIn, Inside, ByteLevels, halves};
+ghost use Rattle.block_core.specs.inner.Prepared.{frameOf, texelOn, texelIn, Inside, ByteLevels, halves};
 ghost use Rattle.block_core.specs.inner.Held.{painted};
 
 // A footprint's sides and the scale factors of a weight grid along them, once for each block.
@@ -82,6 +84,30 @@ fn put(out: &mut [u16; 576], i: usize, r: u16, g: u16, b: u16, a: u16)
     out[i + 3] = a;
 }
 
+// A texel of a kind on the numbers of its pair.
+fn mixed(kind: Kind, line: [u16; 10], weights: LevelPair, component: u8) -> Texel
+    ensures { λ r. ⌜ r ≡ texelOn kind line (firstLevel weights) (secondLevel weights) component ⌝ }
+{
+    if interpolation::takes_hdr(kind) {
+        half_line::mix_half(line, weights, component)
+    } else {
+        interpolation::mix_line(kind, line, weights, component)
+    }
+}
+
+// What every texel of a block with a fault is.
+fn error_texel(kind: Kind) -> Texel
+    ensures { λ r. ⌜ r ≡ errorTexel kind ⌝ }
+{
+    let half = interpolation::takes_hdr(kind);
+    Texel {
+        r: 65535,
+        g: if half { 65535 } else { 0 },
+        b: 65535,
+        a: 65535,
+    }
+}
+
 // All texels, row by row; the row's partitions are found at once. Only points of the grid are read: at the last column or row a point stands
 // for its neighbour outside, whose factor is 0.
 fn paint(
@@ -89,7 +115,7 @@ fn paint(
     g: WeightGrid,
     component: u8,
     points: [LevelPair; 64],
-    lines: &[[u16; 8]; 4],
+    lines: &[[u16; 10]; 4],
     seeds: Seeds,
     partitions: u8,
     f: Frame,
@@ -117,7 +143,7 @@ fn paint(
             let p11 = points[n + below + right];
             let both = weight_grid::infill_both(gs, gt, p00, p01, p10, p11);
             let line = lines[which[x as usize] as usize];
-            let t = interpolation::mix_line(kind, line, both, component);
+            let t = mixed(kind, line, both, component);
             put(out, place(f.width, x, y), t.r, t.g, t.b, t.a);
             x += 1;
         }
@@ -147,7 +173,7 @@ fn paint_coded(block: PhysicalBlock, s: Settings, fp: u8, kind: Kind, out: &mut 
     let h = s.header;
     let g = h.grid;
     let points = block_levels::points_of(block, g);
-    let lines = block_levels::lines_of(block, h, s.numbers, s.range);
+    let lines = block_levels::lines_of(block, h, kind, s.numbers, s.range);
     let seeds = partition::partition_seeds(h.index, h.partitions, footprint::is_small(fp));
     paint(
         kind,
@@ -164,25 +190,19 @@ fn paint_coded(block: PhysicalBlock, s: Settings, fp: u8, kind: Kind, out: &mut 
 
 // What `decode_into` does, from the halves of a block: as two numbers they need no copy in memory.
 fn decode_halves(lo: u64, hi: u64, fp: u8, kind: Kind, out: &mut [u16; 576]) -> u8
-    ensures { λ r. ⌜ r ≡ faultOf fp (blockNumber (halves lo hi)) ⌝ }
+    ensures { λ r. ⌜ r ≡ faultOf (takesHdr kind) fp (blockNumber (halves lo hi)) ⌝ }
     ensures { λ r. ⌜ (length (now (out .entry)) ≡ 576 → now (out .exit) ≡ blockInto fp kind (blockNumber (halves lo hi)) (now (out .entry))) ⌝ }
 {
     let block = PhysicalBlock { lo, hi };
-    let s = block_fault::read_settings(block, fp);
+    let s = block_fault::read_settings(interpolation::takes_hdr(kind), block, fp);
     let v = s.verdict;
     match v {
         Verdict::Fault(n) => {
-            let t = Texel {
-                r: 65535,
-                g: 0,
-                b: 65535,
-                a: 65535,
-            };
-            flood(t, fp, out);
+            flood(error_texel(kind), fp, out);
             n
         }
         Verdict::VoidExtent => {
-            flood(block_levels::colours(block), fp, out);
+            flood(block_levels::colours(kind, block), fp, out);
             0
         }
         Verdict::Coded => {
@@ -195,7 +215,7 @@ fn decode_halves(lo: u64, hi: u64, fp: u8, kind: Kind, out: &mut [u16; 576]) -> 
 // The numbers of a block, 16 bits each, into the first 4 * texels places of a lent buffer, whose other places stay as they were (all of
 // them at a footprint above 13, which has no texels); answers its fault, 0 for none.
 pub fn decode_into(block: PhysicalBlock, fp: u8, kind: Kind, out: &mut [u16; 576]) -> u8
-    ensures { λ r. ⌜ r ≡ faultOf fp (blockNumber block) ⌝ }
+    ensures { λ r. ⌜ r ≡ faultOf (takesHdr kind) fp (blockNumber block) ⌝ }
     ensures { λ r. ⌜ (length (now (out .entry)) ≡ 576 → now (out .exit) ≡ blockInto fp kind (blockNumber block) (now (out .entry))) ⌝ }
 {
     decode_halves(block.lo, block.hi, fp, kind, out)

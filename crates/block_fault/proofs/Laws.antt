@@ -1,7 +1,7 @@
 -- The faults of a void extent one by one, and the stages of a coded block.
 -- Assumes nothing.
 use mathlib.Core.Path.{_≡_, refl, sym, ap, _∙_}
-use mathlib.Core.Bool.{Bool, true, false}
+use mathlib.Core.Bool.{Bool, true, false, not}
 use mathlib.Core.List.{List, [], _∷_}
 use Prim.Native.Nat.{ℕ, _+_, _-_, _*_, _/_, _%_, _^_, _≤_, _<_, min}
 use native.Mathlib.Nat.{lt-of-lt-of-le}
@@ -27,24 +27,24 @@ pub four-extents : (B : ℕ) {s0 s1 t0 t1 : ℕ} → s0 ≡ extentAt B 0 → s1 
 unfolding badExtents
 four-extents B e0 e1 e2 e3 = rw (e0, e1, e2, e3)
 
-module _ (B : ℕ) where
-  pub void-bits : (field B 10 2 ≡ 3 → ⊥) → 12 ≡ firstOf (voidReasons B)
+module _ (hdr : Bool) (B : ℕ) where
+  pub void-bits : (field B 10 2 ≡ 3 → ⊥) → 12 ≡ firstOf (voidReasons hdr B)
   unfolding voidReasons badVoidExtent
   void-bits h = rw (ne-eqb (field B 10 2) 3 h)
 
   module _ (e : field B 10 2 ≡ 3) where
-    pub void-extents : badExtents (extentAt B) ≡ true → 12 ≡ firstOf (voidReasons B)
+    pub void-extents : badExtents (extentAt B) ≡ true → 12 ≡ firstOf (voidReasons hdr B)
     unfolding voidReasons badVoidExtent
     void-extents h = rw (eq-eqb (field B 10 2) 3 e, h)
 
     module _ (f : badExtents (extentAt B) ≡ false) where
-      pub void-hdr : field B 9 1 ≡ 1 → 13 ≡ firstOf (voidReasons B)
-      unfolding voidReasons badVoidExtent hdrVoidExtent
-      void-hdr h = rw (eq-eqb (field B 10 2) 3 e, f, eq-eqb (field B 9 1) 1 h)
+      pub void-hdr : both (not hdr) (hdrVoidExtent B) ≡ true → 13 ≡ firstOf (voidReasons hdr B)
+      unfolding voidReasons badVoidExtent
+      void-hdr h = rw (eq-eqb (field B 10 2) 3 e, f, h)
 
-      pub void-sound : (field B 9 1 ≡ 1 → ⊥) → 0 ≡ firstOf (voidReasons B)
-      unfolding voidReasons badVoidExtent hdrVoidExtent
-      void-sound h = rw (eq-eqb (field B 10 2) 3 e, f, ne-eqb (field B 9 1) 1 h)
+      pub void-sound : both (not hdr) (hdrVoidExtent B) ≡ false → 0 ≡ firstOf (voidReasons hdr B)
+      unfolding voidReasons badVoidExtent
+      void-sound h = rw (eq-eqb (field B 10 2) 3 e, f, h)
 
 -- ---- the mode of a partition
 

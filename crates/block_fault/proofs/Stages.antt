@@ -46,7 +46,7 @@ staged false true c d rest = refl
 staged false false true d rest = refl
 staged false false false d rest = refl
 
-module _ (fp B : ℕ) (g : WeightGrid) (m : modeAt B ≡ Grid g) where
+module _ (hdr : Bool) (fp B : ℕ) (g : WeightGrid) (m : modeAt B ≡ Grid g) where
   pub header-is : headerAt B ≡ headerWith B g (partitionsAt B) (selectorAt B (partitionsAt B))
   unfolding headerAt
   header-is = rw m
@@ -54,83 +54,83 @@ module _ (fp B : ℕ) (g : WeightGrid) (m : modeAt B ≡ Grid g) where
   header-grid : headerAt B .grid ≡ g
   header-grid = made-grid B g _ _ header-is
 
-  fault-first : faultOf fp B
-      ≡ pick (eqb (gridFault fp (headerAt B .grid)) 0) (pick (fourWithTwoPlanes (headerAt B)) 17 (endpointFault (headerAt B))) (gridFault fp (headerAt B .grid))
+  fault-first : faultOf hdr fp B
+      ≡ pick (eqb (gridFault fp (headerAt B .grid)) 0) (pick (fourWithTwoPlanes (headerAt B)) 17 (endpointFault hdr (headerAt B))) (gridFault fp (headerAt B .grid))
   unfolding faultOf modeReasons gridFault endpointFault
   fault-first =
       rw m
       (staged (gridTooLarge fp (headerAt B .grid)) (tooManyWeights (headerAt B .grid)) (weightBitsOutside (headerAt B .grid)) (fourWithTwoPlanes (headerAt B))
-      (firstOf (endpointReasons (headerAt B) [])))
+      (firstOf (endpointReasons hdr (headerAt B) [])))
 
-  pub fault-staged : faultOf fp B ≡ pick (eqb (gridFault fp g) 0) (pick (fourWithTwoPlanes (headerAt B)) 17 (endpointFault (headerAt B))) (gridFault fp g)
+  pub fault-staged : faultOf hdr fp B ≡ pick (eqb (gridFault fp g) 0) (pick (fourWithTwoPlanes (headerAt B)) 17 (endpointFault hdr (headerAt B))) (gridFault fp g)
   fault-staged =
-      fault-first ∙ ap (λ (k : WeightGrid). pick (eqb (gridFault fp k) 0) (pick (fourWithTwoPlanes (headerAt B)) 17 (endpointFault (headerAt B))) (gridFault fp k)) header-grid
+      fault-first ∙ ap (λ (k : WeightGrid). pick (eqb (gridFault fp k) 0) (pick (fourWithTwoPlanes (headerAt B)) 17 (endpointFault hdr (headerAt B))) (gridFault fp k)) header-grid
 
   four-is : fourWithTwoPlanes (headerAt B) ≡ both (eqb (g .planes) 2) (eqb (partitionsAt B) 4)
   unfolding fourWithTwoPlanes headerWith
   four-is = rw header-is
 
   -- settings with a fault, and without
-  pub settled-fault : (n : ℕ) → faultOf fp B ≡ n → (n ≡ 0 → ⊥) → bareOf (verdict.Fault n) ≡ settingsOf fp B
+  pub settled-fault : (n : ℕ) → faultOf hdr fp B ≡ n → (n ≡ 0 → ⊥) → bareOf (verdict.Fault n) ≡ settingsOf hdr fp B
   unfolding settingsOf verdictOf
   settled-fault n e h = rw (e, ne-eqb n 0 h)
 
-  pub settled-coded : faultOf fp B ≡ 0 → withHeader verdict.Coded (headerAt B) ≡ settingsOf fp B
+  pub settled-coded : faultOf hdr fp B ≡ 0 → withHeader verdict.Coded (headerAt B) ≡ settingsOf hdr fp B
   unfolding settingsOf verdictOf
   settled-coded e = rw (e, m)
 
   -- each stage that stops tells its fault
-  pub stop-grid : {k : ℕ} {st : Stage} {v : Verdict} {r : Settings} → st ≡ stageOf (gridFault fp g) → st ≡ Stopped k → v ≡ verdictFrom st → r ≡ bareOf v → r ≡ settingsOf fp B
+  pub stop-grid : {k : ℕ} {st : Stage} {v : Verdict} {r : Settings} → st ≡ stageOf (gridFault fp g) → st ≡ Stopped k → v ≡ verdictFrom st → r ≡ bareOf v → r ≡ settingsOf hdr fp B
   stop-grid {k} es et ev er =
       let q = stage-stopped (gridFault fp g) k (sym es ∙ et) in
-      let f : faultOf fp B ≡ k = fault-staged ∙ rw (ne-eqb (gridFault fp g) 0 (q .1)) (q .0) in
+      let f : faultOf hdr fp B ≡ k = fault-staged ∙ rw (ne-eqb (gridFault fp g) 0 (q .1)) (q .0) in
       rw (er, ev, et) (settled-fault k f (λ z. q .1 (q .0 ∙ z)))
 
   module _ (pass : gridFault fp g ≡ 0) where
-    stop-planes-fault : faultOf fp B ≡ pick (fourWithTwoPlanes (headerAt B)) 17 (endpointFault (headerAt B))
+    stop-planes-fault : faultOf hdr fp B ≡ pick (fourWithTwoPlanes (headerAt B)) 17 (endpointFault hdr (headerAt B))
     stop-planes-fault = fault-staged ∙ rw pass
 
     pub stop-planes : {p k : ℕ} {st : Stage} {v : Verdict} {r : Settings} → p ≡ partitionsAt B → st ≡ stageOf (pick (both (eqb (g .planes) 2) (eqb p 4)) 17 0)
-        → st ≡ Stopped k → v ≡ verdictFrom st → r ≡ bareOf v → r ≡ settingsOf fp B
+        → st ≡ Stopped k → v ≡ verdictFrom st → r ≡ bareOf v → r ≡ settingsOf hdr fp B
     stop-planes {p} {k} ep es et ev er =
         let q = stage-stopped (pick (both (eqb (g .planes) 2) (eqb p 4)) 17 0) k (sym es ∙ et) in
         rw (er, ev, et) (settled-fault k (stop-planes-fault ∙ go (fourWithTwoPlanes (headerAt B)) (rw (ep, ← four-is)) q) (λ z. q .1 (q .0 ∙ z)))
       where
-        go : {n : ℕ} (t : Bool) → n ≡ pick t 17 0 → (n ≡ k) × (n ≡ 0 → ⊥) → pick t 17 (endpointFault (headerAt B)) ≡ k
+        go : {n : ℕ} (t : Bool) → n ≡ pick t 17 0 → (n ≡ k) × (n ≡ 0 → ⊥) → pick t 17 (endpointFault hdr (headerAt B)) ≡ k
         go true e q = sym e ∙ q .0
         go false e q = absurd (q .1 e)
 
     module _ {p : ℕ} (ep : p ≡ partitionsAt B) (ok : _≡_ {A = ℕ} (pick (both (eqb (g .planes) 2) (eqb p 4)) 17 0) 0) where
-      ends-fault : faultOf fp B ≡ endpointFault (headerAt B)
+      ends-fault : faultOf hdr fp B ≡ endpointFault hdr (headerAt B)
       ends-fault = stop-planes-fault ∙ go (fourWithTwoPlanes (headerAt B)) (sym ok ∙ rw (ep, ← four-is)) where
-        go : (t : Bool) → _≡_ {A = ℕ} 0 (pick t 17 0) → pick t 17 (endpointFault (headerAt B)) ≡ endpointFault (headerAt B)
+        go : (t : Bool) → _≡_ {A = ℕ} 0 (pick t 17 0) → pick t 17 (endpointFault hdr (headerAt B)) ≡ endpointFault hdr (headerAt B)
         go true e = absurd (omega arith)
         go false e = refl
 
       pub header-read : {h : Header} → h ≡ headerWith B g p (selectorAt B p) → h ≡ headerAt B
       header-read e = e ∙ rw ep (sym header-is)
 
-      pub stop-ends : {h : Header} {k : ℕ} {st : Stage} {v : Verdict} {r : Settings} → h ≡ headerWith B g p (selectorAt B p) → st ≡ stageOf (endpointFault h)
-          → st ≡ Stopped k → v ≡ verdictFrom st → r ≡ bareOf v → r ≡ settingsOf fp B
+      pub stop-ends : {h : Header} {k : ℕ} {st : Stage} {v : Verdict} {r : Settings} → h ≡ headerWith B g p (selectorAt B p) → st ≡ stageOf (endpointFault hdr h)
+          → st ≡ Stopped k → v ≡ verdictFrom st → r ≡ bareOf v → r ≡ settingsOf hdr fp B
       stop-ends {h} {k} eh es et ev er =
-          let q = stage-stopped (endpointFault h) k (sym es ∙ et) in
-          rw (er, ev, et) (settled-fault k (ends-fault ∙ ap endpointFault (sym (header-read eh)) ∙ q .0) (λ z. q .1 (q .0 ∙ z)))
+          let q = stage-stopped (endpointFault hdr h) k (sym es ∙ et) in
+          rw (er, ev, et) (settled-fault k (ends-fault ∙ ap (endpointFault hdr) (sym (header-read eh)) ∙ q .0) (λ z. q .1 (q .0 ∙ z)))
 
-      pub pass-ends : {h : Header} {st : Stage} → h ≡ headerWith B g p (selectorAt B p) → st ≡ stageOf (endpointFault h)
-          → st ≡ Passed → withHeader verdict.Coded h ≡ settingsOf fp B
+      pub pass-ends : {h : Header} {st : Stage} → h ≡ headerWith B g p (selectorAt B p) → st ≡ stageOf (endpointFault hdr h)
+          → st ≡ Passed → withHeader verdict.Coded h ≡ settingsOf hdr fp B
       pass-ends {h} eh es et =
-          rw (header-read eh) (settled-coded (ends-fault ∙ ap endpointFault (sym (header-read eh)) ∙ stage-passed (endpointFault h) (sym es ∙ et)))
+          rw (header-read eh) (settled-coded (ends-fault ∙ ap (endpointFault hdr) (sym (header-read eh)) ∙ stage-passed (endpointFault hdr h) (sym es ∙ et)))
 
 -- ---- the other modes
 
-module _ (fp B : ℕ) where
-  pub settled-void : modeAt B ≡ VoidExtent → voidSettings B ≡ settingsOf fp B
+module _ (hdr : Bool) (fp B : ℕ) where
+  pub settled-void : modeAt B ≡ VoidExtent → voidSettings hdr B ≡ settingsOf hdr fp B
   unfolding voidSettings settingsOf verdictOf faultOf
-  settled-void m = rw m (go (eqb (firstOf (voidReasons B)) 0)) where
-    go : (t : Bool) → bareOf (pick t verdict.VoidExtent (verdict.Fault (firstOf (voidReasons B)))) ≡ withHeader (pick t verdict.VoidExtent (verdict.Fault (firstOf (voidReasons B)))) (headerAt B)
+  settled-void m = rw m (go (eqb (firstOf (voidReasons hdr B)) 0)) where
+    go : (t : Bool) → bareOf (pick t verdict.VoidExtent (verdict.Fault (firstOf (voidReasons hdr B)))) ≡ withHeader (pick t verdict.VoidExtent (verdict.Fault (firstOf (voidReasons hdr B)))) (headerAt B)
     go true = refl
     go false = refl
 
-  pub settled-reserved : modeAt B ≡ Reserved → bareOf (verdict.Fault 11) ≡ settingsOf fp B
+  pub settled-reserved : modeAt B ≡ Reserved → bareOf (verdict.Fault 11) ≡ settingsOf hdr fp B
   unfolding settingsOf verdictOf faultOf modeReasons
   settled-reserved m = rw m

@@ -34,42 +34,42 @@ a-grid VoidExtent v r = let z : _≡_ {A = Bool} true false = v in absurd (let w
 a-grid Reserved v r = let z : _≡_ {A = Bool} true false = r in absurd (let w : _≡_ {A = ℕ} 0 1 = cc in omega arith)
 a-grid (Grid g) v r = refl
 
-module _ (fp B : ℕ) where
-  pub settings-verdict : settingsOf fp B .verdict ≡ verdictOf fp B
+module _ (hdr : Bool) (fp B : ℕ) where
+  pub settings-verdict : settingsOf hdr fp B .verdict ≡ verdictOf hdr fp B
   unfolding settingsOf
-  settings-verdict = header-verdict (verdictOf fp B) (headerAt B)
+  settings-verdict = header-verdict (verdictOf hdr fp B) (headerAt B)
 
-  pub told-fault : (n : ℕ) → verdictOf fp B ≡ verdict.Fault n → (faultOf fp B ≡ n) × (faultOf fp B ≡ 0 → ⊥)
+  pub told-fault : (n : ℕ) → verdictOf hdr fp B ≡ verdict.Fault n → (faultOf hdr fp B ≡ n) × (faultOf hdr fp B ≡ 0 → ⊥)
   unfolding verdictOf
-  told-fault n e = go (eqb (faultOf fp B) 0) (isVoid (modeAt B)) refl e where
-    go : (t u : Bool) → eqb (faultOf fp B) 0 ≡ t → pick t (pick u verdict.VoidExtent verdict.Coded) (verdict.Fault (faultOf fp B)) ≡ verdict.Fault n → (faultOf fp B ≡ n) × (faultOf fp B ≡ 0 → ⊥)
+  told-fault n e = go (eqb (faultOf hdr fp B) 0) (isVoid (modeAt B)) refl e where
+    go : (t u : Bool) → eqb (faultOf hdr fp B) 0 ≡ t → pick t (pick u verdict.VoidExtent verdict.Coded) (verdict.Fault (faultOf hdr fp B)) ≡ verdict.Fault n → (faultOf hdr fp B ≡ n) × (faultOf hdr fp B ≡ 0 → ⊥)
     go true true q r = absurd (let z : _≡_ {A = ℕ} 0 1 = cc in omega arith)
     go true false q r = absurd (let z : _≡_ {A = ℕ} 0 1 = cc in omega arith)
-    go false u q r = (cc, eqb-false (faultOf fp B) 0 q)
+    go false u q r = (cc, eqb-false (faultOf hdr fp B) 0 q)
 
-  pub told-void : verdictOf fp B ≡ verdict.VoidExtent → (faultOf fp B ≡ 0) × (isVoid (modeAt B) ≡ true)
+  pub told-void : verdictOf hdr fp B ≡ verdict.VoidExtent → (faultOf hdr fp B ≡ 0) × (isVoid (modeAt B) ≡ true)
   unfolding verdictOf
-  told-void e = go (eqb (faultOf fp B) 0) (isVoid (modeAt B)) refl refl e where
-    go : (t u : Bool) → eqb (faultOf fp B) 0 ≡ t → isVoid (modeAt B) ≡ u → pick t (pick u verdict.VoidExtent verdict.Coded) (verdict.Fault (faultOf fp B)) ≡ verdict.VoidExtent → (faultOf fp B ≡ 0) × (isVoid (modeAt B) ≡ true)
-    go true true q w r = (eqb-true (faultOf fp B) 0 q, w)
+  told-void e = go (eqb (faultOf hdr fp B) 0) (isVoid (modeAt B)) refl refl e where
+    go : (t u : Bool) → eqb (faultOf hdr fp B) 0 ≡ t → isVoid (modeAt B) ≡ u → pick t (pick u verdict.VoidExtent verdict.Coded) (verdict.Fault (faultOf hdr fp B)) ≡ verdict.VoidExtent → (faultOf hdr fp B ≡ 0) × (isVoid (modeAt B) ≡ true)
+    go true true q w r = (eqb-true (faultOf hdr fp B) 0 q, w)
     go true false q w r = absurd (let z : _≡_ {A = ℕ} 0 1 = cc in omega arith)
     go false u q w r = absurd (let z : _≡_ {A = ℕ} 0 1 = cc in omega arith)
 
-  pub told-coded : verdictOf fp B ≡ verdict.Coded → (faultOf fp B ≡ 0) × (isVoid (modeAt B) ≡ false)
+  pub told-coded : verdictOf hdr fp B ≡ verdict.Coded → (faultOf hdr fp B ≡ 0) × (isVoid (modeAt B) ≡ false)
   unfolding verdictOf
-  told-coded e = go (eqb (faultOf fp B) 0) (isVoid (modeAt B)) refl refl e where
-    go : (t u : Bool) → eqb (faultOf fp B) 0 ≡ t → isVoid (modeAt B) ≡ u → pick t (pick u verdict.VoidExtent verdict.Coded) (verdict.Fault (faultOf fp B)) ≡ verdict.Coded → (faultOf fp B ≡ 0) × (isVoid (modeAt B) ≡ false)
+  told-coded e = go (eqb (faultOf hdr fp B) 0) (isVoid (modeAt B)) refl refl e where
+    go : (t u : Bool) → eqb (faultOf hdr fp B) 0 ≡ t → isVoid (modeAt B) ≡ u → pick t (pick u verdict.VoidExtent verdict.Coded) (verdict.Fault (faultOf hdr fp B)) ≡ verdict.Coded → (faultOf hdr fp B ≡ 0) × (isVoid (modeAt B) ≡ false)
     go true true q w r = absurd (let z : _≡_ {A = ℕ} 0 1 = cc in omega arith)
-    go true false q w r = (eqb-true (faultOf fp B) 0 q, w)
+    go true false q w r = (eqb-true (faultOf hdr fp B) 0 q, w)
     go false u q w r = absurd (let z : _≡_ {A = ℕ} 0 1 = cc in omega arith)
 
-  pub coded-header : verdictOf fp B ≡ verdict.Coded → settingsOf fp B .header ≡ headerAt B
+  pub coded-header : verdictOf hdr fp B ≡ verdict.Coded → settingsOf hdr fp B .header ≡ headerAt B
   unfolding settingsOf
   coded-header e = rw e
 
   -- the numbers that the settings of a coded block carry
-  pub coded-numbers : settingsOf fp B .verdict ≡ verdict.Coded
-      → (settingsOf fp B .numbers ≡ endpointCount (settingsOf fp B .header)) × (settingsOf fp B .range ≡ endpointRangeOf (settingsOf fp B .header))
+  pub coded-numbers : settingsOf hdr fp B .verdict ≡ verdict.Coded
+      → (settingsOf hdr fp B .numbers ≡ endpointCount (settingsOf hdr fp B .header)) × (settingsOf hdr fp B .range ≡ endpointRangeOf (settingsOf hdr fp B .header))
   unfolding settingsOf
   coded-numbers e = rw (sym settings-verdict ∙ e) (refl, refl)
 
@@ -79,14 +79,14 @@ module _ (fp B : ℕ) where
   passed false n rest h e = (refl, e)
 
   -- the grid of a coded block without fault is within the limits of the modes
-  pub coded-limits : faultOf fp B ≡ 0 → isVoid (modeAt B) ≡ false → Limits (headerAt B .grid)
+  pub coded-limits : faultOf hdr fp B ≡ 0 → isVoid (modeAt B) ≡ false → Limits (headerAt B .grid)
   unfolding faultOf modeReasons headerAt headerWith modeAt
   coded-limits e v =
       let b = passed (isReserved (modeAt B)) 11 _ (λ z. omega arith) (rw v at e) in
       any-limits (field B 0 11) (gridIn (modeAt B)) (a-grid (modeAt B) v (b .0))
 
   -- a coded block without fault has at most 64 weights and 18 endpoint numbers
-  pub coded-counts : faultOf fp B ≡ 0 → isVoid (modeAt B) ≡ false → (weightCount (headerAt B .grid) ≤ 64) × (endpointCount (headerAt B) ≤ 18)
+  pub coded-counts : faultOf hdr fp B ≡ 0 → isVoid (modeAt B) ≡ false → (weightCount (headerAt B .grid) ≤ 64) × (endpointCount (headerAt B) ≤ 18)
   unfolding faultOf modeReasons tooManyWeights tooManyEndpoints
   coded-counts e v =
       let h = headerAt B in

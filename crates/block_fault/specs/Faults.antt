@@ -6,7 +6,7 @@ use mathlib.Core.List.{List, [], _∷_}
 use lib.Dec.{eqb, ltb}
 use Rattle.laws.specs.Choice.{pick, both, either, all}
 use Rattle.bits.specs.Field.{field}
-use Rattle.block_header.specs.Reasons.{gridReasons, endpointReasons}
+use Rattle.block_header.specs.Reasons.{someHdr, gridReasons, endpointReasons}
 use Rattle.laws.specs.Reasons.{Reason, when, firstOf}
 use Rattle.block_fault.specs.Bits.{modeAt, isVoid, isReserved, headerAt, extentAt}
 
@@ -24,14 +24,19 @@ unfoldable pub hdrVoidExtent : ℕ → Bool
 unfolding field
 hdrVoidExtent B = eqb (field B 9 1) 1
 
-unfoldable pub voidReasons : ℕ → List Reason
-voidReasons B = when (badVoidExtent B) 12 ∷ when (hdrVoidExtent B) 13 ∷ []
+-- HDR taken or not: where it is taken there is no 13
+unfoldable pub voidReasons : Bool → ℕ → List Reason
+voidReasons hdr B = when (badVoidExtent B) 12 ∷ when (both (not hdr) (hdrVoidExtent B)) 13 ∷ []
 
 -- 11: "reserved block mode", then 14 to 20
-unfoldable pub modeReasons : ℕ → ℕ → List Reason
-modeReasons fp B = when (isReserved (modeAt B)) 11 ∷ gridReasons fp (headerAt B) (endpointReasons (headerAt B) [])
+unfoldable pub modeReasons : Bool → ℕ → ℕ → List Reason
+modeReasons hdr fp B = when (isReserved (modeAt B)) 11 ∷ gridReasons fp (headerAt B) (endpointReasons hdr (headerAt B) [])
 
--- the fault of the block B at a footprint, 0 for none
-unfoldable pub faultOf : ℕ → ℕ → ℕ
+-- the fault of the block B at a footprint, HDR taken or not, 0 for none
+unfoldable pub faultOf : Bool → ℕ → ℕ → ℕ
 unfolding modeAt voidReasons modeReasons
-faultOf fp B = pick (isVoid (modeAt B)) (firstOf (voidReasons B)) (firstOf (modeReasons fp B))
+faultOf hdr fp B = pick (isVoid (modeAt B)) (firstOf (voidReasons hdr B)) (firstOf (modeReasons hdr fp B))
+
+-- what makes a block HDR: bit 9 of a void extent, or a mode
+unfoldable pub hdrBlock : ℕ → Bool
+hdrBlock B = pick (isVoid (modeAt B)) (hdrVoidExtent B) (someHdr (headerAt B))

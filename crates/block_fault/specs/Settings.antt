@@ -1,6 +1,7 @@
 -- What a block's bits come to once its fault is known: a fault, a void extent, or the settings of a coded block.
 -- Assumes nothing.
 use Prim.Native.Nat.{ℕ}
+use mathlib.Core.Bool.{Bool}
 use mathlib.Core.List.{[], _∷_}
 use lib.Dec.{eqb}
 use Rattle.laws.specs.Choice.{pick}
@@ -12,8 +13,8 @@ use Rattle.block_fault.specs.declared.Settings.{Settings}
 use Rattle.block_fault.specs.Bits.{modeAt, isVoid, headerAt}
 use Rattle.block_fault.specs.Faults.{faultOf}
 
-unfoldable pub verdictOf : ℕ → ℕ → Verdict
-verdictOf fp B = pick (eqb (faultOf fp B) 0) (pick (isVoid (modeAt B)) VoidExtent Coded) (Fault (faultOf fp B))
+unfoldable pub verdictOf : Bool → ℕ → ℕ → Verdict
+verdictOf hdr fp B = pick (eqb (faultOf hdr fp B) 0) (pick (isVoid (modeAt B)) VoidExtent Coded) (Fault (faultOf hdr fp B))
 
 abbrev pub zeroHeader : Header
 zeroHeader = record {
@@ -34,6 +35,6 @@ withHeader Coded h = record { verdict = Coded; header = h; numbers = endpointCou
 withHeader VoidExtent h = bareOf VoidExtent
 withHeader (Fault n) h = bareOf (Fault n)
 
--- the settings of the block B at a footprint, all 0 unless it is a coded block without fault
-unfoldable pub settingsOf : ℕ → ℕ → Settings
-settingsOf fp B = withHeader (verdictOf fp B) (headerAt B)
+-- the settings of the block B at a footprint, HDR taken or not, all 0 unless it is a coded block without fault
+unfoldable pub settingsOf : Bool → ℕ → ℕ → Settings
+settingsOf hdr fp B = withHeader (verdictOf hdr fp B) (headerAt B)

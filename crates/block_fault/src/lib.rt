@@ -6,6 +6,7 @@ use block_mode::BlockMode;
 use block_mode::WeightGrid;
 ghost use mathlib.Core.Path.{_≡_};
 ghost use Prim.Native.Nat.{_+_, _*_, _^_, _≤_, _<_};
+ghost use mathlib.Core.Bool.{not};
 ghost use mathlib.Core.List.{[], _∷_};
 ghost use lib.Dec.{eqb, ltb};
 ghost use lib.ListN.{getD};
@@ -18,7 +19,7 @@ ghost use Rattle.block_mode.specs.Back2D.{Limits};
 ghost use Rattle.block_mode.specs.declared.BlockMode.the-variants.{Grid};
 ghost use Rattle.laws.specs.Reasons.{firstOf};
 ghost use Rattle.block_fault.specs.Bits.{modeAt, modeOf, headerWith, selectorAt, extentAt, endpointsFrom};
-ghost use Rattle.block_fault.specs.Faults.{badExtents, voidReasons};
+ghost use Rattle.block_fault.specs.Faults.{badExtents, hdrVoidExtent, voidReasons};
 ghost use Rattle.block_header.specs.Stages.{stageOf};
 ghost use Rattle.block_fault.specs.Settings.{bareOf, settingsOf};
 ghost use Rattle.block_fault.specs.inner.Stages.{verdictFrom, stageIn, voidSettings};
@@ -93,9 +94,19 @@ fn bad_extents(s0: u64, s1: u64, t0: u64, t1: u64) -> bool
     !either(ones, both(s0 < s1, t0 < t1))
 }
 
+// Whether a void extent is refused for its bit 9, HDR taken or not.
+fn hdr_refused(hdr: bool, b: PhysicalBlock) -> bool
+    ensures { λ r. ⌜ r ≡ both (not hdr) (hdrVoidExtent (blockNumber b)) ⌝ }
+{
+    if hdr {
+        return false;
+    }
+    bits::field_at(b, 9, 1) == 1
+}
+
 // The stage of a void extent: 12, then 13.
-fn void_stage(b: PhysicalBlock) -> Stage
-    ensures { λ r. ⌜ r ≡ stageOf (firstOf (voidReasons (blockNumber b))) ⌝ }
+fn void_stage(hdr: bool, b: PhysicalBlock) -> Stage
+    ensures { λ r. ⌜ r ≡ stageOf (firstOf (voidReasons hdr (blockNumber b))) ⌝ }
 {
     if bits::field_at(b, 10, 2) != 3 {
         return Stage::Stopped(12);
@@ -103,7 +114,7 @@ fn void_stage(b: PhysicalBlock) -> Stage
     if bad_extents(extent(b, 0), extent(b, 1), extent(b, 2), extent(b, 3)) {
         return Stage::Stopped(12);
     }
-    if bits::field_at(b, 9, 1) == 1 {
+    if hdr_refused(hdr, b) {
         return Stage::Stopped(13);
     }
     Stage::Passed
@@ -213,9 +224,9 @@ fn header_at(b: PhysicalBlock, g: WeightGrid, weights: u32, partitions: u8) -> H
 }
 
 // The settings of a block whose mode is the grid g: each stage's fault is told at once.
-fn coded(b: PhysicalBlock, fp: u8, g: WeightGrid) -> Settings
+fn coded(hdr: bool, b: PhysicalBlock, fp: u8, g: WeightGrid) -> Settings
     requires { ⌜ modeAt (blockNumber b) ≡ Grid g ⌝ }
-    ensures { λ r. ⌜ r ≡ settingsOf fp (blockNumber b) ⌝ }
+    ensures { λ r. ⌜ r ≡ settingsOf hdr fp (blockNumber b) ⌝ }
 {
     let weights = block_header::weight_bits(g);
     let grid = block_header::grid_stage(fp, g, weights);
@@ -230,7 +241,7 @@ fn coded(b: PhysicalBlock, fp: u8, g: WeightGrid) -> Settings
     let h = header_at(b, g, weights, partitions);
     let count = block_header::endpoint_count(h);
     let left = block_header::bits_left_with(h, weights);
-    let ends = block_header::endpoint_stage(h, count, left);
+    let ends = block_header::endpoint_stage(hdr, h, count, left);
     let Stage::Passed = ends else {
         return bare(verdict_of(ends));
     };
@@ -244,25 +255,25 @@ fn coded(b: PhysicalBlock, fp: u8, g: WeightGrid) -> Settings
     }
 }
 
-// The settings of a block, read once.
-pub fn read_settings(b: PhysicalBlock, fp: u8) -> Settings
-    ensures { λ r. ⌜ r ≡ settingsOf fp (blockNumber b) ⌝ }
+// The settings of a block, HDR taken or not, read once.
+pub fn read_settings(hdr: bool, b: PhysicalBlock, fp: u8) -> Settings
+    ensures { λ r. ⌜ r ≡ settingsOf hdr fp (blockNumber b) ⌝ }
 {
     let mode = block_mode::block_mode(bits::field_at(b, 0, 11) as u16);
     if let BlockMode::VoidExtent = mode {
-        return void_settings(b);
+        return void_settings(hdr, b);
     }
     let BlockMode::Grid(g) = mode else {
         return bare(Verdict::Fault(11));
     };
-    coded(b, fp, g)
+    coded(hdr, b, fp, g)
 }
 
 // A void extent, once its stage has passed.
-fn void_settings(b: PhysicalBlock) -> Settings
-    ensures { λ r. ⌜ r ≡ voidSettings (blockNumber b) ⌝ }
+fn void_settings(hdr: bool, b: PhysicalBlock) -> Settings
+    ensures { λ r. ⌜ r ≡ voidSettings hdr (blockNumber b) ⌝ }
 {
-    let stage = void_stage(b);
+    let stage = void_stage(hdr, b);
     let Stage::Passed = stage else {
         return bare(verdict_of(stage));
     };

@@ -19,7 +19,8 @@ use Rattle.footprint.specs.Footprint.{widthOf, heightOf}
 use Rattle.block_mode.specs.declared.WeightGrid.{WeightGrid}
 use Rattle.block_header.specs.declared.Header.{Header}
 use Rattle.block_header.specs.Counts.{weightCount, weightBits, endpointCount, bitsLeft}
-use Rattle.block_header.specs.Reasons.{gridTooLarge, tooManyWeights, weightBitsOutside, tooManyEndpoints, tooFewEndpointBits, isHdr, someHdr, gridFault, endpointFault}
+use Rattle.color_endpoint.specs.Modes.{isHdr}
+use Rattle.block_header.specs.Reasons.{gridTooLarge, tooManyWeights, weightBitsOutside, tooManyEndpoints, tooFewEndpointBits, someHdr, hdrRefused, gridFault, endpointFault}
 use Rattle.laws.specs.Reasons.{some}
 
 -- a number takes at most eleven bits
@@ -137,29 +138,29 @@ grid-bits fp g e = go (gridTooLarge fp g) (tooManyWeights g) (ltb (weightBits g)
 
 -- ---- 18 to 20, one by one
 
-module _ (h : Header) where
-  pub count-over : 18 < endpointCount h → 18 ≡ endpointFault h
+module _ (hdr : Bool) (h : Header) where
+  pub count-over : 18 < endpointCount h → 18 ≡ endpointFault hdr h
   unfolding endpointFault tooManyEndpoints
   count-over l = rw (lt-ltb _ _ l)
 
   module _ (n : endpointCount h ≤ 18) where
-    pub bits-short : bitsLeft h < (13 * endpointCount h + 4) / 5 → 19 ≡ endpointFault h
+    pub bits-short : bitsLeft h < (13 * endpointCount h + 4) / 5 → 19 ≡ endpointFault hdr h
     unfolding endpointFault tooManyEndpoints tooFewEndpointBits
     bits-short l = rw (le-ltb _ _ n, lt-ltb _ _ l)
 
     module _ (m : (13 * endpointCount h + 4) / 5 ≤ bitsLeft h) where
-      pub hdr-there : someHdr h ≡ true → 20 ≡ endpointFault h
+      pub hdr-there : hdrRefused hdr h ≡ true → 20 ≡ endpointFault hdr h
       unfolding endpointFault tooManyEndpoints tooFewEndpointBits
       hdr-there e = rw (le-ltb _ _ n, le-ltb _ _ m, e)
 
-      pub ends-sound : someHdr h ≡ false → 0 ≡ endpointFault h
+      pub ends-sound : hdrRefused hdr h ≡ false → 0 ≡ endpointFault hdr h
       unfolding endpointFault tooManyEndpoints tooFewEndpointBits
       ends-sound e = rw (le-ltb _ _ n, le-ltb _ _ m, e)
 
 -- a header without fault has at most 18 endpoint numbers
-pub ends-count : (h : Header) → endpointFault h ≡ 0 → endpointCount h ≤ 18
+pub ends-count : (hdr : Bool) (h : Header) → endpointFault hdr h ≡ 0 → endpointCount h ≤ 18
 unfolding endpointFault tooManyEndpoints
-ends-count h e = go (ltb 18 (endpointCount h)) (tooFewEndpointBits h) (someHdr h) refl e where
+ends-count hdr h e = go (ltb 18 (endpointCount h)) (tooFewEndpointBits h) (hdrRefused hdr h) refl e where
   go : (a b c : Bool) → ltb 18 (endpointCount h) ≡ a → _≡_ {A = ℕ} (pick a 18 (pick b 19 (pick c 20 0))) 0 → endpointCount h ≤ 18
   go true b c q r = absurd (omega arith)
   go false b c q r = ltb-false 18 (endpointCount h) q

@@ -1,13 +1,14 @@
 -- 01, "Numbers told to the caller": the reasons 14 to 20, which faults of blocks and refusals of sheets have in common.
 -- Assumes nothing.
 use Prim.Native.Nat.{ℕ, _+_, _*_, _/_}
-use mathlib.Core.Bool.{Bool}
+use mathlib.Core.Bool.{Bool, not}
 use mathlib.Core.List.{List, [], _∷_}
 use lib.Dec.{ltb, eqb}
 use lib.ListN.{getD}
 use Rattle.laws.specs.Choice.{both, either}
 use Rattle.laws.specs.Reasons.{Reason, when, firstOf, some}
 use Rattle.footprint.specs.Footprint.{widthOf, heightOf}
+use Rattle.color_endpoint.specs.Modes.{isHdr}
 use Rattle.block_mode.specs.declared.WeightGrid.{WeightGrid}
 use Rattle.block_header.specs.declared.Header.{Header}
 use Rattle.block_header.specs.Counts.{weightCount, weightBits, endpointCount, bitsLeft}
@@ -36,21 +37,21 @@ tooManyEndpoints h = ltb 18 (endpointCount h)
 unfoldable pub tooFewEndpointBits : Header → Bool
 tooFewEndpointBits h = ltb (bitsLeft h) ((13 * endpointCount h + 4) / 5)
 
--- modes 2, 3, 7, 11, 14 and 15 are HDR
-unfoldable pub isHdr : ℕ → Bool
-isHdr m = either (eqb m 2) (either (eqb m 3) (either (eqb m 7) (either (eqb m 11) (either (eqb m 14) (eqb m 15)))))
-
 -- 20: "any partition has mode 2, 3, 7, 11, 14 or 15"
 unfoldable pub someHdr : Header → Bool
 someHdr h = some (λ p. isHdr (getD (h .modes) p 0)) (h .partitions)
+
+-- 20 where HDR is not taken; where it is taken (02, i: "In kind 2 faults 13 and 20 don't exist") there is no such reason
+unfoldable pub hdrRefused : Bool → Header → Bool
+hdrRefused hdr h = both (not hdr) (someHdr h)
 
 -- 14 to 16, which speak of the grid alone
 unfoldable pub gridFault : ℕ → WeightGrid → ℕ
 gridFault fp g = firstOf (when (gridTooLarge fp g) 14 ∷ when (tooManyWeights g) 15 ∷ when (weightBitsOutside g) 16 ∷ [])
 
--- 18 to 20
-unfoldable pub endpointFault : Header → ℕ
-endpointFault h = firstOf (when (tooManyEndpoints h) 18 ∷ when (tooFewEndpointBits h) 19 ∷ when (someHdr h) 20 ∷ [])
+-- 18 to 20, HDR taken or not
+unfoldable pub endpointFault : Bool → Header → ℕ
+endpointFault hdr h = firstOf (when (tooManyEndpoints h) 18 ∷ when (tooFewEndpointBits h) 19 ∷ when (hdrRefused hdr h) 20 ∷ [])
 
 -- 14 to 17, in front of others
 abbrev pub gridReasons : ℕ → Header → List Reason → List Reason
@@ -59,5 +60,5 @@ gridReasons fp h rest =
     ∷ when (fourWithTwoPlanes h) 17 ∷ rest
 
 -- 18 to 20, in front of others
-abbrev pub endpointReasons : Header → List Reason → List Reason
-endpointReasons h rest = when (tooManyEndpoints h) 18 ∷ when (tooFewEndpointBits h) 19 ∷ when (someHdr h) 20 ∷ rest
+abbrev pub endpointReasons : Bool → Header → List Reason → List Reason
+endpointReasons hdr h rest = when (tooManyEndpoints h) 18 ∷ when (tooFewEndpointBits h) 19 ∷ when (hdrRefused hdr h) 20 ∷ rest

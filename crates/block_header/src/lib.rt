@@ -5,7 +5,7 @@ ghost use Prim.Native.Nat.{_≤_};
 ghost use lib.Dec.{eqb};
 ghost use Rattle.laws.specs.Choice.{pick};
 ghost use Rattle.color_endpoint.specs.Table.{numberCount};
-ghost use Rattle.block_header.specs.Reasons.{isHdr, someHdr, gridFault, endpointFault};
+ghost use Rattle.block_header.specs.Reasons.{someHdr, hdrRefused, gridFault, endpointFault};
 ghost use Rattle.block_header.specs.Stages.{stageOf, stageTold};
 ghost use Rattle.block_header.specs.Counts.{weightCount, weightBits, componentBits, indexBits, selectorBits, extraBits, endpointCount, bitsLeft, endpointRangeOf};
 
@@ -169,31 +169,31 @@ pub fn grid_fault(fp: u8, g: WeightGrid) -> u8
     stage_told(grid_stage(fp, g, weight_bits(g)))
 }
 
-// Bit m of 51340 is 1 for the HDR modes: 2, 3, 7, 11, 14 and 15.
-pub fn is_hdr(mode: u8) -> bool
-    ensures { λ r. ⌜ r ≡ isHdr mode ⌝ }
-{
-    (mode < 16) & ((51340u32 >> (mode % 16)) % 2 == 1)
-}
-
 // Whether some partition has an HDR mode; past the fourth a mode is 0, which is none.
 pub fn some_hdr(h: Header) -> bool
     ensures { λ r. ⌜ r ≡ someHdr h ⌝ }
 {
     let modes = h.modes;
     let count = h.partitions;
-    let h0 = (0 < count) & is_hdr(modes[0]);
-    let h1 = (1 < count) & is_hdr(modes[1]);
-    let h2 = (2 < count) & is_hdr(modes[2]);
-    let h3 = (3 < count) & is_hdr(modes[3]);
+    let h0 = (0 < count) & color_endpoint::is_hdr(modes[0]);
+    let h1 = (1 < count) & color_endpoint::is_hdr(modes[1]);
+    let h2 = (2 < count) & color_endpoint::is_hdr(modes[2]);
+    let h3 = (3 < count) & color_endpoint::is_hdr(modes[3]);
     h3 | (h2 | (h1 | h0))
 }
 
-// The first of 18 to 20 that holds, once the endpoint numbers and the bits left for them are known: 19 before 20, whatever partition is
-// HDR.
-pub fn endpoint_stage(h: Header, count: u32, left: u32) -> Stage
+// Whether it is a reason, HDR taken or not.
+fn hdr_refused(hdr: bool, h: Header) -> bool
+    ensures { λ r. ⌜ r ≡ hdrRefused hdr h ⌝ }
+{
+    if hdr { false } else { some_hdr(h) }
+}
+
+// The first of 18 to 20 that holds, HDR taken or not, once the endpoint numbers and the bits left for them are known: 19 before 20,
+// whatever partition is HDR.
+pub fn endpoint_stage(hdr: bool, h: Header, count: u32, left: u32) -> Stage
     requires { ⌜ (count ≡ endpointCount h) × (count ≤ 32640) × (left ≡ bitsLeft h) ⌝ }
-    ensures { λ r. ⌜ r ≡ stageOf (endpointFault h) ⌝ }
+    ensures { λ r. ⌜ r ≡ stageOf (endpointFault hdr h) ⌝ }
 {
     if 18 < count {
         return Stage::Stopped(18);
@@ -201,15 +201,15 @@ pub fn endpoint_stage(h: Header, count: u32, left: u32) -> Stage
     if left < (13 * count + 4) / 5 {
         return Stage::Stopped(19);
     }
-    if some_hdr(h) {
+    if hdr_refused(hdr, h) {
         return Stage::Stopped(20);
     }
     Stage::Passed
 }
 
 // The first of 18 to 20 that holds, 0 where none does.
-pub fn endpoint_fault(h: Header) -> u8
-    ensures { λ r. ⌜ r ≡ endpointFault h ⌝ }
+pub fn endpoint_fault(hdr: bool, h: Header) -> u8
+    ensures { λ r. ⌜ r ≡ endpointFault hdr h ⌝ }
 {
-    stage_told(endpoint_stage(h, endpoint_count(h), bits_left(h)))
+    stage_told(endpoint_stage(hdr, h, endpoint_count(h), bits_left(h)))
 }

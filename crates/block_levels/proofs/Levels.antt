@@ -34,10 +34,13 @@ use Rattle.block_fault.specs.Bits.{endpointsFrom, endpointAt}
 use Rattle.texel.specs.Meaning.{endpointLevels}
 use Rattle.endpoint_arithmetic.specs.declared.EndpointPair.{EndpointPair}
 use Rattle.endpoint_arithmetic.specs.Pair.{zeroPair}
+use Rattle.color_endpoint.specs.Modes.{pairOf}
 use Rattle.color_endpoint.specs.Table.{tableOf}
 use Rattle.color_endpoint.proofs.Laws.{table-at, entry-past}
 use Rattle.interpolation.specs.Expansion.{noPair}
 use Rattle.interpolation.specs.inner.Line.{lineOf}
+use Rattle.interpolation.specs.declared.Kind.{Kind}
+use Rattle.block_levels.specs.inner.Lines.{linesIn}
 
 -- ---- the stored endpoint number 0 has the level 0
 
@@ -168,7 +171,7 @@ lines-same modes count levels en et er =
     same k l =
         elim (decLt k count) [
           | yes p ↦ rw (lt-ltb k count p)
-          | no p ↦ rw (le-ltb k count (omega arith)) (ap lineOf (sym (table-at modes levels count k noPair l ∙ entry-past modes levels count k (omega arith))))
+          | no p ↦ rw (le-ltb k count (omega arith)) (ap lineOf (sym (table-at pairOf zeroPair modes levels count k noPair l ∙ entry-past pairOf zeroPair modes levels count k (omega arith))))
         ]
 
 -- a grid of at most 64 weights has at most 64 points
@@ -176,23 +179,18 @@ pub points-le : (g : WeightGrid) → Limits g → weightCount g ≤ 64 → g .wi
 unfolding weightCount
 points-le g l n = omega (arith, n, mul-le-mul-left (g .width * g .height) (l .planes-low))
 
--- the lines of a header's pairs
-abbrev pub linesIn : Header → List Level → List (List ℕ)
-linesIn h ends = tab (λ p. lineOf (getD (tableOf (h .modes) (h .partitions) ends) p noPair)) 4
-
 -- the levels of endpoint numbers by their range, count and place
 levelsBy : ℕ → ℕ → ℕ → ℕ → List Level
 levelsBy B range n from =
     endpointLevels range (λ i. pick (ltb i n) (number (encodingAt range) (bitsAt range) (sequenceAt (encodingAt range) (bitsAt range) B from n) i) 0)
 
-pub lines-told : (B : ℕ) (h : Header) {n from range m : ℕ} {ends : List Level} {t : List EndpointPair} {r : List (List ℕ)}
+pub lines-told : (B : ℕ) (h : Header) (kind : Kind) {n from range : ℕ} {ends : List Level} {r : List (List ℕ)}
     → n ≡ endpointCount h → from ≡ endpointsFrom (h .partitions) → range ≡ endpointRangeOf h
     → ends ≡ endpointLevels range (λ i. pick (ltb i n) (number (encodingAt range) (bitsAt range) (sequenceAt (encodingAt range) (bitsAt range) B from n) i) 0)
-    → t ≡ tableOf (h .modes) (h .partitions) ends → m ≡ min (h .partitions) 4
-    → r ≡ padded 4 m (λ p. lineOf (getD t p noPair)) (lineOf zeroPair)
-    → r ≡ linesIn h (endpointLevels (endpointRangeOf h) (endpointAt B h))
+    → r ≡ linesIn kind h ends
+    → r ≡ linesIn kind h (endpointLevels (endpointRangeOf h) (endpointAt B h))
 unfolding levelsBy endpointAt
-lines-told B h {n} {from} {range} en ef er ee et em el =
-    lines-same (h .modes) (h .partitions) _ em et el
-    ∙ ap (λ (l : List Level). linesIn h l)
+lines-told B h kind {n} {from} {range} en ef er ee el =
+    el
+    ∙ ap (λ (l : List Level). linesIn kind h l)
     (ee ∙ ap (λ (k : ℕ). levelsBy B k n from) er ∙ ap (λ (m : ℕ). levelsBy B (endpointRangeOf h) m from) en ∙ ap (levelsBy B (endpointRangeOf h) (endpointCount h)) ef)

@@ -7,13 +7,17 @@ use encoding::Level;
 use encoding::LevelPair;
 use encoding::Stored;
 use endpoint_arithmetic::EndpointPair;
+use half_pair::HalfPair;
+use interpolation::Kind;
 use interpolation::Texel;
 use quantization::Rule;
 ghost use mathlib.Core.Path.{_≡_};
 ghost use Prim.Native.Nat.{_*_, _≤_, _<_};
 ghost use lib.Dec.{ltb};
 ghost use lib.ListN.{getD};
-ghost use Rattle.laws.specs.Choice.{pick};
+ghost use mathlib.Core.Bool.{not};
+ghost use Rattle.laws.specs.Choice.{pick, both};
+ghost use Rattle.interpolation.specs.Expansion.{takesHdr};
 ghost use Rattle.laws.specs.Table.{tab, padded};
 ghost use Rattle.bits.specs.Field.{reverse};
 ghost use Rattle.bits.specs.Block.{blockNumber};
@@ -23,14 +27,17 @@ ghost use Rattle.quantization.specs.inner.Products.{byRule};
 ghost use Rattle.quantization.specs.Unquantise.{unquantEndpoint, unquantWeight};
 ghost use Rattle.block_header.specs.Counts.{weightCount, endpointCount, endpointRangeOf};
 ghost use Rattle.endpoint_arithmetic.specs.Pair.{zeroPair};
-ghost use Rattle.color_endpoint.specs.Table.{tableOf};
 ghost use Rattle.interpolation.specs.Expansion.{noPair};
 ghost use Rattle.interpolation.specs.inner.Line.{lineOf};
+ghost use Rattle.half_pair.specs.Pair.{noHalf};
+ghost use Rattle.half_line.specs.inner.Line.{halfLineOf};
 ghost use Rattle.weight_grid.specs.Cell.{level};
 ghost use Rattle.weight_grid.specs.inner.Points.{noPoint, pointOf, pointsOf};
 ghost use Rattle.block_mode.specs.Back2D.{Limits};
-ghost use Rattle.texel.specs.Meaning.{endpointLevels, weightLevels, solidTexel};
+ghost use Rattle.texel.specs.Meaning.{endpointLevels, weightLevels, solidNumber, solidTexel};
 ghost use Rattle.block_fault.specs.Bits.{endpointAt, colourAt};
+ghost use Rattle.block_fault.specs.Faults.{hdrVoidExtent};
+ghost use Rattle.block_levels.specs.inner.Lines.{linesBy, linesIn, coloursOf};
 
 // A stored number unquantised by a rule.
 fn level_by(rule: Rule, s: Stored) -> Level
@@ -99,7 +106,7 @@ fn endpoints_of(block: PhysicalBlock, from: u8, range: u8, n: u8) -> [Level; 18]
 }
 
 // The lines of the first n pairs; the others are of the pair of zeros.
-fn pair_lines(t: [EndpointPair; 4], n: usize) -> [[u16; 8]; 4]
+fn pair_lines(t: [EndpointPair; 4], n: usize) -> [[u16; 10]; 4]
     requires { ⌜ n ≤ 4 ⌝ }
     ensures { λ r. ⌜ r ≡ padded 4 n (λ p. lineOf (getD t p noPair)) (lineOf zeroPair) ⌝ }
 {
@@ -113,24 +120,87 @@ fn pair_lines(t: [EndpointPair; 4], n: usize) -> [[u16; 8]; 4]
     out
 }
 
+// The same of pairs of kind 2.
+fn half_lines(t: [HalfPair; 4]) -> [[u16; 10]; 4]
+    ensures { λ r. ⌜ r ≡ tab (λ p. halfLineOf (getD t p noHalf)) 4 ⌝ }
+{
+    [
+        half_line::half_line(t[0]),
+        half_line::half_line(t[1]),
+        half_line::half_line(t[2]),
+        half_line::half_line(t[3]),
+    ]
+}
+
+// The lines of a table's pairs, by kind.
+fn table_lines(kind: Kind, modes: [u8; 4], count: u8, levels: [Level; 18]) -> [[u16; 10]; 4]
+    ensures { λ r. ⌜ r ≡ linesBy kind modes count levels ⌝ }
+{
+    if interpolation::takes_hdr(kind) {
+        half_lines(half_pair::half_table(modes, count, levels))
+    } else {
+        pair_lines(
+            color_endpoint::endpoint_table(modes, count, levels),
+            color_endpoint::filled(count),
+        )
+    }
+}
+
 // The lines of a block's endpoint pairs, one for each partition.
-pub fn lines_of(block: PhysicalBlock, h: Header, n: u8, range: u8) -> [[u16; 8]; 4]
+pub fn lines_of(block: PhysicalBlock, h: Header, kind: Kind, n: u8, range: u8) -> [[u16; 10]; 4]
     requires { ⌜ (n ≡ endpointCount h) × (n ≤ 18) × (range ≡ endpointRangeOf h) ⌝ }
-    ensures { λ r. ⌜ r ≡ tab (λ p. lineOf (getD (tableOf (h .modes) (h .partitions) (endpointLevels (endpointRangeOf h) (endpointAt (blockNumber block) h))) p noPair)) 4 ⌝ }
+    ensures { λ r. ⌜ r ≡ linesIn kind h (endpointLevels (endpointRangeOf h) (endpointAt (blockNumber block) h)) ⌝ }
 {
     let ends = endpoints_of(block, block_fault::endpoints_from(h.partitions), range, n);
     let modes = h.modes;
-    let t = color_endpoint::endpoint_table(modes, h.partitions, ends);
-    pair_lines(t, color_endpoint::filled(h.partitions))
+    table_lines(kind, modes, h.partitions, ends)
 }
 
-// The texel of a void extent: its four colours as they stand.
-pub fn colours(block: PhysicalBlock) -> Texel
-    ensures { λ r. ⌜ r ≡ solidTexel (colourAt (blockNumber block)) ⌝ }
+// A void extent's colour, as stored or as the half float of it.
+fn solid_number(half: bool, n: u16) -> u16
+    ensures { λ r. ⌜ r ≡ solidNumber half n ⌝ }
+{
+    if half { half_float::unorm_half(n) } else { n }
+}
+
+// A void extent's bit 9.
+fn is_hdr(block: PhysicalBlock) -> bool
+    ensures { λ r. ⌜ r ≡ hdrVoidExtent (blockNumber block) ⌝ }
+{
+    bits::field_at(block, 9, 1) == 1
+}
+
+// Whether a kind shows half floats of a void extent's colours, HDR or not.
+fn shown_as_half(kind: Kind, hdr: bool) -> bool
+    ensures { λ r. ⌜ r ≡ both (takesHdr kind) (not hdr) ⌝ }
+{
+    if hdr {
+        false
+    } else {
+        interpolation::takes_hdr(kind)
+    }
+}
+
+// A void extent's colours as they stand.
+fn stored_colours(block: PhysicalBlock) -> Texel
+    ensures { λ r. ⌜ r ≡ coloursOf (colourAt (blockNumber block)) ⌝ }
 {
     let r = bits::field_at(block, 64, 16) as u16;
     let g = bits::field_at(block, 80, 16) as u16;
     let b = bits::field_at(block, 96, 16) as u16;
     let a = bits::field_at(block, 112, 16) as u16;
+    Texel { r, g, b, a }
+}
+
+// The texel of a void extent in a kind.
+pub fn colours(kind: Kind, block: PhysicalBlock) -> Texel
+    ensures { λ r. ⌜ r ≡ solidTexel kind (hdrVoidExtent (blockNumber block)) (colourAt (blockNumber block)) ⌝ }
+{
+    let t = stored_colours(block);
+    let half = shown_as_half(kind, is_hdr(block));
+    let r = solid_number(half, t.r);
+    let g = solid_number(half, t.g);
+    let b = solid_number(half, t.b);
+    let a = solid_number(half, t.a);
     Texel { r, g, b, a }
 }

@@ -11,14 +11,15 @@ use lib.ListN.{getD, set}
 use Rattle.laws.specs.Table.{tabFrom, tab}
 use borrow.Author.Tests.{lt-ltb, le-ltb}
 use Rattle.encoding.specs.declared.Level.{Level}
-use Rattle.endpoint_arithmetic.specs.declared.EndpointPair.{EndpointPair}
-use Rattle.endpoint_arithmetic.specs.Pair.{zeroPair}
-use Rattle.color_endpoint.specs.Modes.{noLevel, pairOf}
-use Rattle.color_endpoint.specs.Table.{numberCount, startOf, numbersFrom, entryOf, tableOf}
+use Rattle.color_endpoint.specs.Modes.{noLevel}
+use Rattle.color_endpoint.specs.Table.{numberCount, startOf, numbersFrom, entryBy, tableBy}
 
-module _ (modes : List ℕ) (levels : List Level) where
-  next′ : (p : ℕ) → p < 4 → set (tableOf modes p levels) p (pairOf (getD modes p 0) (numbersFrom levels (startOf modes p))) ≡ tableOf modes (suc p) levels
-  unfolding tableOf entryOf
+module _ {A : Type 0} (make : ℕ → List Level → A) (none : A) (modes : List ℕ) (levels : List Level) where
+  abbrev table : ℕ → List A
+  table n = tableBy make none modes n levels
+
+  next′ : (p : ℕ) → p < 4 → set (table p) p (make (getD modes p 0) (numbersFrom levels (startOf modes p))) ≡ table (suc p)
+  unfolding tableBy entryBy
   next′ zero h = refl
   next′ (suc zero) h = refl
   next′ (suc (suc zero)) h = refl
@@ -26,17 +27,17 @@ module _ (modes : List ℕ) (levels : List Level) where
   next′ (suc (suc (suc (suc p)))) h = absurd (omega arith)
 
   -- one more partition: its numbers start where the last one's end
-  pub table-next : (p : ℕ) {start : ℕ} {numbers : List Level} {pair : EndpointPair} {t : List EndpointPair} → p < 4 →
-      t ≡ tableOf modes p levels → start ≡ startOf modes p → numbers ≡ numbersFrom levels start → pair ≡ pairOf (getD modes p 0) numbers →
-      set t p pair ≡ tableOf modes (p + 1) levels
+  pub table-next : (p : ℕ) {start : ℕ} {numbers : List Level} {entry : A} {t : List A} → p < 4 →
+      t ≡ table p → start ≡ startOf modes p → numbers ≡ numbersFrom levels start → entry ≡ make (getD modes p 0) numbers →
+      set t p entry ≡ table (p + 1)
   table-next p h et es en ep = rw (add-one, ep, en, es, et) (next′ p h)
 
-  full : (n : ℕ) → 4 ≤ n → tableOf modes 4 levels ≡ tableOf modes n levels
-  unfolding tableOf entryOf
+  full : (n : ℕ) → 4 ≤ n → table 4 ≡ table n
+  unfolding tableBy entryBy
   full n h = rw (lt-ltb 0 n (omega arith), lt-ltb 1 n (omega arith), lt-ltb 2 n (omega arith), lt-ltb 3 n (omega arith))
 
   -- partitions past the fourth change nothing
-  pub table-full : (n : ℕ) → tableOf modes (min n 4) levels ≡ tableOf modes n levels
+  pub table-full : (n : ℕ) → table (min n 4) ≡ table n
   table-full n =
       elim (decLt n 4) [
         | yes h ↦ let e : min n 4 ≡ n = omega arith in rw e
@@ -44,22 +45,22 @@ module _ (modes : List ℕ) (levels : List Level) where
       ]
 
   -- the table by partition
-  pub table-at : (n p : ℕ) (d : EndpointPair) → p < 4 → getD (tableOf modes n levels) p d ≡ entryOf modes n levels p
-  unfolding tableOf
+  pub table-at : (n p : ℕ) (d : A) → p < 4 → getD (table n) p d ≡ entryBy make none modes n levels p
+  unfolding tableBy
   table-at n zero d h = refl
   table-at n (suc zero) d h = refl
   table-at n (suc (suc zero)) d h = refl
   table-at n (suc (suc (suc zero))) d h = refl
   table-at n (suc (suc (suc (suc p)))) d h = absurd (omega arith)
 
-  -- the pair of a partition below the count
-  pub entry-used : (n p : ℕ) → p < n → entryOf modes n levels p ≡ pairOf (getD modes p 0) (numbersFrom levels (startOf modes p))
-  unfolding entryOf
+  -- what a partition below the count has
+  pub entry-used : (n p : ℕ) → p < n → entryBy make none modes n levels p ≡ make (getD modes p 0) (numbersFrom levels (startOf modes p))
+  unfolding entryBy
   entry-used n p h = rw (lt-ltb p n h)
 
-  -- past the count the pair of zeros
-  pub entry-past : (n p : ℕ) → n ≤ p → entryOf modes n levels p ≡ zeroPair
-  unfolding entryOf
+  -- past the count what stands for none
+  pub entry-past : (n p : ℕ) → n ≤ p → entryBy make none modes n levels p ≡ none
+  unfolding entryBy
   entry-past n p h = rw (le-ltb p n h)
 
 pub start-next : (modes : List ℕ) (p : ℕ) → startOf modes p + numberCount (getD modes p 0) ≡ startOf modes (p + 1)

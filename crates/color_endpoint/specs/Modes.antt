@@ -1,11 +1,12 @@
 -- 000, "LDR Endpoint Decoding": from a colour endpoint mode (CEM) and its unquantised numbers v0, v1, .. to the ends e0 and e1.
 -- Assumes nothing.
 use Prim.Native.Nat.{ℕ, _+_, _*_, _/_, _%_, min}
+use mathlib.Core.Bool.{Bool}
 use mathlib.Core.List.{List, [], _∷_}
 use lib.Dec.{eqb}
 use lib.IntN.{pos}
 use lib.ListN.{getD}
-use Rattle.laws.specs.Choice.{pick}
+use Rattle.laws.specs.Choice.{pick, either}
 use Rattle.encoding.specs.declared.Level.{Level}
 use Rattle.endpoint_arithmetic.specs.declared.BaseOffset.{BaseOffset}
 use Rattle.endpoint_arithmetic.specs.declared.EndpointPair.{EndpointPair}
@@ -90,3 +91,7 @@ pairOf mode v =
     (pick (eqb mode 12) (mode12 v)
     (pick (eqb mode 13) (mode13 v)
     zeroPair)))))))))
+
+-- modes 2, 3, 7, 11, 14 and 15 are HDR
+unfoldable pub isHdr : ℕ → Bool
+isHdr m = either (eqb m 2) (either (eqb m 3) (either (eqb m 7) (either (eqb m 11) (either (eqb m 14) (eqb m 15)))))

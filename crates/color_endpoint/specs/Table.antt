@@ -24,10 +24,20 @@ startOf modes (suc p) = startOf modes p + numberCount (getD modes p 0)
 unfoldable pub numbersFrom : List Level → ℕ → List Level
 numbersFrom levels start = tab (λ k. getD levels (start + k) noLevel) 8
 
+-- what partition p has, by its mode and its numbers; past the count what stands for none
+unfoldable pub entryBy : {A : Type 0} → (ℕ → List Level → A) → A → List ℕ → ℕ → List Level → ℕ → A
+entryBy make none modes count levels p = pick (ltb p count) (make (getD modes p 0) (numbersFrom levels (startOf modes p))) none
+
+-- four partitions
+unfoldable pub tableBy : {A : Type 0} → (ℕ → List Level → A) → A → List ℕ → ℕ → List Level → List A
+tableBy make none modes count levels =
+    entryBy make none modes count levels 0 ∷ entryBy make none modes count levels 1 ∷ entryBy make none modes count levels 2
+    ∷ entryBy make none modes count levels 3 ∷ []
+
 -- the pair of partition p; past the count the pair of zeros
-unfoldable pub entryOf : List ℕ → ℕ → List Level → ℕ → EndpointPair
-entryOf modes count levels p = pick (ltb p count) (pairOf (getD modes p 0) (numbersFrom levels (startOf modes p))) zeroPair
+abbrev pub entryOf : List ℕ → ℕ → List Level → ℕ → EndpointPair
+entryOf modes count levels p = entryBy pairOf zeroPair modes count levels p
 
 -- 01: "four partitions may each hold a pair of four channels"
-unfoldable pub tableOf : List ℕ → ℕ → List Level → List EndpointPair
-tableOf modes count levels = entryOf modes count levels 0 ∷ entryOf modes count levels 1 ∷ entryOf modes count levels 2 ∷ entryOf modes count levels 3 ∷ []
+abbrev pub tableOf : List ℕ → ℕ → List Level → List EndpointPair
+tableOf modes count levels = tableBy pairOf zeroPair modes count levels

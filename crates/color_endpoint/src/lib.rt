@@ -17,6 +17,7 @@ ghost use Rattle.color_endpoint.specs.Modes.{
   mode13,
   pairOf,
   noLevel,
+  isHdr,
 };
 ghost use Rattle.color_endpoint.specs.Table.{numberCount, numbersFrom, tableOf};
 use encoding::Level;
@@ -157,7 +158,7 @@ fn level_at(levels: [Level; 18], i: u32) -> Level
 }
 
 // Eight numbers from start on.
-fn numbers_from(levels: [Level; 18], start: u32) -> [Level; 8]
+pub fn numbers_from(levels: [Level; 18], start: u32) -> [Level; 8]
     requires { ⌜ start < 1024 ⌝ }
     ensures { λ r. ⌜ r ≡ numbersFrom levels start ⌝ }
 {
@@ -196,4 +197,11 @@ pub fn endpoint_table(modes: [u8; 4], count: u8, levels: [Level; 18]) -> [Endpoi
         p += 1;
     }
     t
+}
+
+// Bit m of 51340 is 1 for the HDR modes: 2, 3, 7, 11, 14 and 15.
+pub fn is_hdr(mode: u8) -> bool
+    ensures { λ r. ⌜ r ≡ isHdr mode ⌝ }
+{
+    (mode < 16) & ((51340u32 >> (mode % 16)) % 2 == 1)
 }

@@ -25,9 +25,9 @@ use Rattle.interpolation.specs.declared.Texel.{Texel}
 use Rattle.interpolation.specs.Expansion.{replicated, centred, expandOf, shownOf}
 use Rattle.interpolation.specs.Texel.{mixOf}
 use Rattle.symbolic_block.specs.declared.SymbolicBlock.{SymbolicBlock}
-use Rattle.symbolic_block.specs.Fields.{weightIn}
+use Rattle.symbolic_block.specs.Fields.{modeIn, weightIn}
 use Rattle.symbolic_block.specs.Reading.{modeBlock}
-use Rattle.symbolic_block.specs.Picture.{widenedWeight, firstGrid, pointWeight, infillWeight, placeWeight, numbersOf, numbersOfFirst, bitsLeftOver, rangeOfEndpoints, widenedNumbers, pairOfColours, partitionAt, channelGrid, channelAt, mixedPicture, pictureNumber}
+use Rattle.symbolic_block.specs.Picture.{widenedWeight, firstGrid, pointWeight, infillWeight, placeWeight, numbersOf, numbersOfFirst, bitsLeftOver, rangeOfEndpoints, widenedNumbers, pairChannel, partitionAt, channelGrid, channelAt, mixedPicture, pictureNumber}
 use Rattle.symbolic_block.proofs.Opened.{picture-mode}
 use Rattle.grey_caption.specs.Caption.{footprint, settings, sheetWith, greyOf}
 use Rattle.grey_caption.proofs.Sheets.{not-void, weight-at}
@@ -92,8 +92,8 @@ module _ (e0 e1 : ℕ) (w : ℕ → ℕ) where
       ∙ ap (unquantWeight 2) (weight-at e0 e1 w (4 * y + x) (omega arith))
 
   module _ (h0 : e0 ≤ 255) (h1 : e1 ≤ 255) where
-    pair-is : (x y : ℕ) → pairOfColours s (partitionAt s footprint x y) ≡ luminancePair e0 e1 255 255
-    unfolding partitionAt partitionOf pairOfColours widenedNumbers numbersOf numbersOfFirst rangeOfEndpoints bitsLeftOver rangeBits encodingAt bitsAt sequenceBits endpointRange largestTo pairOf mode0 tab sheetWith modeBlock settings
+    pair-is : (x y : ℕ) → pairOf (modeIn s (partitionAt s footprint x y)) (widenedNumbers s (partitionAt s footprint x y)) ≡ luminancePair e0 e1 255 255
+    unfolding partitionAt partitionOf widenedNumbers numbersOf numbersOfFirst rangeOfEndpoints bitsLeftOver rangeBits encodingAt bitsAt sequenceBits endpointRange largestTo pairOf mode0 tab sheetWith modeBlock settings
     pair-is x y = ap₂ (λ (a b : ℕ). luminancePair a b 255 255) (level-is e0 h0) (level-is e1 h1)
 
     channel-is : (x y c : ℕ) → x < 4 → y < 4

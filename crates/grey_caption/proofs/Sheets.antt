@@ -18,7 +18,8 @@ use Rattle.encoding.specs.Encoding.{sequenceBits}
 use Rattle.footprint.specs.Footprint.{footprints, widthOf, heightOf}
 use Rattle.block_mode.specs.Back2D.{modeBits}
 use Rattle.color_endpoint.specs.Table.{numberCount, startOf}
-use Rattle.block_header.specs.Reasons.{gridTooLarge, tooManyWeights, weightBitsOutside, fourWithTwoPlanes, tooManyEndpoints, tooFewEndpointBits, isHdr, someHdr}
+use Rattle.block_header.specs.Reasons.{gridTooLarge, tooManyWeights, weightBitsOutside, fourWithTwoPlanes, tooManyEndpoints, tooFewEndpointBits, someHdr, hdrRefused}
+use Rattle.color_endpoint.specs.Modes.{isHdr}
 use Rattle.block_header.specs.Counts.{weightCount, weightBits, componentBits, extraBits, endpointCount, bitsLeft, endpointRangeOf}
 use Rattle.symbolic_block.specs.Fields.{headerOf, endpointIn, weightIn, Sized}
 use Rattle.symbolic_block.specs.Refusals.{within, unknownFootprint, badMark, badWidth, badHeight, badRange, badPlanes, badComponent, badPartitions, badIndex, badSelector, badModes, someInUse, noBlockMode, modesMisfit, badEndpoints, badWeights, modeRefusals, Acceptable}
@@ -97,7 +98,7 @@ module _ (e0 e1 : ℕ) (w : ℕ → ℕ) where
     weights-fine = is-within (within 64 16 3 (weightIn (sheetWith e0 e1 w))) weights-in
 
     pub none : None (modeRefusals footprint (sheetWith e0 e1 w))
-    unfolding modeRefusals unknownFootprint badMark badWidth badHeight badRange badPlanes badComponent badPartitions badIndex badSelector badModes someInUse within noBlockMode modeBits modesMisfit gridTooLarge tooManyWeights weightBitsOutside fourWithTwoPlanes tooManyEndpoints tooFewEndpointBits someHdr isHdr sheetWith modeBlock settings tab weightCount weightBits endpointCount startOf numberCount bitsLeft componentBits extraBits rangeBits encodingAt bitsAt sequenceBits widthOf heightOf footprints
+    unfolding modeRefusals unknownFootprint badMark badWidth badHeight badRange badPlanes badComponent badPartitions badIndex badSelector badModes someInUse within noBlockMode modeBits modesMisfit gridTooLarge tooManyWeights weightBitsOutside fourWithTwoPlanes tooManyEndpoints tooFewEndpointBits someHdr hdrRefused isHdr sheetWith modeBlock settings tab weightCount weightBits endpointCount startOf numberCount bitsLeft componentBits extraBits rangeBits encodingAt bitsAt sequenceBits widthOf heightOf footprints
     none =
         refl
         also refl

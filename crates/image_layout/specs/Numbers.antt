@@ -1,5 +1,6 @@
 -- 01, "What is covered": the numbers of an image, "Channels are R, G, B, A, rows first", and the faults of its blocks.
 -- Assumes nothing.
+use mathlib.Core.Bool.{false}
 use Prim.Native.Nat.{ℕ, _*_, _/_, _%_}
 use mathlib.Core.List.{List}
 use lib.ListN.{take, drop}
@@ -21,7 +22,7 @@ blockAt s b = numberOf (blockBytes s b)
 
 -- its fault, 0 for none
 unfoldable pub faultAt : ℕ → List ℕ → ℕ → ℕ
-faultAt fp s b = faultOf fp (blockAt s b)
+faultAt fp s b = faultOf false fp (blockAt s b)
 
 -- channel c of the texel in column x of row y of an image w texels wide: what that texel's block shows at its place in the block
 unfoldable pub imageNumberAt : ℕ → Kind → ℕ → List ℕ → ℕ → ℕ → ℕ → ℕ

@@ -14,7 +14,7 @@ use Rattle.encoding.specs.declared.Level.{Level}
 use Rattle.endpoint_arithmetic.specs.declared.EndpointPair.{EndpointPair}
 use Rattle.interpolation.specs.declared.ExpandedPair.{ExpandedPair}
 use Rattle.interpolation.specs.declared.Kind.{Kind}
-use Rattle.interpolation.specs.declared.Kind.the-variants.{Unorm16, Srgb8}
+use Rattle.interpolation.specs.declared.Kind.the-variants.{Unorm16, Srgb8, Float16}
 use Rattle.interpolation.specs.Expansion.{replicated, centred, expandOf, expandedPair, shownOf}
 use Rattle.interpolation.specs.Texel.{mixOf, weightOf, channelOf}
 
@@ -23,6 +23,7 @@ pub expand-le : (kind : Kind) (c : ℕ) → c ≤ 255 → expandOf kind c ≤ 65
 unfolding replicated centred
 expand-le Unorm16 c h = omega arith
 expand-le Srgb8 c h = omega arith
+expand-le Float16 c h = omega arith
 
 -- by a weight of 0..64 two 16-bit numbers mix to a 16-bit number
 pub mix-le : (c0 c1 i : ℕ) → c0 ≤ 65535 → c1 ≤ 65535 → i ≤ 64 → mixOf c0 c1 i ≤ 65535

@@ -12,7 +12,7 @@ use Rattle.laws.specs.Choice.{pick}
 use Rattle.encoding.specs.declared.Level.{Level}
 use Rattle.endpoint_arithmetic.specs.declared.EndpointPair.{EndpointPair}
 use Rattle.interpolation.specs.declared.Kind.{Kind}
-use Rattle.interpolation.specs.declared.Kind.the-variants.{Unorm16, Srgb8}
+use Rattle.interpolation.specs.declared.Kind.the-variants.{Unorm16, Srgb8, Float16}
 use Rattle.interpolation.specs.Expansion.{replicated, centred, expandOf, expandedEnd, expandedPair}
 use Rattle.interpolation.specs.Texel.{mixOf, weightOf, channelOf, texelOf}
 use Rattle.interpolation.specs.inner.Line.{times, plus, minus, onLine, lowOf, addOf, startOf, slopeOf, lineOf, lineChannel, lineTexel}
@@ -75,6 +75,7 @@ module _ (e0 e1 i : ℕ) (h0 : e0 ≤ 255) (h1 : e1 ≤ 255) (hi : i ≤ 64) whe
   on-kind : (kind : Kind) → onLine (64 * e0) (minus e1 e0) (lowOf kind) (addOf kind) i ≡ mixOf (expandOf kind e0) (expandOf kind e1) i % 65536
   on-kind Unorm16 = on-replicated
   on-kind Srgb8 = on-centred
+  on-kind Float16 = on-replicated
 
 module _ (kind : Kind) (p : EndpointPair) (first second component : ℕ) (h0 : (c : ℕ) → getD (p .e0) c 0 ≤ 255) (h1 : (c : ℕ) → getD (p .e1) c 0 ≤ 255)
     (hf : first ≤ 64) (hs : second ≤ 64) where

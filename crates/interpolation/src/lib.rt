@@ -4,6 +4,7 @@ ghost use Prim.Native.Nat.{_*_, _/_};
 ghost use Rattle.endpoint_arithmetic.specs.declared.EndpointPair.{EndpointPair};
 ghost use Rattle.encoding.specs.Levels.{firstLevel, secondLevel};
 ghost use Rattle.interpolation.specs.declared.Kind.{Kind};
+ghost use Rattle.interpolation.specs.Expansion.{takesHdr};
 ghost use Rattle.interpolation.specs.Texel.{Mixes};
 ghost use Rattle.interpolation.specs.inner.Line.{times, minus, onLine, lowOf, addOf, lineOf, lineTexel};
 ghost use lib.Dec.{eqb};
@@ -13,10 +14,23 @@ use endpoint_arithmetic::EndpointPair;
 use std::num::wrapping_add_u16;
 use std::num::wrapping_sub_u16;
 
-// What a texel's numbers are: 01's kind 0, 16-bit numbers, and kind 1, sRGB bytes before the sRGB curve.
+// What a texel's numbers are: 01's kind 0, 16-bit numbers, and kind 1, sRGB bytes before the sRGB curve; 02's kind 2, half floats as
+// patterns of 16 bits (000's decode_float16).
 pub enum Kind {
     Unorm16,
     Srgb8,
+    Float16,
+}
+
+// Whether HDR is taken in a kind.
+pub fn takes_hdr(kind: Kind) -> bool
+    ensures { λ r. ⌜ r ≡ takesHdr kind ⌝ }
+{
+    match kind {
+        Kind::Unorm16 => false,
+        Kind::Srgb8 => false,
+        Kind::Float16 => true,
+    }
 }
 
 // An endpoint pair in 16 bits, each R, G, B, A. Only definitions speak of it (`texelOf`): the code mixes on lines.
@@ -63,7 +77,7 @@ fn weight(component: u8, first: u16, second: u16, channel: u8) -> u16
 }
 
 // The four channels, each at its weight.
-fn texel_on(kind: Kind, l: [u16; 8], first: u16, second: u16, component: u8) -> Texel
+fn texel_on(kind: Kind, l: [u16; 10], first: u16, second: u16, component: u8) -> Texel
     ensures { λ r. ⌜ r ≡ lineTexel kind l first second component ⌝ }
 {
     let k = low(kind);
@@ -78,7 +92,7 @@ fn texel_on(kind: Kind, l: [u16; 8], first: u16, second: u16, component: u8) -> 
 
 // A texel of a kind on the lines of its pair, from the weights of both planes; the component that the component selector names (01: plane channel) takes the second weight, 4 or
 // more standing for none.
-pub fn mix_line(kind: Kind, l: [u16; 8], weights: LevelPair, component: u8) -> Texel
+pub fn mix_line(kind: Kind, l: [u16; 10], weights: LevelPair, component: u8) -> Texel
     ensures { λ r. ⌜ r ≡ lineTexel kind l (firstLevel weights) (secondLevel weights) component ⌝ }
     ensures { λ r. ⌜ ((p : EndpointPair) → l ≡ lineOf p → Mixes kind p (firstLevel weights) (secondLevel weights) component r) ⌝ }
 {
@@ -108,6 +122,7 @@ fn low(kind: Kind) -> u16
     match kind {
         Kind::Unorm16 => 1,
         Kind::Srgb8 => 0,
+        Kind::Float16 => 1,
     }
 }
 
@@ -118,11 +133,12 @@ fn added(kind: Kind) -> u16
     match kind {
         Kind::Unorm16 => 32,
         Kind::Srgb8 => 8192,
+        Kind::Float16 => 32,
     }
 }
 
-// The lines of an endpoint pair: four starts and four steps.
-pub fn line_of(p: EndpointPair) -> [u16; 8]
+// The lines of an endpoint pair: four starts, four steps, and two numbers that kind 2 alone uses.
+pub fn line_of(p: EndpointPair) -> [u16; 10]
     ensures { λ r. ⌜ r ≡ lineOf p ⌝ }
 {
     let x = p.e0;
@@ -136,5 +152,7 @@ pub fn line_of(p: EndpointPair) -> [u16; 8]
         slope(x[1], y[1]),
         slope(x[2], y[2]),
         slope(x[3], y[3]),
+        0,
+        0,
     ]
 }

@@ -75,6 +75,7 @@ fn shown(kind: Kind, n: u16) -> u16
     match kind {
         Kind::Unorm16 => n,
         Kind::Srgb8 => n / 256,
+        Kind::Float16 => n,
     }
 }
 

@@ -42,7 +42,7 @@ module _ (fp : ℕ) (s : List ℕ) (old : List ℕ) where
     untouched kind = rw (ne-eqb _ _ h)
 
   module _ (e : blockRefusal fp (length s) (length old) ≡ 0) where
-    pub answered : answerFor (faultOf fp (numberOf s)) ≡ blockAnswer fp s (length old)
+    pub answered : answerFor (faultOf false fp (numberOf s)) ≡ blockAnswer fp s (length old)
     unfolding blockAnswer
     answered = rw (eq-eqb _ _ e)
 
@@ -53,10 +53,10 @@ module _ (fp : ℕ) (s : List ℕ) (old : List ℕ) where
 -- 01's number of an answer
 pub answer-told : (fp : ℕ) (s : List ℕ) (numbers : ℕ) → numberTold (blockAnswer fp s numbers) ≡ blockTold fp s numbers
 unfolding blockAnswer blockTold answerFor
-answer-told fp s numbers = go (eqb (blockRefusal fp (length s) numbers) 0) (eqb (faultOf fp (numberOf s)) 0) refl where
-  go : (a b : Bool) → eqb (faultOf fp (numberOf s)) 0 ≡ b
-      → numberTold (pick a (pick b Done (Faulty (faultOf fp (numberOf s)))) (Refused (blockRefusal fp (length s) numbers))) ≡ pick a (faultOf fp (numberOf s)) (blockRefusal fp (length s) numbers)
-  go true true e = sym (eqb-true (faultOf fp (numberOf s)) 0 e)
+answer-told fp s numbers = go (eqb (blockRefusal fp (length s) numbers) 0) (eqb (faultOf false fp (numberOf s)) 0) refl where
+  go : (a b : Bool) → eqb (faultOf false fp (numberOf s)) 0 ≡ b
+      → numberTold (pick a (pick b Done (Faulty (faultOf false fp (numberOf s)))) (Refused (blockRefusal fp (length s) numbers))) ≡ pick a (faultOf false fp (numberOf s)) (blockRefusal fp (length s) numbers)
+  go true true e = sym (eqb-true (faultOf false fp (numberOf s)) 0 e)
   go true false e = refl
   go false b e = refl
 
@@ -70,8 +70,8 @@ module _ (fp : ℕ) (s old : List ℕ) (b : Bytes s) (B : ℕ) (l : B ≡ field 
   number : B ≡ numberOf s
   number = l ∙ loaded s b (not-refused _ _ _ e .sixteen)
 
-  pub told : answerFor (faultOf fp B) ≡ blockAnswer fp s (length old)
-  told = ap (λ (x : ℕ). answerFor (faultOf fp x)) number ∙ answered fp s old e
+  pub told : answerFor (faultOf false fp B) ≡ blockAnswer fp s (length old)
+  told = ap (λ (x : ℕ). answerFor (faultOf false fp x)) number ∙ answered fp s old e
 
   pub copied : (kind : Kind) (buffer : List ℕ) (show : ℕ → ℕ) → ((x : ℕ) → show x ≡ shownOf kind x) → (start : List ℕ) → length start ≡ 576 → buffer ≡ blockInto fp kind B start
       → tab (λ k. show (getD buffer k 0)) (length old) ≡ blockOut kind fp s old

@@ -1,5 +1,6 @@
 -- 01, "Numbers told to the caller": what a one-block call answers and leaves in the result buffer.
 -- Assumes nothing.
+use mathlib.Core.Bool.{false}
 use Prim.Native.Nat.{ℕ}
 use mathlib.Core.List.{List}
 use lib.Dec.{eqb}
@@ -17,12 +18,12 @@ use Rattle.block_answer.specs.Told.{blockRefusal, answerFor}
 unfoldable pub blockAnswer : ℕ → List ℕ → ℕ → Answer
 unfolding blockRefusal answerFor
 blockAnswer fp s numbers =
-    pick (eqb (blockRefusal fp (length s) numbers) 0) (answerFor (faultOf fp (numberOf s))) (Refused (blockRefusal fp (length s) numbers))
+    pick (eqb (blockRefusal fp (length s) numbers) 0) (answerFor (faultOf false fp (numberOf s))) (Refused (blockRefusal fp (length s) numbers))
 
 -- 01's number of it: the refusal, else the block's fault, 0 for neither
 unfoldable pub blockTold : ℕ → List ℕ → ℕ → ℕ
 unfolding blockRefusal
-blockTold fp s numbers = pick (eqb (blockRefusal fp (length s) numbers) 0) (faultOf fp (numberOf s)) (blockRefusal fp (length s) numbers)
+blockTold fp s numbers = pick (eqb (blockRefusal fp (length s) numbers) 0) (faultOf false fp (numberOf s)) (blockRefusal fp (length s) numbers)
 
 -- what the buffer holds then: the block's numbers, or on a refusal what it held
 unfoldable pub blockOut : Kind → ℕ → List ℕ → List ℕ → List ℕ

@@ -103,7 +103,7 @@ module _ (fp : ℕ) (s : SymbolicBlock) (z : Sized s) (a : Acceptable fp s) wher
   sound = record {
     known = known fp s a;
     sixteen = ap (λ (l : List ℕ). length l) bytes-are ∙ bytes-length 16 (blockOf s);
-    no-fault = ap (faultOf fp) number ∙ demand-3 .written-no-fault fp s z a;
+    no-fault = ap (faultOf false fp) number ∙ demand-3 .written-no-fault fp s z a;
   }
 
   -- the reader tells what was written

@@ -43,7 +43,7 @@ pub record Kept (kind : Kind) (fp : ℕ) (s : SymbolicBlock) (old : List ℕ) (r
   pub written : r .writing .answer ≡ Done
   -- a block without fault
   pub sixteen : length (r .writing .bytes) ≡ 16
-  pub no-fault : faultOf fp (numberOf (r .writing .bytes)) ≡ 0
+  pub no-fault : faultOf false fp (numberOf (r .writing .bytes)) ≡ 0
   -- that reads back as the same
   pub read : r .reading .answer ≡ Done
   pub same : r .reading .block ≡ s
@@ -79,7 +79,7 @@ rewritingOf fp block numbers numbers2 = rewriting fp block numbers numbers2 (rea
 pub record Sound (fp : ℕ) (block : List ℕ) : Type 0 where
   pub known : fp ≤ 13
   pub sixteen : length block ≡ 16
-  pub no-fault : faultOf fp (numberOf block) ≡ 0
+  pub no-fault : faultOf false fp (numberOf block) ≡ 0
 
 -- of a block without fault
 pub record Rewritten (fp : ℕ) (block old old2 : List ℕ) (r : Rewriting) (out again : List ℕ) : Type 0 where

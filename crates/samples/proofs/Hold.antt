@@ -9,17 +9,17 @@ use Rattle.footprint.specs.Footprint.{widthOf, footprints, heightOf}
 use Rattle.weight_grid.specs.Place.{scaleOf, gridPlace}
 use Rattle.endpoint_arithmetic.specs.Pair.{luminancePair}
 use Rattle.endpoint_arithmetic.specs.Signed.{bitTransfer, baseOf, offsetOf}
-use Rattle.color_endpoint.specs.Modes.{pairOf, mode1, lowLuminance, highLuminance, mode0}
+use Rattle.color_endpoint.specs.Modes.{pairOf, mode1, lowLuminance, highLuminance, mode0, isHdr}
 use Rattle.interpolation.specs.Expansion.{expandedPair, expandedEnd, replicated, centred}
 use Rattle.interpolation.specs.Texel.{texelOf, channelOf, mixOf, weightOf}
 use Rattle.bits.specs.Block.{numberOf}
 use Rattle.block_mode.specs.Mode2D.{blockMode}
-use Rattle.color_endpoint.specs.Table.{numberCount, startOf, numbersFrom, entryOf, tableOf}
+use Rattle.color_endpoint.specs.Table.{numberCount, startOf, numbersFrom, entryBy, tableBy}
 use Rattle.weight_grid.specs.Cell.{weightAt, cellOf}
 use Rattle.weight_grid.specs.Bilinear.{infillOf, blendOf, w00, w01, w10, w11}
 use Rattle.partition.specs.Select.{partitionOf}
 use Rattle.block_header.specs.Counts.{endpointRangeOf}
-use Rattle.block_header.specs.Reasons.{gridTooLarge, tooManyWeights, weightBitsOutside, fourWithTwoPlanes, tooManyEndpoints, tooFewEndpointBits, isHdr, someHdr}
+use Rattle.block_header.specs.Reasons.{gridTooLarge, tooManyWeights, weightBitsOutside, fourWithTwoPlanes, tooManyEndpoints, tooFewEndpointBits, someHdr, hdrRefused}
 use Rattle.block_fault.specs.Bits as block
 use Rattle.block_fault.specs.Faults.{faultOf}
 use Rattle.texel.specs.Meaning.{texelFrom, planeWeight, secondWeight, secondComponent, shownChannel}
@@ -28,5 +28,5 @@ use Rattle.samples.specs.Samples.{Sample, samples}
 
 -- every sample computes to what is wanted
 pub samples-hold : map (λ (s : Sample). s .computed) samples ≡ map (λ (s : Sample). s .wanted) samples
-unfolding codeOf rangeBits unquantWeight unquantEndpoint bitTransfer baseOf offsetOf pairOf mode1 luminancePair lowLuminance highLuminance expandedPair expandedEnd replicated centred texelOf channelOf mixOf weightOf widthOf footprints scaleOf gridPlace numberOf blockMode heightOf endpointRange mode0 numberCount startOf numbersFrom entryOf tableOf weightAt cellOf infillOf blendOf w00 w01 w10 w11 partitionOf endpointRangeOf gridTooLarge tooManyWeights weightBitsOutside fourWithTwoPlanes tooManyEndpoints tooFewEndpointBits isHdr someHdr block.headerAt block.endpointAt block.weightAt faultOf texelFrom planeWeight secondWeight secondComponent shownChannel blockNumberAt
+unfolding codeOf rangeBits unquantWeight unquantEndpoint bitTransfer baseOf offsetOf pairOf mode1 luminancePair lowLuminance highLuminance expandedPair expandedEnd replicated centred texelOf channelOf mixOf weightOf widthOf footprints scaleOf gridPlace numberOf blockMode heightOf endpointRange mode0 numberCount startOf numbersFrom entryBy tableBy weightAt cellOf infillOf blendOf w00 w01 w10 w11 partitionOf endpointRangeOf gridTooLarge tooManyWeights weightBitsOutside fourWithTwoPlanes tooManyEndpoints tooFewEndpointBits isHdr someHdr hdrRefused block.headerAt block.endpointAt block.weightAt faultOf texelFrom planeWeight secondWeight secondComponent shownChannel blockNumberAt
 samples-hold = refl

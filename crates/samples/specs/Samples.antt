@@ -1,5 +1,6 @@
 -- 01, "Bench samples": the samples marked P, as one table. Each entry is 01's words, what the definitions compute, and what 01 wants.
 -- Assumes nothing.
+use mathlib.Core.Bool.{false}
 use Prim.Native.Nat.{ℕ, _-_, _/_, _%_, _^_}
 use mathlib.Core.List.{List, [], _∷_, map}
 use lib.IntN.{ℤ, pos, negℤ}
@@ -92,7 +93,7 @@ samples =
     -- "The program's block above, texel 0,0, kind 0: 21504, 21504, 21504, 65535." Footprint 0 is 4x4.
     ∷ sample (map (blockNumberAt 0 Unorm16 programBlock 0 0) (0 ∷ 1 ∷ 2 ∷ 3 ∷ [])) (21504 ∷ 21504 ∷ 21504 ∷ 65535 ∷ [])
     -- "All-zero block: 11."
-    ∷ sample (faultOf 0 0 ∷ []) (11 ∷ [])
+    ∷ sample (faultOf false 0 0 ∷ []) (11 ∷ [])
     -- "All-one block: 14 at 4x4, 16 at 5x5." Footprint 2 is 5x5.
-    ∷ sample (faultOf 0 allOnes ∷ faultOf 2 allOnes ∷ []) (14 ∷ 16 ∷ [])
+    ∷ sample (faultOf false 0 allOnes ∷ faultOf false 2 allOnes ∷ []) (14 ∷ 16 ∷ [])
     ∷ []

@@ -26,14 +26,23 @@ use Rattle.color_endpoint.specs.Modes as modes
 use Rattle.color_endpoint.specs.Table.{numberCount, startOf, numbersFrom, tableOf}
 use Rattle.color_endpoint.proofs.Laws.{table-at, entry-used}
 use Rattle.interpolation.specs.declared.Kind.{Kind}
+use Rattle.interpolation.specs.declared.Kind.the-variants.{Unorm16, Srgb8, Float16}
+use Rattle.interpolation.specs.declared.Texel.{Texel}
+use Rattle.endpoint_arithmetic.specs.Pair.{zeroPair}
+use Rattle.color_endpoint.specs.Modes.{pairOf}
+use Rattle.half_float.specs.Half.{halfOf}
+use Rattle.half_pair.specs.declared.HalfPair.{HalfPair}
+use Rattle.half_pair.specs.Pair.{halfPairOf, zeroHalf, noHalf, halfTableOf}
+use Rattle.half_pair.specs.Texel.{endsOf, hdrAt, halfChannel, halfTexel}
+use Rattle.half_pair.proofs.Same.{half-same, half-sixteen}
 use Rattle.interpolation.specs.Expansion.{expandOf, expandedEnd, expandedPair, noPair}
 use Rattle.interpolation.specs.Texel.{mixOf, weightOf, channelOf, texelOf}
 use Rattle.interpolation.proofs.Laws.{expand-le, channel-whole, weight-none}
 use Rattle.block_header.specs.Counts.{weightCount, endpointCount, bitsLeft, endpointRangeOf}
-use Rattle.texel.specs.Meaning.{endpointLevels, weightLevels, planeWeight, secondWeight, secondComponent, texelFrom}
+use Rattle.texel.specs.Meaning.{endpointLevels, weightLevels, planeWeight, secondWeight, secondComponent, partitionTexel, mixedTexel, texelFrom}
 use Rattle.symbolic_block.specs.declared.SymbolicBlock.{SymbolicBlock}
 use Rattle.symbolic_block.specs.Fields.{gridOf, headerOf, modeIn, endpointIn, weightIn}
-use Rattle.symbolic_block.specs.Picture.{widenedWeight, firstGrid, secondGrid, pointWeight, infillWeight, placeWeight, numbersOf, numbersOfFirst, bitsLeftOver, rangeOfEndpoints, widenedNumbers, pairOfColours, partitionAt, channelGrid, channelAt, mixedPicture}
+use Rattle.symbolic_block.specs.Picture.{widenedWeight, firstGrid, secondGrid, pointWeight, infillWeight, placeWeight, numbersOf, numbersOfFirst, bitsLeftOver, rangeOfEndpoints, widenedNumbers, pairChannel, partitionAt, channelGrid, channelAt, mixedPicture}
 use Rattle.color_endpoint.proofs.Pairs.{Bytes, pair-same, pair-bytes}
 
 -- what is needed of a mode sheet
@@ -193,19 +202,24 @@ module _ (s : SymbolicBlock) (f : Counted s) where
         ∙ (λ j. level (unquantEndpoint (range-is j) (endpointIn s (first-numbers p j + k))))
         ∙ sym (getD-tab (λ k. level (unquantEndpoint (rangeOfEndpoints s) (endpointIn s (numbersOfFirst s p + k)))) (numbersOf s p) k modes.noLevel h))
 
-    pair-is : getD (tableOf (s .modes) (s .partitions) ends) p noPair ≡ pairOfColours s p
-    unfolding pairOfColours numbersOf
+    pair-is : getD (tableOf (s .modes) (s .partitions) ends) p noPair ≡ pairOf (modeIn s p) (widenedNumbers s p)
+    unfolding numbersOf
     pair-is =
-        table-at (s .modes) ends (s .partitions) p noPair four ∙ entry-used (s .modes) ends (s .partitions) p used
+        table-at pairOf zeroPair (s .modes) ends (s .partitions) p noPair four ∙ entry-used pairOf zeroPair (s .modes) ends (s .partitions) p used
         ∙ pair-same (modeIn s p) (numbersFrom ends (startOf (s .modes) p)) (widenedNumbers s p) number-is
+
+    half-is : getD (halfTableOf (s .modes) (s .partitions) ends) p noHalf ≡ halfPairOf (modeIn s p) (widenedNumbers s p)
+    unfolding numbersOf
+    half-is =
+        table-at halfPairOf zeroHalf (s .modes) ends (s .partitions) p noHalf four ∙ entry-used halfPairOf zeroHalf (s .modes) ends (s .partitions) p used
+        ∙ half-same (modeIn s p) (numbersFrom ends (startOf (s .modes) p)) (widenedNumbers s p) number-is
 
   level-le : (p k : ℕ) → modes.level (widenedNumbers s p) k ≤ 255
   unfolding widenedNumbers
   level-le p k =
       levels-le (λ i. unquantEndpoint (rangeOfEndpoints s) (endpointIn s (numbersOfFirst s p + i))) (λ i. endpoint-le (rangeOfEndpoints s) _) (numbersOf s p) k
 
-  colour-bytes : (p : ℕ) → Bytes (pairOfColours s p)
-  unfolding pairOfColours
+  colour-bytes : (p : ℕ) → Bytes (pairOf (modeIn s p) (widenedNumbers s p))
   colour-bytes p = pair-bytes (widenedNumbers s p) (level-le p) (modeIn s p)
 
   -- ---- the texel
@@ -214,9 +228,13 @@ module _ (s : SymbolicBlock) (f : Counted s) where
     abbrev partition : ℕ
     partition = partitionAt s fp x y
 
-    table-is : getD (tableOf (s .modes) (s .partitions) ends) partition noPair ≡ pairOfColours s partition
+    few-lt : partition < 4
     unfolding partitionAt
-    table-is = pair-is partition (partition-lt-4 _ _ _ x y 0) (partition-lt _ _ _ x y 0 (f .partitions-low))
+    few-lt = partition-lt-4 _ _ _ x y 0
+
+    used-lt : partition < s .partitions
+    unfolding partitionAt
+    used-lt = partition-lt _ _ _ x y 0 (f .partitions-low)
 
     abbrev first : ℕ
     first = placeWeight s fp (firstGrid s) x y
@@ -265,26 +283,56 @@ module _ (s : SymbolicBlock) (f : Counted s) where
     weight-is : (c : ℕ) → c < 4 → weightOf named (level first) (level second) c .0 ≡ placeWeight s fp (channelGrid s c) x y
     weight-is c h = by-planes (λ e. weight-two e c) (λ e. weight-one e c h)
 
-    channel-is : (c : ℕ) → c < 4 → channelOf (expandedPair kind (pairOfColours s partition)) (level first) (level second) named c ≡ channelAt s fp kind x y c
-    unfolding channelAt
-    channel-is c h =
-        mix-whole kind (pairOfColours s partition) (colour-bytes partition) first second named c h (place-le (firstGrid s) first-le fp x y) second-most
-        ∙ ap (mixOf (expandOf kind (getD (pairOfColours s partition .e0) c 0)) (expandOf kind (getD (pairOfColours s partition .e1) c 0))) (weight-is c h)
+    abbrev numbers : List Level
+    numbers = widenedNumbers s partition
 
-    mixed-is : texelFrom fp kind (headerOf s) (endpointIn s) (weightIn s) x y
-        ≡ texelOf (expandedPair kind (pairOfColours s partition)) (level first) (level second) named
-    unfolding texelFrom partitionAt
-    mixed-is j = texelOf (expandedPair kind (table-is j)) (level (first-is j)) (level second) named
+    abbrev weight : ℕ → ℕ
+    weight c = placeWeight s fp (channelGrid s c) x y
 
-    channels-are : texelOf (expandedPair kind (pairOfColours s partition)) (level first) (level second) named ≡ mixedPicture s fp kind x y
-    unfolding texelOf mixedPicture
-    channels-are =
-        let r = channel-is 0 (omega arith) in
-        let g = channel-is 1 (omega arith) in
-        let b = channel-is 2 (omega arith) in
-        let a = channel-is 3 (omega arith) in
-        λ j. record { r = r j; g = g j; b = b j; a = a j }
+    -- a channel of kinds 0 and 1
+    line-is : (k : Kind) (c : ℕ) → c < 4 → channelOf (expandedPair k (pairOf (modeIn s partition) numbers)) (level first) (level second) named c
+        ≡ mixOf (expandOf k (getD (pairOf (modeIn s partition) numbers .e0) c 0)) (expandOf k (getD (pairOf (modeIn s partition) numbers .e1) c 0)) (weight c)
+    line-is k c h =
+        mix-whole k (pairOf (modeIn s partition) numbers) (colour-bytes partition) first second named c h (place-le (firstGrid s) first-le fp x y) second-most
+        ∙ ap (mixOf (expandOf k (getD (pairOf (modeIn s partition) numbers .e0) c 0)) (expandOf k (getD (pairOf (modeIn s partition) numbers .e1) c 0))) (weight-is c h)
+
+    abbrev half : HalfPair
+    half = halfPairOf (modeIn s partition) numbers
+
+    -- a channel of kind 2
+    half-line-is : (c : ℕ) → c < 4 → halfChannel half (level first) (level second) named c ≡ pairChannel Float16 (modeIn s partition) numbers c (weight c)
+    unfolding halfChannel
+    half-line-is c h =
+        let sixteen = half-sixteen (modeIn s partition) numbers (level-le partition) in
+        ap (halfOf (hdrAt half c))
+        (channel-whole (endsOf half) (level first) (level second) named c (sixteen .first c) (sixteen .second c) (place-le (firstGrid s) first-le fp x y) second-most
+        ∙ ap (mixOf (getD (half .c0) c 0) (getD (half .c1) c 0)) (weight-is c h))
+
+    four-are : {r g b a r2 g2 b2 a2 : ℕ} → r ≡ r2 → g ≡ g2 → b ≡ b2 → a ≡ a2
+        → _≡_ {A = Texel} (record { r = r; g = g; b = b; a = a }) (record { r = r2; g = g2; b = b2; a = a2 })
+    four-are er eg eb ea = λ j. record { r = er j; g = eg j; b = eb j; a = ea j }
+
+    -- what the partition's texel is, by kind
+    shown-is : (k : Kind) → partitionTexel k (s .modes) (s .partitions) ends partition (level first) (level second) named
+        ≡ record {
+          r = pairChannel k (modeIn s partition) numbers 0 (weight 0);
+          g = pairChannel k (modeIn s partition) numbers 1 (weight 1);
+          b = pairChannel k (modeIn s partition) numbers 2 (weight 2);
+          a = pairChannel k (modeIn s partition) numbers 3 (weight 3);
+        }
+    unfolding texelOf halfTexel
+    shown-is Unorm16 =
+        ap (λ (p : EndpointPair). texelOf (expandedPair Unorm16 p) (level first) (level second) named) (pair-is partition few-lt used-lt)
+        ∙ four-are (line-is Unorm16 0 (omega arith)) (line-is Unorm16 1 (omega arith)) (line-is Unorm16 2 (omega arith)) (line-is Unorm16 3 (omega arith))
+    shown-is Srgb8 =
+        ap (λ (p : EndpointPair). texelOf (expandedPair Srgb8 p) (level first) (level second) named) (pair-is partition few-lt used-lt)
+        ∙ four-are (line-is Srgb8 0 (omega arith)) (line-is Srgb8 1 (omega arith)) (line-is Srgb8 2 (omega arith)) (line-is Srgb8 3 (omega arith))
+    shown-is Float16 =
+        ap (λ (p : HalfPair). halfTexel p (level first) (level second) named) (half-is partition few-lt used-lt)
+        ∙ four-are (half-line-is 0 (omega arith)) (half-line-is 1 (omega arith)) (half-line-is 2 (omega arith)) (half-line-is 3 (omega arith))
 
     -- both definitions give the same texel
     pub agrees : mixedPicture s fp kind x y ≡ texelFrom fp kind (headerOf s) (endpointIn s) (weightIn s) x y
-    agrees = sym (mixed-is ∙ channels-are)
+    unfolding texelFrom mixedTexel partitionAt mixedPicture channelAt
+    agrees =
+        sym (ap (λ (w : ℕ). partitionTexel kind (s .modes) (s .partitions) ends partition (level w) (level second) named) first-is ∙ shown-is kind)

@@ -79,7 +79,7 @@ module _ (fp : ℕ) (s : SymbolicBlock) (z : Sized s) (a : Acceptable fp s) wher
       by-mark s (λ m. rw (block-void s m) (void.block-lt fp s m (void-none fp s a m) z))
       (λ m. rw (block-mode s m) (written.block-lt fp s (fine fp s m (mode-none fp s a m)) z))
 
-  no-fault : faultOf fp (blockOf s) ≡ 0
+  no-fault : faultOf false fp (blockOf s) ≡ 0
   no-fault =
       by-mark s (λ m. rw (block-void s m) (void.void-faultless fp s m (void-none fp s a m) z))
       (λ m. rw (block-mode s m) (written.mode-faultless fp s (fine fp s m (mode-none fp s a m)) z (mode-none fp s a m)))
@@ -129,7 +129,7 @@ four-modes B = length-padded (modeOf (partitionsAt B) (selectorIn B) (modesCodeI
 pub sized : (B : ℕ) → Sized (readBlock B)
 sized B = by-void B (λ v. rw (read-void B v) (void.void-sized B)) (λ v. rw (read-mode B v) (read.mode-sized B (headerAt B) (four-modes B)))
 
-module _ (fp B : ℕ) (low : fp ≤ 13) (e : faultOf fp B ≡ 0) where
+module _ (fp B : ℕ) (low : fp ≤ 13) (e : faultOf false fp B ≡ 0) where
   void-read : isVoid (modeAt B) ≡ true → None (refusals fp (readBlock B))
   unfolding voidBlock
   void-read v =
@@ -159,7 +159,7 @@ few : (h : Header) → tooFewEndpointBits h ≡ false → (13 * endpointCount h 
 unfolding tooFewEndpointBits
 few h e = ltb-false (bitsLeft h) ((13 * endpointCount h + 4) / 5) e
 
-parts : (fp B : ℕ) → isVoid (modeAt B) ≡ false → faultOf fp B ≡ 0 → endpointsEnd (headerAt B)
+parts : (fp B : ℕ) → isVoid (modeAt B) ≡ false → faultOf false fp B ≡ 0 → endpointsEnd (headerAt B)
     + (weightBits (headerAt B .grid) + componentBits (headerAt B .grid .planes) + extraBits (headerAt B .partitions) (headerAt B .selector)) ≤ 128
 parts fp B v e =
     let n = no-mode-fault fp B v e in

@@ -20,6 +20,9 @@ use Rattle.laws.specs.Reasons.{Reason, firstOf}
 use Rattle.block_fault.specs.Bits.{modeAt, isVoid, isReserved, gridIn, partitionsAt, selectorAt, headerWith, headerAt, endpointsFrom, endpointAt, weightAt, extentAt, colourAt}
 use Rattle.block_fault.specs.Faults.{badVoidExtent, hdrVoidExtent, voidReasons, modeReasons, faultOf}
 use Rattle.interpolation.specs.declared.Kind.{Kind}
+use Rattle.interpolation.specs.declared.Kind.the-variants.{Unorm16, Srgb8, Float16}
+use Rattle.interpolation.specs.Expansion.{takesHdr}
+use Rattle.block_fault.proofs.ByKind.{fault-hdr}
 use Rattle.texel.specs.Meaning.{texelFrom, solidTexel}
 use Rattle.texel.specs.BlockTexel.{blockTexel}
 use Rattle.symbolic_block.specs.declared.SymbolicBlock.{SymbolicBlock}
@@ -41,7 +44,7 @@ module _ (s : SymbolicBlock) (m : s .mark ≡ 1) where
   unfolding blockOf
   block-void = rw (eq-eqb (s .mark) 1 m)
 
-  pub picture-void : (fp : ℕ) (kind : Kind) (x y : ℕ) → pictureOf fp kind s x y ≡ solidPicture s
+  pub picture-void : (fp : ℕ) (kind : Kind) (x y : ℕ) → pictureOf fp kind s x y ≡ solidPicture kind s
   unfolding pictureOf
   picture-void fp kind x y = rw (eq-eqb (s .mark) 1 m)
 
@@ -64,8 +67,14 @@ refusal-is fp s = refl
 
 -- ---- a block
 
+-- a block without fault where HDR is not taken has none in any kind
+any-kind : (fp B : ℕ) → faultOf false fp B ≡ 0 → (kind : Kind) → faultOf (takesHdr kind) fp B ≡ 0
+any-kind fp B e Unorm16 = e
+any-kind fp B e Srgb8 = e
+any-kind fp B e Float16 = fault-hdr fp B e
+
 module _ (B : ℕ) (v : isVoid (modeAt B) ≡ true) where
-  pub fault-void : (fp : ℕ) → faultOf fp B ≡ firstOf (voidReasons B)
+  pub fault-void : (fp : ℕ) → faultOf false fp B ≡ firstOf (voidReasons false B)
   unfolding faultOf
   fault-void fp = rw v
 
@@ -73,12 +82,12 @@ module _ (B : ℕ) (v : isVoid (modeAt B) ≡ true) where
   unfolding readBlock
   read-void = rw v
 
-  pub texel-void : (fp : ℕ) (kind : Kind) (x y : ℕ) → faultOf fp B ≡ 0 → blockTexel fp kind B x y ≡ solidTexel (colourAt B)
+  pub texel-void : (fp : ℕ) (kind : Kind) (x y : ℕ) → faultOf false fp B ≡ 0 → blockTexel fp kind B x y ≡ solidTexel kind (hdrVoidExtent B) (colourAt B)
   unfolding blockTexel
-  texel-void fp kind x y e = rw (e, v)
+  texel-void fp kind x y e = rw (any-kind fp B e kind, v)
 
 module _ (B : ℕ) (v : isVoid (modeAt B) ≡ false) where
-  pub fault-mode : (fp : ℕ) → faultOf fp B ≡ firstOf (modeReasons fp B)
+  pub fault-mode : (fp : ℕ) → faultOf false fp B ≡ firstOf (modeReasons false fp B)
   unfolding faultOf
   fault-mode fp = rw v
 
@@ -86,30 +95,30 @@ module _ (B : ℕ) (v : isVoid (modeAt B) ≡ false) where
   unfolding readBlock
   read-mode = rw v
 
-  pub texel-mode : (fp : ℕ) (kind : Kind) (x y : ℕ) → faultOf fp B ≡ 0
+  pub texel-mode : (fp : ℕ) (kind : Kind) (x y : ℕ) → faultOf false fp B ≡ 0
       → blockTexel fp kind B x y ≡ texelFrom fp kind (headerAt B) (endpointAt B (headerAt B)) (weightAt B (headerAt B)) x y
   unfolding blockTexel
-  texel-mode fp kind x y e = rw (e, v)
+  texel-mode fp kind x y e = rw (any-kind fp B e kind, v)
 
 -- the faults of a block, none of which holds
-pub no-void-fault : (fp B : ℕ) → isVoid (modeAt B) ≡ true → faultOf fp B ≡ 0 → (badVoidExtent B ≡ false) × (hdrVoidExtent B ≡ false)
+pub no-void-fault : (fp B : ℕ) → isVoid (modeAt B) ≡ true → faultOf false fp B ≡ 0 → (badVoidExtent B ≡ false) × (hdrVoidExtent B ≡ false)
 unfolding voidReasons
-no-void-fault fp B v e = let n : None (voidReasons B) = first-none (voidReasons B) tt (sym (fault-void B v fp) ∙ e) in (n .0, n .1 .0)
+no-void-fault fp B v e = let n : None (voidReasons false B) = first-none (voidReasons false B) tt (sym (fault-void B v fp) ∙ e) in (n .0, n .1 .0)
 
-pub void-no-fault : (fp B : ℕ) → isVoid (modeAt B) ≡ true → badVoidExtent B ≡ false → hdrVoidExtent B ≡ false → faultOf fp B ≡ 0
+pub void-no-fault : (fp B : ℕ) → isVoid (modeAt B) ≡ true → badVoidExtent B ≡ false → hdrVoidExtent B ≡ false → faultOf false fp B ≡ 0
 unfolding voidReasons
-void-no-fault fp B v a b = fault-void B v fp ∙ none-first (voidReasons B) (a, (b, tt))
+void-no-fault fp B v a b = fault-void B v fp ∙ none-first (voidReasons false B) (a, (b, tt))
 
 abbrev pub modeFaults : ℕ → Header → List Reason
-modeFaults fp h = gridReasons fp h (endpointReasons h [])
+modeFaults fp h = gridReasons fp h (endpointReasons false h [])
 
-pub no-mode-fault : (fp B : ℕ) → isVoid (modeAt B) ≡ false → faultOf fp B ≡ 0 → (isReserved (modeAt B) ≡ false) × None (modeFaults fp (headerAt B))
+pub no-mode-fault : (fp B : ℕ) → isVoid (modeAt B) ≡ false → faultOf false fp B ≡ 0 → (isReserved (modeAt B) ≡ false) × None (modeFaults fp (headerAt B))
 unfolding modeReasons
-no-mode-fault fp B v e = let n : None (modeReasons fp B) = first-none (modeReasons fp B) tt (sym (fault-mode B v fp) ∙ e) in n
+no-mode-fault fp B v e = let n : None (modeReasons false fp B) = first-none (modeReasons false fp B) tt (sym (fault-mode B v fp) ∙ e) in n
 
-pub mode-no-fault : (fp B : ℕ) → isVoid (modeAt B) ≡ false → isReserved (modeAt B) ≡ false → None (modeFaults fp (headerAt B)) → faultOf fp B ≡ 0
+pub mode-no-fault : (fp B : ℕ) → isVoid (modeAt B) ≡ false → isReserved (modeAt B) ≡ false → None (modeFaults fp (headerAt B)) → faultOf false fp B ≡ 0
 unfolding modeReasons
-mode-no-fault fp B v r n = fault-mode B v fp ∙ none-first (modeReasons fp B) (r, n)
+mode-no-fault fp B v r n = fault-mode B v fp ∙ none-first (modeReasons false fp B) (r, n)
 
 -- ---- its settings and numbers
 

@@ -6,25 +6,29 @@ use Prim.Native.Nat.{ℕ, _<_}
 use native.Mathlib.Omega.{arith}
 use lib.ListN.{getD}
 use borrow.Author.Tests.{ltb-false}
+use Rattle.laws.specs.Choice.{pick, both}
 use Rattle.laws.specs.Table.{tab}
 use Rattle.laws.proofs.Filling.{getD-tab, tab-ext}
 use Rattle.quantization.specs.Unquantise.{unquantEndpoint, unquantWeight}
 use Rattle.integer_sequence.specs.Reading.{stored}
 use Rattle.weight_grid.specs.Cell.{level}
 use Rattle.interpolation.specs.declared.Kind.{Kind}
+use Rattle.interpolation.specs.Expansion.{takesHdr}
+use Rattle.half_float.specs.Half.{unormHalf}
 use Rattle.block_header.specs.declared.Header.{Header}
 use Rattle.block_header.specs.Counts.{weightCount, endpointCount, endpointRangeOf}
 use Rattle.block_header.specs.Reasons.{tooManyWeights, tooManyEndpoints}
 use Rattle.block_fault.specs.Bits.{modeAt, isVoid, headerAt, endpointAt, weightAt, colourAt, extentAt}
 use Rattle.block_fault.specs.Faults.{faultOf}
-use Rattle.texel.specs.Meaning.{endpointLevels, weightLevels, mixedTexel, texelFrom, solidTexel}
+use Rattle.texel.specs.Meaning.{endpointLevels, weightLevels, mixedTexel, texelFrom, solidNumber, solidTexel}
 use Rattle.texel.specs.BlockTexel.{blockTexel}
-use Rattle.symbolic_block.specs.Fields.{numberIn}
-use Rattle.symbolic_block.specs.Picture.{solidPicture, pictureOf}
+use Rattle.symbolic_block.specs.declared.SymbolicBlock.{SymbolicBlock}
+use Rattle.symbolic_block.specs.Fields.{numberIn, colourIn}
+use Rattle.symbolic_block.specs.Picture.{solidChannel, solidPicture, pictureOf}
 use Rattle.symbolic_block.specs.Reading.{modeBlock, voidBlock, readBlock}
 use Rattle.laws.proofs.Reasons.{None, none-at}
 use Rattle.symbolic_block.proofs.Lists.{stored-at, within-used}
-use Rattle.symbolic_block.proofs.Opened.{picture-void, picture-mode, read-void, read-mode, texel-void, texel-mode, modeFaults, no-mode-fault}
+use Rattle.symbolic_block.proofs.Opened.{picture-void, picture-mode, read-void, read-mode, texel-void, texel-mode, modeFaults, no-void-fault, no-mode-fault}
 use Rattle.symbolic_block.proofs.Read.{Settled, settled}
 use Rattle.symbolic_block.proofs.Agrees.{Counted, agrees}
 
@@ -48,23 +52,31 @@ unfolding texelFrom
 texel-same fp kind h e f v w x y p q =
     ap₂ (λ ends weights. mixedTexel fp kind h ends weights x y) (levels-same (endpointRangeOf h) e f p) (weights-same (h .grid .range) v w q)
 
-pub solid-same : (f g : ℕ → ℕ) → ((i : ℕ) → i < 4 → f i ≡ g i) → solidTexel f ≡ solidTexel g
-unfolding solidTexel
-solid-same f g h =
-    let e0 = h 0 (omega arith) in
-    let e1 = h 1 (omega arith) in
-    let e2 = h 2 (omega arith) in
-    let e3 = h 3 (omega arith) in
+-- of an LDR solid block
+pub solid-same : (kind : Kind) (s : SymbolicBlock) (g : ℕ → ℕ) → ((i : ℕ) → i < 4 → colourIn s i ≡ g i) → solidPicture kind s ≡ solidTexel kind false g
+unfolding solidPicture solidChannel solidTexel solidNumber
+solid-same kind s g h =
+    let e0 = each 0 (omega arith) in
+    let e1 = each 1 (omega arith) in
+    let e2 = each 2 (omega arith) in
+    let e3 = each 3 (omega arith) in
     λ i. record { r = e0 i; g = e1 i; b = e2 i; a = e3 i }
+  where
+    go : (t : Bool) (n : ℕ) → pick t (unormHalf n) n ≡ pick (both t true) (unormHalf n) n
+    go true n = refl
+    go false n = refl
+
+    each : (i : ℕ) → i < 4 → pick (takesHdr kind) (unormHalf (colourIn s i)) (colourIn s i) ≡ pick (both (takesHdr kind) true) (unormHalf (g i)) (g i)
+    each i l = go (takesHdr kind) (colourIn s i) ∙ ap (λ (n : ℕ). pick (both (takesHdr kind) true) (unormHalf n) n) (h i l)
 
 -- ---- what is read
 
 module _ (fp : ℕ) (kind : Kind) (B x y : ℕ) where
-  void-picture : pictureOf fp kind (voidBlock (colourAt B) (extentAt B)) x y ≡ solidTexel (colourAt B)
-  unfolding voidBlock solidPicture solidTexel
+  void-picture : pictureOf fp kind (voidBlock (colourAt B) (extentAt B)) x y ≡ solidTexel kind false (colourAt B)
+  unfolding voidBlock
   void-picture =
       picture-void (voidBlock (colourAt B) (extentAt B)) refl fp kind x y
-      ∙ solid-same (λ i. getD (tab (colourAt B) 4) i 0) (colourAt B) (λ i h. getD-tab (colourAt B) 4 i 0 h)
+      ∙ solid-same kind (voidBlock (colourAt B) (extentAt B)) (colourAt B) (λ i h. getD-tab (colourAt B) 4 i 0 h)
 
   mode-picture : (h : Header) → Counted (modeBlock h (endpointAt B h) (weightAt B h))
       → pictureOf fp kind (modeBlock h (endpointAt B h) (weightAt B h)) x y ≡ texelFrom fp kind h (endpointAt B h) (weightAt B h) x y
@@ -87,10 +99,11 @@ module _ (fp : ℕ) (kind : Kind) (B x y : ℕ) where
     numbers-most = ltb-false 18 (endpointCount h) (none-at (modeFaults fp h) n 4);
   }
 
-  pub block-shows : faultOf fp B ≡ 0 → blockTexel fp kind B x y ≡ pictureOf fp kind (readBlock B) x y
+  pub block-shows : faultOf false fp B ≡ 0 → blockTexel fp kind B x y ≡ pictureOf fp kind (readBlock B) x y
   block-shows e = go (isVoid (modeAt B)) refl where
     go : (v : Bool) → isVoid (modeAt B) ≡ v → blockTexel fp kind B x y ≡ pictureOf fp kind (readBlock B) x y
-    go true v = texel-void B v fp kind x y e ∙ sym (rw (read-void B v) void-picture)
+    go true v =
+        texel-void B v fp kind x y e ∙ ap (λ (t : Bool). solidTexel kind t (colourAt B)) (no-void-fault fp B v e .1) ∙ sym (rw (read-void B v) void-picture)
     go false v =
         let n = no-mode-fault fp B v e in
         texel-mode B v fp kind x y e ∙ sym (rw (read-mode B v) (mode-picture (headerAt B) (counted (headerAt B) (settled B v (n .0)) (n .1))))

@@ -159,7 +159,7 @@ module _ (fp : ℕ) (s : SymbolicBlock) (m : s .mark ≡ 1) (n : None (voidRefus
   pub void-back : readBlock b ≡ s
   void-back = read-void b is-void ∙ with-fields
 
-  pub void-faultless : faultOf fp b ≡ 0
+  pub void-faultless : faultOf false fp b ≡ 0
   unfolding badVoidExtent hdrVoidExtent voidRefusals
   void-faultless =
       void-no-fault fp b is-void
@@ -193,7 +193,7 @@ module _ (B : ℕ) where
   extents-within =
       all-within 4 4 8191 _ (λ i h l. rw (getD-tab (extentAt B) 4 i 0 h) (omega (arith, field-lt B (12 + 13 * i) 13))) (λ i h l. omega arith)
 
-  pub void-accepted : (fp : ℕ) → fp ≤ 13 → isVoid (modeAt B) ≡ true → faultOf fp B ≡ 0 → None (voidRefusals fp read)
+  pub void-accepted : (fp : ℕ) → fp ≤ 13 → isVoid (modeAt B) ≡ true → faultOf false fp B ≡ 0 → None (voidRefusals fp read)
   unfolding voidRefusals voidBlock unknownFootprint badColours badExtentFields someInUse badVoidExtent
   void-accepted fp low v e =
       let bad : badExtents (extentAt B) ≡ false = either-none (not (eqb (field B 10 2) 3)) (badExtents (extentAt B)) (no-void-fault fp B v e .0) .1 in

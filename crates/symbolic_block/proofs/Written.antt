@@ -218,7 +218,7 @@ module _ (fp : ℕ) (s : SymbolicBlock) (f : Fine fp s) (z : Sized s) where
   pub mode-back : readBlock b ≡ s
   mode-back = read-mode b not-void ∙ rw settings-are with-numbers
 
-  pub mode-faultless : None (modeRefusals fp s) → faultOf fp b ≡ 0
+  pub mode-faultless : None (modeRefusals fp s) → faultOf false fp b ≡ 0
   unfolding modeRefusals
   mode-faultless n =
       let r = none-at (modeRefusals fp s) n in

@@ -30,7 +30,7 @@ pub record Demand3 : Type 0 where
       → ((j : ℕ) → j < i → reasonAt (refusals fp s) j .holds ≡ false) → refusalOf fp s ≡ reasonAt (refusals fp s) i .told
   -- what is written for an acceptable one is a block without fault
   pub written-fits : (fp : ℕ) (s : SymbolicBlock) → Sized s → Acceptable fp s → blockOf s < 2 ^ 128
-  pub written-no-fault : (fp : ℕ) (s : SymbolicBlock) → Sized s → Acceptable fp s → faultOf fp (blockOf s) ≡ 0
+  pub written-no-fault : (fp : ℕ) (s : SymbolicBlock) → Sized s → Acceptable fp s → faultOf false fp (blockOf s) ≡ 0
   -- that reads back as the same: all fields are equal
   pub written-reads-back : (fp : ℕ) (s : SymbolicBlock) → Sized s → Acceptable fp s → readBlock (blockOf s) ≡ s
   -- and shows its picture, in every kind and at every place
@@ -40,19 +40,19 @@ pub record Demand3 : Type 0 where
   pub written-shows-numbers : (fp : ℕ) (s : SymbolicBlock) → Sized s → Acceptable fp s
       → (kind : Kind) (x y c : ℕ) → blockNumberAt fp kind (blockOf s) x y c ≡ pictureNumber fp kind s x y c
   -- a block without fault reads as one that is acceptable,
-  pub read-sized : (fp B : ℕ) → faultOf fp B ≡ 0 → Sized (readBlock B)
-  pub read-typed : (fp B : ℕ) → fp ≤ 13 → faultOf fp B ≡ 0 → Typed (readBlock B)
-  pub read-acceptable : (fp B : ℕ) → fp ≤ 13 → faultOf fp B ≡ 0 → Acceptable fp (readBlock B)
-  pub reads-as : (fp B : ℕ) → faultOf fp B ≡ 0 → ReadsAs B (readBlock B)
+  pub read-sized : (fp B : ℕ) → faultOf false fp B ≡ 0 → Sized (readBlock B)
+  pub read-typed : (fp B : ℕ) → fp ≤ 13 → faultOf false fp B ≡ 0 → Typed (readBlock B)
+  pub read-acceptable : (fp B : ℕ) → fp ≤ 13 → faultOf false fp B ≡ 0 → Acceptable fp (readBlock B)
+  pub reads-as : (fp B : ℕ) → faultOf false fp B ≡ 0 → ReadsAs B (readBlock B)
   -- and as no other
-  pub reads-as-one : (fp B : ℕ) (s : SymbolicBlock) → faultOf fp B ≡ 0 → Sized s → ReadsAs B s → s ≡ readBlock B
+  pub reads-as-one : (fp B : ℕ) (s : SymbolicBlock) → faultOf false fp B ≡ 0 → Sized s → ReadsAs B s → s ≡ readBlock B
   -- no two parts of such a block share a bit: not the extra mode bits and the low ones either
-  pub parts-apart : (fp B : ℕ) → isVoid (modeAt B) ≡ false → faultOf fp B ≡ 0 → endpointsEnd (headerAt B)
+  pub parts-apart : (fp B : ℕ) → isVoid (modeAt B) ≡ false → faultOf false fp B ≡ 0 → endpointsEnd (headerAt B)
       + (weightBits (headerAt B .grid) + componentBits (headerAt B .grid .planes) + extraBits (headerAt B .partitions) (headerAt B .selector)) ≤ 128
   -- what is written for it shows the same
-  pub rewritten-shows : (fp B : ℕ) → fp ≤ 13 → faultOf fp B ≡ 0
+  pub rewritten-shows : (fp B : ℕ) → fp ≤ 13 → faultOf false fp B ≡ 0
       → (kind : Kind) (x y : ℕ) → blockTexel fp kind (blockOf (readBlock B)) x y ≡ blockTexel fp kind B x y
-  pub rewritten-shows-numbers : (fp B : ℕ) → fp ≤ 13 → faultOf fp B ≡ 0
+  pub rewritten-shows-numbers : (fp B : ℕ) → fp ≤ 13 → faultOf false fp B ≡ 0
       → (kind : Kind) (x y c : ℕ) → blockNumberAt fp kind (blockOf (readBlock B)) x y c ≡ blockNumberAt fp kind B x y c
   -- "The writer takes the smallest code whose present digits are the wanted ones, and leaves spare bits 0."
   pub smallest-endpoint-codes : (fp : ℕ) (s : SymbolicBlock) → Sized s → Acceptable fp s → s .mark ≡ 0

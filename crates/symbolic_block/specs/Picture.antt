@@ -14,18 +14,32 @@ use Rattle.footprint.specs.Footprint.{widthOf, heightOf, isSmall}
 use Rattle.partition.specs.Select.{partitionOf}
 use Rattle.weight_grid.specs.Place.{scaleOf, gridPlace}
 use Rattle.weight_grid.specs.Bilinear.{blendOf}
-use Rattle.endpoint_arithmetic.specs.declared.EndpointPair.{EndpointPair}
 use Rattle.color_endpoint.specs.Modes.{pairOf}
 use Rattle.interpolation.specs.declared.Kind.{Kind}
 use Rattle.interpolation.specs.declared.Texel.{Texel}
-use Rattle.interpolation.specs.Expansion.{expandOf, shownOf}
+use Rattle.interpolation.specs.declared.Kind.the-variants.{Unorm16, Srgb8, Float16}
+use Rattle.interpolation.specs.Expansion.{expandOf, shownOf, takesHdr}
+use Rattle.half_float.specs.Half.{unormHalf, halfOf}
+use Rattle.half_pair.specs.Pair.{halfPairOf}
+use Rattle.half_pair.specs.Texel.{hdrAt}
 use Rattle.interpolation.specs.Texel.{mixOf}
 use Rattle.symbolic_block.specs.declared.SymbolicBlock.{SymbolicBlock}
 use Rattle.symbolic_block.specs.Fields.{colourIn, modeIn, endpointIn, weightIn}
 
 -- "Solid: each texel is the four colours"
-unfoldable pub solidPicture : SymbolicBlock → Texel
-solidPicture s = record { r = colourIn s 0; g = colourIn s 1; b = colourIn s 2; a = colourIn s 3 }
+-- in kind 2 "the half floats that 000 makes of" them
+unfoldable pub solidChannel : Kind → SymbolicBlock → ℕ → ℕ
+solidChannel kind s c = pick (takesHdr kind) (unormHalf (colourIn s c)) (colourIn s c)
+
+unfoldable pub solidPicture : Kind → SymbolicBlock → Texel
+unfolding solidChannel
+solidPicture kind s = record { r = solidChannel kind s 0; g = solidChannel kind s 1; b = solidChannel kind s 2; a = solidChannel kind s 3 }
+
+-- "the partition's mode makes its numbers a pair of colours": channel c of that pair, mixed by a weight, in kinds 0 and 1 "widened for the kind and mixed", in kind 2 the half float of what is mixed
+abbrev pub pairChannel : Kind → ℕ → List Level → ℕ → ℕ → ℕ
+pairChannel Unorm16 mode v c w = mixOf (expandOf Unorm16 (getD (pairOf mode v .e0) c 0)) (expandOf Unorm16 (getD (pairOf mode v .e1) c 0)) w
+pairChannel Srgb8 mode v c w = mixOf (expandOf Srgb8 (getD (pairOf mode v .e0) c 0)) (expandOf Srgb8 (getD (pairOf mode v .e1) c 0)) w
+pairChannel Float16 mode v c w = halfOf (hdrAt (halfPairOf mode v) c) (mixOf (getD (halfPairOf mode v .c0) c 0) (getD (halfPairOf mode v .c1) c 0) w)
 
 module _ (s : SymbolicBlock) where
   -- ---- "Weights"
@@ -86,10 +100,6 @@ module _ (s : SymbolicBlock) where
   unfoldable pub widenedNumbers : ℕ → List Level
   widenedNumbers p = tab (λ k. record { 0 = unquantEndpoint rangeOfEndpoints (endpointIn s (numbersOfFirst p + k)) }) (numbersOf p)
 
-  -- "the partition's mode makes its numbers a pair of colours"
-  unfoldable pub pairOfColours : ℕ → EndpointPair
-  pairOfColours p = pairOf (modeIn s p) (widenedNumbers p)
-
   -- ---- "Partition"
 
   -- "the hash of index, count, place and footprint; with one partition it is 0"
@@ -105,8 +115,7 @@ module _ (s : SymbolicBlock) where
   -- "that partition's pair, widened for the kind and mixed": channel c, in 16 bits
   unfoldable pub channelAt : ℕ → Kind → ℕ → ℕ → ℕ → ℕ
   channelAt fp kind x y c =
-      let pair = pairOfColours (partitionAt fp x y) in
-      mixOf (expandOf kind (getD (pair .e0) c 0)) (expandOf kind (getD (pair .e1) c 0)) (placeWeight fp (channelGrid c) x y)
+      pairChannel kind (modeIn s (partitionAt fp x y)) (widenedNumbers (partitionAt fp x y)) c (placeWeight fp (channelGrid c) x y)
 
   unfoldable pub mixedPicture : ℕ → Kind → ℕ → ℕ → Texel
   mixedPicture fp kind x y =
@@ -114,7 +123,7 @@ module _ (s : SymbolicBlock) where
 
 -- the texel at x, y, in 16 bits
 unfoldable pub pictureOf : ℕ → Kind → SymbolicBlock → ℕ → ℕ → Texel
-pictureOf fp kind s x y = pick (eqb (s .mark) 1) (solidPicture s) (mixedPicture s fp kind x y)
+pictureOf fp kind s x y = pick (eqb (s .mark) 1) (solidPicture kind s) (mixedPicture s fp kind x y)
 
 -- the number shown of its channel c, of R, G, B, A: "in kind 1 their top bytes", "kind 1 keeps the top byte"
 unfoldable pub pictureNumber : ℕ → Kind → SymbolicBlock → ℕ → ℕ → ℕ → ℕ

@@ -135,7 +135,7 @@ modeRefusals fp s =
     ∷ when (noBlockMode (gridOf s)) 32
     ∷ gridReasons fp (headerOf s)
     (when (modesMisfit (headerOf s)) 33
-    ∷ endpointReasons (headerOf s)
+    ∷ endpointReasons false (headerOf s)
     (when (badEndpoints s) 34
     ∷ when (badWeights s) 34
     ∷ []))

@@ -160,7 +160,7 @@ tells false n = refl
 -- the stages of a mode sheet's refusals, the first and the last given
 abbrev stages : ℕ → ℕ → Header → Bool → ℕ
 stages fp n h b =
-    orElse n (orElse (firstOf (gridReasons fp h [])) (orElse (pick (modesMisfit h) 33 0) (orElse (endpointFault h) (pick b 34 0))))
+    orElse n (orElse (firstOf (gridReasons fp h [])) (orElse (pick (modesMisfit h) 33 0) (orElse (endpointFault false h) (pick b 34 0))))
 
 -- the last stage of five tells more
 in-stages : (f g m e : ℕ) (a w n : Bool) → orElse f (orElse g (orElse m (orElse e (pick (either (either a (not n)) w) 34 0))))
@@ -365,7 +365,7 @@ module _ (s : SymbolicBlock) where
         ∙ ap (λ (k : Header). stages fp f k (either (badEndpoints s) (badWeights s))) (sym header-is)
         ∙ ap (λ (b : Bool). stages fp f h (either b (badWeights s))) endpoints-fit
         ∙ ap (λ (b : Bool). stages fp f h (either (either (badEndpoints (clip s)) (not (fits s))) b)) (sym weights-same)
-        ∙ in-stages f (firstOf (gridReasons fp h [])) (pick (modesMisfit h) 33 0) (endpointFault h) (badEndpoints (clip s)) (badWeights (clip s)) (fits s)
+        ∙ in-stages f (firstOf (gridReasons fp h [])) (pick (modesMisfit h) 33 0) (endpointFault false h) (badEndpoints (clip s)) (badWeights (clip s)) (fits s)
         ∙ ap (λ (n : ℕ). orElse n (pick (fits s) 0 34)) (mode-stages fp (clip s))
 
   -- where one is, it is told before all that differs

@@ -201,7 +201,7 @@ pub fn read_symbolic(fp: u8, block: &[u8]) -> Reading
         return told(refused(stage));
     };
     let b = bits::load(block);
-    let s = block_fault::read_settings(b, fp);
+    let s = block_fault::read_settings(false, b, fp);
     let v = s.verdict;
     let sound = block_fault::stage_in(v);
     let Stage::Passed = sound else {

@@ -74,12 +74,12 @@ unfolding fieldReasons badFields badGrid badPartitioning badLists
 field-stage fp s = simp joined
 
 pub mode-stages : (fp : ℕ) (s : SymbolicBlock) → orElse (firstOf (fieldReasons fp s)) (orElse (firstOf (gridReasons fp (headerOf s) []))
-    (orElse (pick (modesMisfit (headerOf s)) 33 0) (orElse (endpointFault (headerOf s)) (pick (either (badEndpoints s) (badWeights s)) 34 0))))
+    (orElse (pick (modesMisfit (headerOf s)) 33 0) (orElse (endpointFault false (headerOf s)) (pick (either (badEndpoints s) (badWeights s)) 34 0))))
     ≡ firstOf (modeRefusals fp s)
 unfolding modeRefusals endpointFault
 mode-stages fp s =
     rw (field-stage fp s, joined (badEndpoints s) (badWeights s) 34 0)
-    (five (eachField fp s) (gridReasons fp (headerOf s) []) (when (modesMisfit (headerOf s)) 33 ∷ []) (endpointReasons (headerOf s) [])
+    (five (eachField fp s) (gridReasons fp (headerOf s) []) (when (modesMisfit (headerOf s)) 33 ∷ []) (endpointReasons false (headerOf s) [])
     (when (badEndpoints s) 34 ∷ when (badWeights s) 34 ∷ []) tt tt tt tt)
 
 -- 1, 31 and 12 of a void extent, each field by itself

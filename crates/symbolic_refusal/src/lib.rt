@@ -303,7 +303,7 @@ fn mode_refusal(fp: u8, s: SymbolicBlock) -> u8
     let fields = field_refusal(fp, s);
     let grid = grid_refusal(fp, h);
     let modes = told(modes_misfit(h), 33);
-    let ends = block_header::endpoint_fault(h);
+    let ends = block_header::endpoint_fault(false, h);
     let numbers = told(either(bad_endpoints(s), bad_weights(s)), 34);
     first(fields, first(grid, first(modes, first(ends, numbers))))
 }

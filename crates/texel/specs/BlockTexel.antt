@@ -1,4 +1,4 @@
--- What a block shows at a place: 000's stages from its bits, magenta for a fault. B is the number of its 128 bits.
+-- What a block shows at a place: 000's stages from its bits, the kind's error colour for a fault. B is the number of its 128 bits.
 -- Assumes nothing.
 use Prim.Native.Nat.{ℕ, _*_, _/_, _%_}
 use mathlib.Core.List.{List}
@@ -8,20 +8,20 @@ use Rattle.laws.specs.Table.{tab, replaced}
 use Rattle.footprint.specs.Footprint.{widthOf, texelsOf}
 use Rattle.interpolation.specs.declared.Kind.{Kind}
 use Rattle.interpolation.specs.declared.Texel.{Texel}
-use Rattle.interpolation.specs.Expansion.{shownOf}
+use Rattle.interpolation.specs.Expansion.{shownOf, takesHdr}
 use Rattle.block_fault.specs.Bits.{modeAt, isVoid, headerAt, endpointAt, weightAt, colourAt}
-use Rattle.block_fault.specs.Faults.{faultOf}
-use Rattle.texel.specs.Meaning.{texelFrom, solidTexel, magenta, channel, shownChannel}
+use Rattle.block_fault.specs.Faults.{hdrVoidExtent, faultOf}
+use Rattle.texel.specs.Meaning.{texelFrom, solidTexel, errorTexel, channel, shownChannel}
 
 -- the texel of a block without fault
 unfoldable pub soundTexel : ℕ → Kind → ℕ → ℕ → ℕ → Texel
 soundTexel fp kind B x y =
-    pick (isVoid (modeAt B)) (solidTexel (colourAt B)) (texelFrom fp kind (headerAt B) (endpointAt B (headerAt B)) (weightAt B (headerAt B)) x y)
+    pick (isVoid (modeAt B)) (solidTexel kind (hdrVoidExtent B) (colourAt B)) (texelFrom fp kind (headerAt B) (endpointAt B (headerAt B)) (weightAt B (headerAt B)) x y)
 
 -- the texel at x, y of a block, in 16 bits
 unfoldable pub blockTexel : ℕ → Kind → ℕ → ℕ → ℕ → Texel
 unfolding soundTexel
-blockTexel fp kind B x y = pick (eqb (faultOf fp B) 0) (soundTexel fp kind B x y) magenta
+blockTexel fp kind B x y = pick (eqb (faultOf (takesHdr kind) fp B) 0) (soundTexel fp kind B x y) (errorTexel kind)
 
 -- the number that a call writes for channel c of that texel
 unfoldable pub blockNumberAt : ℕ → Kind → ℕ → ℕ → ℕ → ℕ → ℕ

@@ -1,11 +1,11 @@
 -- 01, "From numbers to texels": the texel at a place, from a header and the stored numbers. No bit position stands here.
 -- Assumes nothing.
 use Prim.Native.Nat.{ℕ, _+_, _*_}
-use mathlib.Core.Bool.{Bool}
+use mathlib.Core.Bool.{Bool, not}
 use mathlib.Core.List.{List, [], _∷_}
 use lib.Dec.{eqb}
 use lib.ListN.{getD}
-use Rattle.laws.specs.Choice.{pick}
+use Rattle.laws.specs.Choice.{pick, both}
 use Rattle.laws.specs.Table.{tab}
 use Rattle.encoding.specs.declared.Level.{Level}
 use Rattle.quantization.specs.Unquantise.{unquantEndpoint, unquantWeight}
@@ -17,7 +17,11 @@ use Rattle.weight_grid.specs.Bilinear.{infillOf}
 use Rattle.color_endpoint.specs.Table.{tableOf}
 use Rattle.interpolation.specs.declared.Kind.{Kind}
 use Rattle.interpolation.specs.declared.Texel.{Texel}
-use Rattle.interpolation.specs.Expansion.{noPair, expandedPair, shownOf}
+use Rattle.interpolation.specs.declared.Kind.the-variants.{Unorm16, Srgb8, Float16}
+use Rattle.interpolation.specs.Expansion.{noPair, expandedPair, shownOf, takesHdr}
+use Rattle.half_float.specs.Half.{unormHalf}
+use Rattle.half_pair.specs.Pair.{noHalf, halfTableOf}
+use Rattle.half_pair.specs.Texel.{halfTexel}
 use Rattle.interpolation.specs.Texel.{texelOf}
 use Rattle.block_header.specs.declared.Header.{Header}
 use Rattle.block_header.specs.Counts.{endpointRangeOf}
@@ -30,6 +34,13 @@ endpointLevels range stored = tab (λ i. level (unquantEndpoint range (stored i)
 unfoldable pub weightLevels : ℕ → (ℕ → ℕ) → List Level
 unfolding tab
 weightLevels range stored = tab (λ i. level (unquantWeight range (stored i))) 64
+
+-- a texel of partition p by its pair, the weights of both planes and the component that takes the second: 01's rule in kinds 0 and 1,
+-- 000's half floats in kind 2
+abbrev pub partitionTexel : Kind → List ℕ → ℕ → List Level → ℕ → Level → Level → ℕ → Texel
+partitionTexel Unorm16 modes count ends p first second component = texelOf (expandedPair Unorm16 (getD (tableOf modes count ends) p noPair)) first second component
+partitionTexel Srgb8 modes count ends p first second component = texelOf (expandedPair Srgb8 (getD (tableOf modes count ends) p noPair)) first second component
+partitionTexel Float16 modes count ends p first second component = halfTexel (getD (halfTableOf modes count ends) p noHalf) first second component
 
 module _ (fp : ℕ) (kind : Kind) (h : Header) (ends weights : List Level) (x y : ℕ) where
   -- "Infill gives one weight at the place for each grid"
@@ -48,8 +59,7 @@ module _ (fp : ℕ) (kind : Kind) (h : Header) (ends weights : List Level) (x y 
   -- "that partition's pair, widened for the kind and mixed by the first grid's weight", in 16 bits
   unfoldable pub mixedTexel : Texel
   mixedTexel =
-      texelOf
-      (expandedPair kind (getD (tableOf (h .modes) (h .partitions) ends) (partitionOf (h .index) (h .partitions) (isSmall fp) x y 0) noPair))
+      partitionTexel kind (h .modes) (h .partitions) ends (partitionOf (h .index) (h .partitions) (isSmall fp) x y 0)
       (level (planeWeight 0)) (level secondWeight) secondComponent
 
 -- the texel from the stored numbers
@@ -62,15 +72,26 @@ texelFrom fp kind h endpoint weight x y =
 unfoldable pub channel : Texel → ℕ → ℕ
 channel t c = getD (t .r ∷ t .g ∷ t .b ∷ t .a ∷ []) c 0
 
--- the number shown of it in a kind: 16 bits, or the top byte
+-- the number shown of it in a kind: 16 bits, the top byte, or a half float's 16 bits
 unfoldable pub shownChannel : Kind → Texel → ℕ → ℕ
 unfolding channel
 shownChannel kind t c = shownOf kind (channel t c)
 
--- four colours of 16 bits: 01's solid block
-unfoldable pub solidTexel : (ℕ → ℕ) → Texel
-solidTexel colour = record { r = colour 0; g = colour 1; b = colour 2; a = colour 3 }
+-- a colour of 01's solid block: 16 bits as stored, or the half float of them
+unfoldable pub solidNumber : Bool → ℕ → ℕ
+solidNumber half n = pick half (unormHalf n) n
+
+-- 02, i: "An HDR solid block shows its four colours as stored, infinities and NaN too. What is LDR .. shows in kind 2 the half floats that
+-- 000 makes of it"
+unfoldable pub solidTexel : Kind → Bool → (ℕ → ℕ) → Texel
+solidTexel kind hdr colour =
+    let half = both (takesHdr kind) (not hdr) in
+    record { r = solidNumber half (colour 0); g = solidNumber half (colour 1); b = solidNumber half (colour 2); a = solidNumber half (colour 3) }
 
 -- "every texel is 65535, 0, 65535, 65535 (kind 0) or 255, 0, 255, 255 (kind 1)", the top bytes of the former
-unfoldable pub magenta : Texel
+abbrev pub magenta : Texel
 magenta = record { r = 65535; g = 0; b = 65535; a = 65535 }
+
+-- 02, i: in kind 2 "a block with a fault gives 65535 in all four channels, where demand 1 says magenta"
+unfoldable pub errorTexel : Kind → Texel
+errorTexel kind = pick (takesHdr kind) (record { r = 65535; g = 65535; b = 65535; a = 65535 }) magenta

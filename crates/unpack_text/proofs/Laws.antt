@@ -1,5 +1,6 @@
 -- The text of a block and of the program.
 -- Assumes nothing.
+use mathlib.Core.Bool.{false}
 use mathlib.Core.Path.{_≡_, refl, sym, ap, ap₂, _∙_, subst}
 use mathlib.Core.List.{List, [], _∷_, _++_}
 use Prim.Native.Nat.{ℕ, zero, suc, _+_, _*_, _/_, _%_, _≤_, _<_}
@@ -15,7 +16,7 @@ use Rattle.laws.proofs.Filling.{getD-tab}
 use Rattle.bits.specs.Block.{numberOf}
 use Rattle.footprint.specs.Footprint.{widthOf, texelsOf}
 use Rattle.interpolation.specs.declared.Kind.{Kind}
-use Rattle.interpolation.specs.Expansion.{shownOf}
+use Rattle.interpolation.specs.Expansion.{shownOf, takesHdr}
 use Rattle.block_fault.specs.Faults.{faultOf}
 use Rattle.texel.specs.BlockTexel.{blockChannel, blockNumbers}
 use Rattle.block_core.specs.inner.Held.{Held}
@@ -37,10 +38,10 @@ block-lines fp kind B numbers h =
     lines-same _ _ (texelsOf fp) (line-same (widthOf fp) _ _ (texelsOf fp) (λ i l. ap (shownOf kind) (h .holds i l) ∙ sym (getD-tab (λ k. shownOf kind (blockChannel fp kind B k)) (4 * texelsOf fp) i 0 l)))
 
 -- the text of a block, from its two parts
-pub block-text : (fp : ℕ) (kind : Kind) (B C : ℕ) (numbers : List ℕ) {fault : ℕ} → B ≡ C → fault ≡ faultOf fp B → Held fp kind B numbers
+pub block-text : (fp : ℕ) (kind : Kind) (B C : ℕ) (numbers : List ℕ) {fault : ℕ} → B ≡ C → fault ≡ faultOf (takesHdr kind) fp B → Held fp kind B numbers
     → ((102 ∷ 97 ∷ 117 ∷ 108 ∷ 116 ∷ []) ++ spaced (fault ∷ [])) ++ linesOf (texelLine (widthOf fp) (λ i. shownOf kind (getD numbers i 0))) (texelsOf fp) ≡ blockText fp kind C
 unfolding blockText faultLine
-block-text fp kind B C numbers e f h = rw (← e, f) (ap (λ (l : List ℕ). ((102 ∷ 97 ∷ 117 ∷ 108 ∷ 116 ∷ []) ++ spaced (faultOf fp B ∷ [])) ++ l) (block-lines fp kind B numbers h))
+block-text fp kind B C numbers e f h = rw (← e, f) (ap (λ (l : List ℕ). ((102 ∷ 97 ∷ 117 ∷ 108 ∷ 116 ∷ []) ++ spaced (faultOf (takesHdr kind) fp B ∷ [])) ++ l) (block-lines fp kind B numbers h))
 
 -- ---- the program's text
 

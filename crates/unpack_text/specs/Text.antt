@@ -1,7 +1,7 @@
 -- 01, "The program": what it refuses, and its text, as bytes.
 -- Assumes nothing.
 use Prim.Native.Nat.{ℕ}
-use mathlib.Core.Bool.{not}
+use mathlib.Core.Bool.{not, false}
 use mathlib.Core.List.{List, [], _∷_, _++_}
 use lib.Dec.{eqb, ltb}
 use lib.ListN.{length, getD, take, drop}
@@ -11,6 +11,7 @@ use Rattle.bits.specs.Block.{numberOf}
 use Rattle.footprint.specs.Footprint.{widthOf, texelsOf}
 use Rattle.interpolation.specs.declared.Kind.{Kind}
 use Rattle.interpolation.specs.declared.Kind.the-variants.{Unorm16, Srgb8}
+use Rattle.interpolation.specs.Expansion.{takesHdr}
 use Rattle.block_fault.specs.Faults.{faultOf}
 use Rattle.texel.specs.BlockTexel.{blockNumbers}
 use Rattle.line_text.specs.Lines.{spaced, texelLine, linesOf}
@@ -29,7 +30,7 @@ refusedLine n = (114 ∷ 101 ∷ 102 ∷ 117 ∷ 115 ∷ 101 ∷ 100 ∷ []) ++ 
 -- "fault N" (0 for none) and a line "x y r g b a" per texel
 unfoldable pub blockText : ℕ → Kind → ℕ → List ℕ
 blockText fp kind B =
-    faultLine (faultOf fp B) ++ linesOf (texelLine (widthOf fp) (λ k. getD (blockNumbers fp kind B) k 0)) (texelsOf fp)
+    faultLine (faultOf (takesHdr kind) fp B) ++ linesOf (texelLine (widthOf fp) (λ k. getD (blockNumbers fp kind B) k 0)) (texelsOf fp)
 
 -- "It reads 18 bytes: footprint, kind, block. Any other length prints "refused 4"; then 1, then 2." 0 where it does not refuse.
 unfoldable pub programRefusal : ℕ → ℕ → ℕ → ℕ

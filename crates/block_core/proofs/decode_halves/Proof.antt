@@ -1,28 +1,42 @@
 use mathlib.Core.Path.{_≡_, refl, sym, ap, _∙_}
+use mathlib.Core.Bool.{Bool}
+use Prim.Native.Nat.{ℕ}
 use Rattle.bits.specs.Block.{blockNumber}
 use Rattle.block_header.specs.Counts.{endpointCount, endpointRangeOf}
 use Rattle.block_fault.specs.declared.Settings.{Settings}
 use Rattle.block_fault.specs.declared.Verdict.the-variants as verdict
 use Rattle.block_fault.specs.Bits.{headerAt}
-use Rattle.block_fault.specs.Settings.{verdictOf}
+use Rattle.block_fault.specs.Settings.{verdictOf, settingsOf}
+use Rattle.interpolation.specs.Expansion.{takesHdr}
 use Rattle.block_fault.proofs.Verdicts.{settings-verdict, told-fault, told-void, told-coded, coded-header, coded-counts, coded-limits, coded-numbers}
-use Rattle.texel.specs.Meaning.{magenta}
 use Rattle.block_core.specs.inner.Prepared.{halves}
 use Rattle.block_core.proofs.Shows.{painted-into, shows-fault, shows-void, shows-coded}
 use borrow.Author.Needs.{needs}
 use Rattle.block_core.proofs.decode_halves.Statement.{statement}
 use Rattle.block_core.proofs.decode_halves.Tie as tie
 
--- the settings that were read
-verdict-is : (c : tie.After-read-settings) → verdictOf (c .before .args .fp) (blockNumber (halves (c .before .args .lo) (c .before .args .hi))) ≡ c .read-settings .result .verdict
-verdict-is c = sym (ap (λ (s : Settings). s .verdict) (c .read-settings .ensures) ∙ settings-verdict (c .before .args .fp) (blockNumber (halves (c .before .args .lo) (c .before .args .hi))))
+abbrev number : tie.After-read-settings → ℕ
+number c = blockNumber (halves (c .before .before .args .lo) (c .before .before .args .hi))
 
-header-is : (c : tie.After-read-settings) → c .read-settings .result .verdict ≡ verdict.Coded → c .read-settings .result .header ≡ headerAt (blockNumber (halves (c .before .args .lo) (c .before .args .hi)))
-header-is c e = ap (λ (s : Settings). s .header) (c .read-settings .ensures) ∙ coded-header (c .before .args .fp) (blockNumber (halves (c .before .args .lo) (c .before .args .hi))) (verdict-is c ∙ e)
+abbrev taken : tie.After-read-settings → Bool
+taken c = takesHdr (c .before .before .args .kind)
+
+-- the settings that were read
+settings-are : (c : tie.After-read-settings) → c .read-settings .result ≡ settingsOf (taken c) (c .before .before .args .fp) (number c)
+settings-are c = c .read-settings .ensures ∙ ap (λ (t : Bool). settingsOf t (c .before .before .args .fp) (number c)) (c .before .takes-hdr .ensures)
+
+verdict-is : (c : tie.After-read-settings) → verdictOf (taken c) (c .before .before .args .fp) (number c) ≡ c .read-settings .result .verdict
+verdict-is c = sym (ap (λ (s : Settings). s .verdict) (settings-are c) ∙ settings-verdict (taken c) (c .before .before .args .fp) (number c))
+
+header-is : (c : tie.After-read-settings) → c .read-settings .result .verdict ≡ verdict.Coded → c .read-settings .result .header ≡ headerAt (number c)
+header-is c e = ap (λ (s : Settings). s .header) (settings-are c) ∙ coded-header (taken c) (c .before .before .args .fp) (number c) (verdict-is c ∙ e)
 
 numbers-are : (c : tie.After-read-settings) → c .read-settings .result .verdict ≡ verdict.Coded
     → (c .read-settings .result .numbers ≡ endpointCount (c .read-settings .result .header)) × (c .read-settings .result .range ≡ endpointRangeOf (c .read-settings .result .header))
-numbers-are c = rw (c .read-settings .ensures) (coded-numbers (c .before .args .fp) (blockNumber (halves (c .before .args .lo) (c .before .args .hi))))
+numbers-are c = rw (settings-are c) (coded-numbers (taken c) (c .before .before .args .fp) (number c))
+
+takes-hdr-requires : tie.Need-takes-hdr-requires
+takes-hdr-requires c κs = search needs
 
 read-settings-requires : tie.Need-read-settings-requires
 read-settings-requires c κs = search needs
@@ -49,35 +63,36 @@ paint-coded-requires : tie.Need-paint-coded-requires
 paint-coded-requires c κs =
     let r = c .before .before .before in
     let v = c .before .enum-told2 .given .1 in
-    let k = told-coded _ _ (verdict-is r ∙ v) in
-    (rw (header-is r v) (coded-counts _ _ (k .0) (k .1)), (numbers-are r v, rw (header-is r v) (coded-limits _ _ (k .0) (k .1))))
+    let k = told-coded _ _ _ (verdict-is r ∙ v) in
+    (rw (header-is r v) (coded-counts _ _ _ (k .0) (k .1)), (numbers-are r v, rw (header-is r v) (coded-limits _ _ _ (k .0) (k .1))))
 
 returns : tie.Need-returns
-unfolding magenta
 returns c =
-    let r = c .before .before .before .before .before in
-    let k = told-fault _ _ _ (verdict-is r ∙ c .before .before .before .v .given .1) in
-    (sym (k .0), λ e. painted-into _ _ _ _ _ (λ x y. shows-fault _ _ _ x y (k .1)) (c .flood .ensures e))
+    let r = c .before .before .before .before .before .before in
+    let k = told-fault _ _ _ _ (verdict-is r ∙ c .before .before .before .before .v .given .1) in
+    (sym (k .0), λ e. painted-into _ _ _ _ _ (λ x y. c .before .before .error-texel .ensures ∙ shows-fault _ _ _ x y (k .1)) (c .flood .ensures e))
 
 returns-2 : tie.Need-returns-2
 returns-2 c =
     let r = c .before .before .before .before .before in
-    let k = told-void _ _ (verdict-is r ∙ c .before .before .before .enum-told .given .1) in
+    let k = told-void _ _ _ (verdict-is r ∙ c .before .before .before .enum-told .given .1) in
     (sym (k .0), λ e. painted-into _ _ _ _ _ (λ x y. c .before .before .colours .ensures ∙ shows-void _ _ _ x y (k .0) (k .1)) (c .flood2 .ensures e))
 
 returns-3 : tie.Need-returns-3
 returns-3 c =
     let r = c .before .before .before .before in
     let v = c .before .before .enum-told2 .given .1 in
-    let k = told-coded _ _ (verdict-is r ∙ v) in
+    let k = told-coded _ _ _ (verdict-is r ∙ v) in
     (sym (k .0), λ e. painted-into _ _ _ _ _ (λ x y. shows-coded _ _ _ x y (k .0) (k .1) _ (header-is r v)) (c .paint-coded .ensures e))
 
 pub decode-halves-spec : {M : Type 1} → statement M
 decode-halves-spec =
     tie.close
     (tie.spec
+    takes-hdr-requires
     read-settings-requires
     enum-known-v
+    (λ c κs. search needs)
     flood-requires
     enum-told
     colours-requires

@@ -55,14 +55,14 @@ which-line : (c : tie.After-infill-both Inv-loop2 μ-loop2 Inv-loop μ-loop) →
 which-line c = let a = c .before .before .before .before .before .before .before .before .before .before .before .before .before .before .before .before .before .args in which-lt (a .seeds) (a .partitions) (c .before .before .before .before .before .before .before .before .before .before .before .before .before .before .before .loop .y) _ (c .before .before .before .before .before .before .before .before .before .before .row-partitions .ensures) (narrow c)
 
 -- the texel at the place
-shown : (d : tie.After-place Inv-loop2 μ-loop2 Inv-loop μ-loop) → d .before .before .mix-line .result
+shown : (d : tie.After-place Inv-loop2 μ-loop2 Inv-loop μ-loop) → d .before .before .mixed .result
     ≡ texelIn (d .before .before .before .before .before .before .before .before .before .before .before .before .before .before .before .before .before .before .before .before .before .args .kind) (d .before .before .before .before .before .before .before .before .before .before .before .before .before .before .before .before .before .before .before .before .before .args .g) (d .before .before .before .before .before .before .before .before .before .before .before .before .before .before .before .before .before .before .before .before .before .args .component) (d .before .before .before .before .before .before .before .before .before .before .before .before .before .before .before .before .before .before .before .before .before .args .t4) (now (d .before .before .before .before .before .before .before .before .before .before .before .before .before .before .before .before .before .before .before .before .before .args .lines)) (d .before .before .before .before .before .before .before .before .before .before .before .before .before .before .before .before .before .before .before .before .before .args .seeds) (d .before .before .before .before .before .before .before .before .before .before .before .before .before .before .before .before .before .before .before .before .before .args .partitions) (d .before .before .before .before .before .before .before .before .before .before .before .before .before .before .before .before .before .before .before .before .before .args .f) (d .before .before .before .before .before .before .before .before .before .before .before .before .before .loop2 .x) (d .before .before .before .before .before .before .before .before .before .before .before .before .before .before .before .before .before .before .before .loop .y)
 shown d =
     let a = d .before .before .before .before .before .before .before .before .before .before .before .before .before .before .before .before .before .before .before .before .before .args in
     let i = d .before .before .before .before in
     told (a .kind) (a .g) (a .component) (a .t4) (now (a .lines)) (a .seeds) (a .partitions) (a .f) (d .before .before .before .before .before .before .before .before .before .before .before .before .before .loop2 .x) (d .before .before .before .before .before .before .before .before .before .before .before .before .before .before .before .before .before .before .before .loop .y) (i .infill-both .result) (narrow i)
     (d .before .before .before .before .before .before .before .before .before .before .before .before .before .before .row-partitions .ensures) refl (d .before .before .before .before .before .before .before .before .before .before .grid-place2 .ensures) (d .before .before .before .before .before .before .before .before .before .before .before .before .before .before .before .before .grid-place .ensures) refl (d .before .before .before .before .before .before .before .before .before .step2 .ensures) (d .before .before .before .before .before .before .before .before .before .before .before .before .before .before .before .step .ensures)
-    (i .infill-both .ensures .0) (i .infill-both .ensures .1) (d .before .before .mix-line .ensures .0)
+    (i .infill-both .ensures .0) (i .infill-both .ensures .1) (d .before .before .mixed .ensures)
 
 -- it lies in the buffer
 fits : (d : tie.After-place Inv-loop2 μ-loop2 Inv-loop μ-loop) → 4 * (d .before .before .before .before .before .before .before .before .before .before .before .before .before .before .before .before .before .before .before .loop .y * d .before .before .before .before .before .before .before .before .before .before .before .before .before .before .before .before .before .before .before .before .before .args .f .width + d .before .before .before .before .before .before .before .before .before .before .before .before .before .loop2 .x) + 4 ≤ 576

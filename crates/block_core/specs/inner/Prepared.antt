@@ -19,18 +19,24 @@ use Rattle.encoding.specs.Levels.{firstLevel, secondLevel, Bytes}
 use Rattle.weight_grid.specs.inner.Points.{noPoint, readOf}
 use Rattle.interpolation.specs.declared.Kind.{Kind}
 use Rattle.interpolation.specs.declared.Texel.{Texel}
+use Rattle.interpolation.specs.Expansion.{takesHdr}
 use Rattle.interpolation.specs.inner.Line.{lineTexel}
+use Rattle.half_line.specs.inner.Line.{halfTexelOn}
 use Rattle.block_core.specs.declared.Frame.{Frame}
 
 -- the sides of a footprint and the scales of a grid along them
 unfoldable pub frameOf : ℕ → Frame
 frameOf fp = record { width = widthOf fp; height = heightOf fp; across = scaleOf (widthOf fp); down = scaleOf (heightOf fp) }
 
+-- the texel of a kind on the numbers of its pair
+unfoldable pub texelOn : Kind → List ℕ → ℕ → ℕ → ℕ → Texel
+texelOn kind line first second component = pick (takesHdr kind) (halfTexelOn line first second component) (lineTexel kind line first second component)
+
 module _ (kind : Kind) (g : WeightGrid) (component : ℕ) (points : List LevelPair) (lines : List (List ℕ)) where
   -- the texel of partition p at gs, gt of the grid; `component` takes the second weight, 4 standing for none
   unfoldable pub texelAt : ℕ → ℕ → ℕ → Texel
   texelAt p gs gt =
-      lineTexel kind (getD lines p []) (readOf firstLevel points (g .width) (g .height) gs gt) (readOf secondLevel points (g .width) (g .height) gs gt) component
+      texelOn kind (getD lines p []) (readOf firstLevel points (g .width) (g .height) gs gt) (readOf secondLevel points (g .width) (g .height) gs gt) component
 
   -- the texel at x, y of a block
   unfoldable pub texelIn : Seeds → ℕ → Frame → ℕ → ℕ → Texel

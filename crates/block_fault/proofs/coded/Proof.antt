@@ -38,13 +38,13 @@ mode-of s = s .pre
 returns : tie.Need-returns
 returns c =
     let s = c .before .before .before .before .before .before in
-    stop-grid (s .args .fp) (blockNumber (s .args .b)) (s .args .g) (s .pre) (c .before .before .before .before .grid-stage .ensures) (c .before .before .enum-told2 .given .1) (c .before .verdict-of .ensures) (c .bare .ensures)
+    stop-grid (s .args .hdr) (s .args .fp) (blockNumber (s .args .b)) (s .args .g) (s .pre) (c .before .before .before .before .grid-stage .ensures) (c .before .before .enum-told2 .given .1) (c .before .verdict-of .ensures) (c .bare .ensures)
 
 returns-2 : tie.Need-returns-2
 returns-2 c =
     let f = c .before .before .before .before .before in
     let s = begin f in
-    stop-planes (s .args .fp) (blockNumber (s .args .b)) (s .args .g) (s .pre) (passed (f .before)) (count f) (c .before .before .before .before .planes-stage .ensures) (c .before .before .enum-told4 .given .1) (c .before .verdict-of2 .ensures) (c .bare2 .ensures)
+    stop-planes (s .args .hdr) (s .args .fp) (blockNumber (s .args .b)) (s .args .g) (s .pre) (passed (f .before)) (count f) (c .before .before .before .before .planes-stage .ensures) (c .before .before .enum-told4 .given .1) (c .before .verdict-of2 .ensures) (c .bare2 .ensures)
 
 header-at-requires : tie.Need-header-at-requires
 header-at-requires c κs =
@@ -64,14 +64,14 @@ returns-3 c =
     let p = h .before in
     let f = p .before .before .before in
     let s = begin f in
-    stop-ends (s .args .fp) (blockNumber (s .args .b)) (s .args .g) (s .pre) (passed (f .before)) (count f)
+    stop-ends (s .args .hdr) (s .args .fp) (blockNumber (s .args .b)) (s .args .g) (s .pre) (passed (f .before)) (count f)
     (stage-passed _ (sym (p .before .before .planes-stage .ensures) ∙ p .enum-told3 .given .1))
     (h .header-at .ensures) (c .before .before .before .before .endpoint-stage .ensures) (c .before .before .enum-told6 .given .1) (c .before .verdict-of3 .ensures) (c .bare3 .ensures)
 
 cast-numbers : tie.Need-cast-numbers
 cast-numbers c =
     let e = c .before .before in
-    omega (arith, e .before .before .endpoint-count .ensures .0, ends-count _ (stage-passed _ (sym (e .endpoint-stage .ensures) ∙ c .enum-told5 .given .1)))
+    omega (arith, e .before .before .endpoint-count .ensures .0, ends-count _ _ (stage-passed _ (sym (e .endpoint-stage .ensures) ∙ c .enum-told5 .given .1)))
 
 returns-4 : tie.Need-returns-4
 returns-4 c =
@@ -81,7 +81,7 @@ returns-4 c =
     let f = p .before .before .before in
     let s = begin f in
     carried (e .before .before .endpoint-count .ensures .0) (e .before .bits-left-with .ensures .0) (c .endpoint-range .ensures)
-    ∙ pass-ends (s .args .fp) (blockNumber (s .args .b)) (s .args .g) (s .pre) (passed (f .before)) (count f)
+    ∙ pass-ends (s .args .hdr) (s .args .fp) (blockNumber (s .args .b)) (s .args .g) (s .pre) (passed (f .before)) (count f)
     (stage-passed _ (sym (p .before .before .planes-stage .ensures) ∙ p .enum-told3 .given .1))
     (h .header-at .ensures) (e .endpoint-stage .ensures) (c .before .enum-told5 .given .1)
 

@@ -1,4 +1,5 @@
 use Prim.Native.Nat.{ℕ}
+use mathlib.Core.Bool.{Bool}
 use Rattle.bits.specs.Field.{field}
 use Rattle.block_fault.specs.Bits.{extentAt}
 use Rattle.block_fault.specs.Faults.{badExtents}
@@ -14,6 +15,9 @@ use Rattle.block_fault.proofs.void_stage.Tie as tie
 number : tie.After-bad-extents → ℕ
 number c = blockNumber (c .before .before .before .before .before .before .before .args .b)
 
+abbrev taken : tie.After-bad-extents → Bool
+taken c = c .before .before .before .before .before .before .before .args .hdr
+
 three : (c : tie.After-bad-extents) → field (number c) 10 2 ≡ 3
 unfolding number
 three c = sym (c .before .before .before .before .before .before .field-at .ensures) ∙ c .before .before .before .before .before .if1 .left
@@ -25,23 +29,23 @@ extents c =
 
 returns : tie.Need-returns
 unfolding stageOf
-returns c = ap stageOf (void-bits (blockNumber (c .before .before .args .b)) (λ q. c .if1 .taken (c .before .field-at .ensures ∙ q)))
+returns c = ap stageOf (void-bits (c .before .before .args .hdr) (blockNumber (c .before .before .args .b)) (λ q. c .if1 .taken (c .before .field-at .ensures ∙ q)))
 
 returns-2 : tie.Need-returns-2
 unfolding stageOf number
-returns-2 c = ap stageOf (void-extents (number (c .before)) (three (c .before)) (extents (c .before) ∙ c .if2 .taken))
+returns-2 c = ap stageOf (void-extents (taken (c .before)) (number (c .before)) (three (c .before)) (extents (c .before) ∙ c .if2 .taken))
 
 returns-3 : tie.Need-returns-3
 unfolding stageOf number
 returns-3 c =
     let d = c .before .before .before in
-    ap stageOf (void-hdr (number d) (three d) (extents d ∙ c .before .before .if2 .left) (sym (c .before .field-at2 .ensures) ∙ c .if3 .taken))
+    ap stageOf (void-hdr (taken d) (number d) (three d) (extents d ∙ c .before .before .if2 .left) (sym (c .before .hdr-refused .ensures) ∙ c .if3 .taken))
 
 returns-4 : tie.Need-returns-4
 unfolding stageOf number
 returns-4 c =
     let d = c .before .before .before in
-    ap stageOf (void-sound (number d) (three d) (extents d ∙ c .before .before .if2 .left) (λ q. c .if3 .left (c .before .field-at2 .ensures ∙ q)))
+    ap stageOf (void-sound (taken d) (number d) (three d) (extents d ∙ c .before .before .if2 .left) (sym (c .before .hdr-refused .ensures) ∙ c .if3 .left))
 
 pub void-stage-spec : {M : Type 1} → statement M
 void-stage-spec =

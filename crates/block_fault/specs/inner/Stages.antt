@@ -1,6 +1,7 @@
 -- The stages of reading a block's settings.
 -- Assumes nothing.
 use Prim.Native.Nat.{ℕ}
+use mathlib.Core.Bool.{Bool}
 use lib.Dec.{eqb}
 use Rattle.laws.specs.Choice.{pick}
 use Rattle.laws.specs.Reasons.{firstOf}
@@ -24,5 +25,5 @@ stageIn VoidExtent = Passed
 stageIn (Fault n) = Stopped n
 
 -- what a void extent comes to
-unfoldable pub voidSettings : ℕ → Settings
-voidSettings B = bareOf (pick (eqb (firstOf (voidReasons B)) 0) VoidExtent (Fault (firstOf (voidReasons B))))
+unfoldable pub voidSettings : Bool → ℕ → Settings
+voidSettings hdr B = bareOf (pick (eqb (firstOf (voidReasons hdr B)) 0) VoidExtent (Fault (firstOf (voidReasons hdr B))))

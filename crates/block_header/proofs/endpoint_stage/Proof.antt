@@ -13,7 +13,7 @@ enough c = let p = c .before .before .pre in rw (← p .0, ← p .2) (c .if2 .le
 
 returns : tie.Need-returns
 unfolding stageOf
-returns c = ap stageOf (count-over (c .before .args .h) (omega arith))
+returns c = ap stageOf (count-over (c .before .args .hdr) (c .before .args .h) (omega arith))
 
 mul-if2 : tie.Need-mul-if2
 mul-if2 c = search needs
@@ -25,18 +25,18 @@ returns-2 : tie.Need-returns-2
 unfolding stageOf
 returns-2 c =
     let p = c .before .before .pre in
-    ap stageOf (bits-short (c .before .before .args .h) (omega arith) (rw (← p .0, ← p .2) (c .if2 .taken)))
+    ap stageOf (bits-short (c .before .before .args .hdr) (c .before .before .args .h) (omega arith) (rw (← p .0, ← p .2) (c .if2 .taken)))
 
-some-hdr-requires : tie.Need-some-hdr-requires
-some-hdr-requires c κs = search needs
+hdr-refused-requires : tie.Need-hdr-refused-requires
+hdr-refused-requires c κs = search needs
 
 returns-3 : tie.Need-returns-3
 unfolding stageOf
-returns-3 c = ap stageOf (hdr-there (c .before .before .before .before .args .h) (omega arith) (enough (c .before .before)) (sym (c .before .some-hdr .ensures) ∙ c .if3 .taken))
+returns-3 c = ap stageOf (hdr-there (c .before .before .before .before .args .hdr) (c .before .before .before .before .args .h) (omega arith) (enough (c .before .before)) (sym (c .before .hdr-refused .ensures) ∙ c .if3 .taken))
 
 returns-4 : tie.Need-returns-4
 unfolding stageOf
-returns-4 c = ap stageOf (ends-sound (c .before .before .before .before .args .h) (omega arith) (enough (c .before .before)) (sym (c .before .some-hdr .ensures) ∙ c .if3 .left))
+returns-4 c = ap stageOf (ends-sound (c .before .before .before .before .args .hdr) (c .before .before .before .before .args .h) (omega arith) (enough (c .before .before)) (sym (c .before .hdr-refused .ensures) ∙ c .if3 .left))
 
 pub endpoint-stage-spec : {M : Type 1} → statement M
 endpoint-stage-spec =
@@ -46,6 +46,6 @@ endpoint-stage-spec =
     mul-if2
     add-if2
     returns-2
-    some-hdr-requires
+    hdr-refused-requires
     returns-3
     returns-4)

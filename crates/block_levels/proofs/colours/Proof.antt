@@ -1,49 +1,29 @@
-use native.Mathlib.Omega.{arith}
-use Rattle.block_fault.specs.Bits.{colourAt}
-use Rattle.block_fault.proofs.Laws.{narrow}
-use Rattle.texel.specs.Meaning.{solidTexel}
+use mathlib.Core.Path.{_≡_, ap, _∙_}
+use mathlib.Core.Bool.{Bool, not}
+use Prim.Native.Nat.{ℕ}
 use borrow.Author.Needs.{needs}
+use Rattle.laws.specs.Choice.{both}
+use Rattle.interpolation.specs.Expansion.{takesHdr}
+use Rattle.interpolation.specs.declared.Kind.{Kind}
+use Rattle.interpolation.specs.declared.Texel.{Texel}
+use Rattle.texel.specs.Meaning.{solidNumber, solidTexel}
+use Rattle.block_levels.specs.inner.Lines.{coloursOf}
 use Rattle.block_levels.proofs.colours.Statement.{statement}
 use Rattle.block_levels.proofs.colours.Tie as tie
 
-field-at-requires : tie.Need-field-at-requires
-field-at-requires c κs = search needs
-
-cast-r : tie.Need-cast-r
-cast-r c = omega (arith, narrow _ _ 16 16 (omega arith) (omega arith) (c .field-at .ensures) .below)
-
-field-at-requires-2 : tie.Need-field-at-requires-2
-field-at-requires-2 c κs = search needs
-
-cast-g : tie.Need-cast-g
-cast-g c = omega (arith, narrow _ _ 16 16 (omega arith) (omega arith) (c .field-at2 .ensures) .below)
-
-field-at-requires-3 : tie.Need-field-at-requires-3
-field-at-requires-3 c κs = search needs
-
-cast-b : tie.Need-cast-b
-cast-b c = omega (arith, narrow _ _ 16 16 (omega arith) (omega arith) (c .field-at3 .ensures) .below)
-
-field-at-requires-4 : tie.Need-field-at-requires-4
-field-at-requires-4 c κs = search needs
-
-cast-a : tie.Need-cast-a
-cast-a c = omega (arith, narrow _ _ 16 16 (omega arith) (omega arith) (c .field-at4 .ensures) .below)
+-- the four, each as the kind shows it
+four : (kind : Kind) (colour : ℕ → ℕ) {hdr mark half : Bool} {t : Texel} {r g b a : ℕ} → t ≡ coloursOf colour → mark ≡ hdr → half ≡ both (takesHdr kind) (not mark)
+    → r ≡ solidNumber half (t .r) → g ≡ solidNumber half (t .g) → b ≡ solidNumber half (t .b) → a ≡ solidNumber half (t .a)
+    → _≡_ {A = Texel} (record { r = r; g = g; b = b; a = a }) (solidTexel kind hdr colour)
+unfolding solidTexel coloursOf
+four kind colour et em eh er eg eb ea = rw (er, eg, eb, ea, eh, em, et)
 
 returns : tie.Need-returns
-unfolding solidTexel colourAt
-returns c = rw (c .before .before .before .field-at .ensures, c .before .before .field-at2 .ensures, c .before .field-at3 .ensures, c .field-at4 .ensures)
+returns c =
+    let h = c .before .before .before .before in
+    four _ _ (h .before .before .stored-colours .ensures) (h .before .is-hdr .ensures) (h .shown-as-half .ensures) (c .before .before .before .solid-number .ensures) (c .before .before .solid-number2 .ensures) (c .before .solid-number3 .ensures) (c .solid-number4 .ensures)
 
 pub colours-spec : {M : Type 1} → statement M
 colours-spec =
     tie.close
-    (tie.spec
-    field-at-requires
-    cast-r
-    field-at-requires-2
-    cast-g
-    field-at-requires-3
-    cast-b
-    field-at-requires-4
-    cast-a
-    returns)
+    (tie.spec (λ c κs. search needs) (λ c κs. search needs) (λ c κs. search needs) (λ c κs. search needs) (λ c κs. search needs) (λ c κs. search needs) (λ c κs. search needs) returns)

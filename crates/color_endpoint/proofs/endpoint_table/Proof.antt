@@ -2,7 +2,9 @@
 use mathlib.Core.Path.{_≡_, refl, _∙_}
 use Prim.Native.Nat.{_≤_, _*_, _-_}
 use native.Mathlib.Omega.{arith}
-use Rattle.color_endpoint.specs.Table.{startOf, entryOf, tableOf}
+use Rattle.endpoint_arithmetic.specs.Pair.{zeroPair}
+use Rattle.color_endpoint.specs.Modes.{pairOf}
+use Rattle.color_endpoint.specs.Table.{startOf, entryBy, tableBy, tableOf}
 use Rattle.color_endpoint.proofs.Laws.{table-next, table-full, start-next}
 use Rattle.color_endpoint.proofs.endpoint_table.Statement.{statement}
 use Rattle.color_endpoint.proofs.endpoint_table.Tie as tie
@@ -20,7 +22,7 @@ zero-pair-requires : tie.Need-zero-pair-requires Inv-loop μ-loop
 zero-pair-requires c κs = tt
 
 loop-holds : tie.Need-loop-holds Inv-loop μ-loop
-unfolding startOf tableOf entryOf
+unfolding startOf tableBy entryBy
 loop-holds c = (omega arith, omega arith, refl, rw (c .zero-pair .ensures))
 
 array-read-mode : tie.Need-array-read-mode Inv-loop μ-loop
@@ -57,14 +59,14 @@ loop-again c =
       omega arith,
       omega arith,
       rw (c .number-count .ensures .0, l .inv .2) (start-next m (l .p)),
-      table-next m _ (l .p) (omega arith) (l .inv .3) (l .inv .2) (c .before .before .numbers-from .ensures) (c .before .endpoint-pair .ensures),
+      table-next pairOf zeroPair m _ (l .p) (omega arith) (l .inv .3) (l .inv .2) (c .before .before .numbers-from .ensures) (c .before .endpoint-pair .ensures),
     )
 
 returns : tie.Need-returns Inv-loop μ-loop
 returns c =
     let s = c .before .before .before in
     let e : c .before .loop .p ≡ s .filled .result = omega arith in
-    c .before .loop .inv .3 ∙ rw (e, s .filled .ensures) (table-full _ _ (s .before .args .count))
+    c .before .loop .inv .3 ∙ rw (e, s .filled .ensures) (table-full pairOf zeroPair _ _ (s .before .args .count))
 
 pub endpoint-table-spec : {M : Type 1} → statement M
 endpoint-table-spec =

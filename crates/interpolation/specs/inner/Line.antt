@@ -8,7 +8,7 @@ use lib.ListN.{getD}
 use Rattle.laws.specs.Choice.{pick}
 use Rattle.endpoint_arithmetic.specs.declared.EndpointPair.{EndpointPair}
 use Rattle.interpolation.specs.declared.Kind.{Kind}
-use Rattle.interpolation.specs.declared.Kind.the-variants.{Unorm16, Srgb8}
+use Rattle.interpolation.specs.declared.Kind.the-variants.{Unorm16, Srgb8, Float16}
 use Rattle.interpolation.specs.declared.Texel.{Texel}
 
 -- product, sum and difference modulo 65536
@@ -31,10 +31,12 @@ onLine start step k add i =
 abbrev pub lowOf : Kind → ℕ
 lowOf Unorm16 = 1
 lowOf Srgb8 = 0
+lowOf Float16 = 1
 
 abbrev pub addOf : Kind → ℕ
 addOf Unorm16 = 32
 addOf Srgb8 = 8192
+addOf Float16 = 32
 
 -- start and step of a channel
 unfoldable pub startOf : EndpointPair → ℕ → ℕ
@@ -43,9 +45,9 @@ startOf p c = 64 * getD (p .e0) c 0
 unfoldable pub slopeOf : EndpointPair → ℕ → ℕ
 slopeOf p c = minus (getD (p .e1) c 0) (getD (p .e0) c 0)
 
--- the eight numbers of a pair: the starts of R, G, B, A and their steps; the kind does not count
+-- the numbers of a pair: the starts of R, G, B, A and their steps; the kind does not count, and the last two are used by kind 2 alone
 unfoldable pub lineOf : EndpointPair → List ℕ
-lineOf p = startOf p 0 ∷ startOf p 1 ∷ startOf p 2 ∷ startOf p 3 ∷ slopeOf p 0 ∷ slopeOf p 1 ∷ slopeOf p 2 ∷ slopeOf p 3 ∷ []
+lineOf p = startOf p 0 ∷ startOf p 1 ∷ startOf p 2 ∷ startOf p 3 ∷ slopeOf p 0 ∷ slopeOf p 1 ∷ slopeOf p 2 ∷ slopeOf p 3 ∷ 0 ∷ 0 ∷ []
 
 module _ (kind : Kind) (line : List ℕ) (first second component : ℕ) where
   -- a channel at its weight; the component that the component selector names takes the second

@@ -1,0 +1,45 @@
+-- `half_pair::half_pair` meets its contract.
+use mathlib.Core.Path.{_≡_, sym, _∙_}
+use Rattle.half_pair.specs.Pair.{halfPairOf}
+use borrow.Author.Needs.{needs}
+use Rattle.half_pair.proofs.half_pair.Statement.{statement}
+use Rattle.half_pair.proofs.half_pair.Tie as tie
+
+is-hdr-requires : tie.Need-is-hdr-requires
+is-hdr-requires c κs = search needs
+
+hdr-pair-requires : tie.Need-hdr-pair-requires
+hdr-pair-requires c κs = search needs
+
+expanded-hdr-requires : tie.Need-expanded-hdr-requires
+expanded-hdr-requires c κs = search needs
+
+endpoint-pair-requires : tie.Need-endpoint-pair-requires
+endpoint-pair-requires c κs = search needs
+
+expanded-ldr-requires : tie.Need-expanded-ldr-requires
+expanded-ldr-requires c κs = search needs
+
+returns : tie.Need-returns
+unfolding halfPairOf
+returns c =
+    let x3 = c .before .before .before in
+    rw (sym (x3 .is-hdr .ensures) ∙ c .before .before .if1 .taken, c .expanded-hdr .ensures, c .before .hdr-pair .ensures .0)
+
+returns-2 : tie.Need-returns-2
+unfolding halfPairOf
+returns-2 c =
+    let x3 = c .before .before .before in
+    rw (sym (x3 .is-hdr .ensures) ∙ c .before .before .if1 .left, c .expanded-ldr .ensures, c .before .endpoint-pair .ensures)
+
+pub half-pair-spec : {M : Type 1} → statement M
+half-pair-spec =
+    tie.close
+    (tie.spec
+    is-hdr-requires
+    hdr-pair-requires
+    expanded-hdr-requires
+    endpoint-pair-requires
+    expanded-ldr-requires
+    returns
+    returns-2)

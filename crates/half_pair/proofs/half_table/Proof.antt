@@ -1,0 +1,89 @@
+-- After p turns the table is that of p partitions.
+use mathlib.Core.Path.{_≡_, refl, _∙_}
+use Prim.Native.Nat.{_≤_, _*_, _-_}
+use native.Mathlib.Omega.{arith}
+use Rattle.color_endpoint.specs.Table.{startOf, entryBy, tableBy}
+use Rattle.half_pair.specs.Pair.{halfPairOf, zeroHalf, halfTableOf}
+use Rattle.color_endpoint.proofs.Laws.{table-next, table-full, start-next}
+use Rattle.half_pair.proofs.half_table.Statement.{statement}
+use Rattle.half_pair.proofs.half_table.Tie as tie
+
+abbrev Inv-loop : tie.InvT-loop
+Inv-loop count levels modes n t₀ p₀ start₀ t p start = (p ≤ n) × (start ≤ 128 * p) × (start ≡ startOf modes p) × (t ≡ halfTableOf modes p levels)
+
+abbrev μ-loop : tie.MeasureT-loop
+μ-loop count levels modes n t₀ p₀ start₀ t p start = n - p
+
+filled-requires : tie.Need-filled-requires Inv-loop μ-loop
+filled-requires c κs = tt
+
+zero-half-requires : tie.Need-zero-half-requires Inv-loop μ-loop
+zero-half-requires c κs = tt
+
+loop-holds : tie.Need-loop-holds Inv-loop μ-loop
+unfolding startOf tableBy entryBy
+loop-holds c = (omega arith, omega arith, refl, rw (c .zero-half .ensures))
+
+array-read-mode : tie.Need-array-read-mode Inv-loop μ-loop
+array-read-mode c = omega arith
+
+numbers-from-requires : tie.Need-numbers-from-requires Inv-loop μ-loop
+numbers-from-requires c κs = omega arith
+
+half-pair-requires : tie.Need-half-pair-requires Inv-loop μ-loop
+half-pair-requires c κs = tt
+
+mul-t : tie.Need-mul-t Inv-loop μ-loop
+mul-t c = omega arith
+
+array-set-from-t : tie.Need-array-set-from-t Inv-loop μ-loop
+array-set-from-t c = omega arith
+
+number-count-requires : tie.Need-number-count-requires Inv-loop μ-loop
+number-count-requires c κs = tt
+
+add-start : tie.Need-add-start Inv-loop μ-loop
+add-start c = omega arith
+
+add-p : tie.Need-add-p Inv-loop μ-loop
+add-p c = omega arith
+
+loop-less : tie.Need-loop-less Inv-loop μ-loop
+loop-less c = omega arith
+
+loop-again : tie.Need-loop-again Inv-loop μ-loop
+loop-again c =
+    let l = c .before .before .before .before .loop in
+    let m = c .before .before .before .before .before .before .before .args .t1 in (
+      omega arith,
+      omega arith,
+      rw (c .number-count .ensures .0, l .inv .2) (start-next m (l .p)),
+      table-next halfPairOf zeroHalf m _ (l .p) (omega arith) (l .inv .3) (l .inv .2) (c .before .before .numbers-from .ensures) (c .before .half-pair .ensures),
+    )
+
+returns : tie.Need-returns Inv-loop μ-loop
+returns c =
+    let s = c .before .before .before in
+    let e : c .before .loop .p ≡ s .filled .result = omega arith in
+    c .before .loop .inv .3 ∙ rw (e, s .filled .ensures) (table-full halfPairOf zeroHalf _ _ (s .before .args .count))
+
+pub half-table-spec : {M : Type 1} → statement M
+half-table-spec =
+    tie.close
+    (tie.spec
+    Inv-loop
+    μ-loop
+    filled-requires
+    zero-half-requires
+    loop-holds
+    array-read-mode
+    numbers-from-requires
+    half-pair-requires
+    mul-t
+    array-set-from-t
+    number-count-requires
+    add-start
+    add-p
+    loop-less
+    loop-again
+    returns)

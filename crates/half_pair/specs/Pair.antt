@@ -1,0 +1,78 @@
+-- Kind 2: from any of 000's sixteen endpoint modes and its unquantised numbers to two ends of 16 bits, and which channels are HDR.
+-- Assumes nothing.
+use mathlib.Core.Path.{_≡_}
+use Prim.Native.Nat.{ℕ, _*_, _≤_}
+use mathlib.Core.Bool.{Bool, true, false, not}
+use mathlib.Core.List.{List, [], _∷_}
+use lib.Dec.{eqb}
+use lib.ListN.{getD}
+use Rattle.laws.specs.Choice.{pick}
+use Rattle.encoding.specs.declared.Level.{Level}
+use Rattle.endpoint_arithmetic.specs.declared.EndpointPair.{EndpointPair}
+use Rattle.hdr_endpoint.specs.declared.HdrPair.{HdrPair}
+use Rattle.hdr_endpoint.specs.Parts.{oneHdr}
+use Rattle.hdr_endpoint.specs.Luminance.{largeRange, smallRange}
+use Rattle.hdr_endpoint.specs.Scale.{baseScale}
+use Rattle.hdr_endpoint.specs.Direct.{direct, alphasOf}
+use Rattle.color_endpoint.specs.Modes.{level, pairOf, isHdr}
+use Rattle.color_endpoint.specs.Table.{tableBy}
+use Rattle.endpoint_arithmetic.specs.Pair.{zeroPair}
+use Rattle.interpolation.specs.Expansion.{replicated}
+use Rattle.half_pair.specs.declared.HalfPair.{HalfPair}
+
+-- the channels of an end have 12 bits, and an alpha that is LDR has 8
+pub record Room (alpha : Bool) (e : List ℕ) : Type 0 where
+  pub twelve : (c : ℕ) → getD e c 0 ≤ 4095
+  pub last : alpha ≡ false → getD e 3 0 ≤ 255
+
+-- mode 14: "fill in the alphas", e0.alpha = v6, e1.alpha = v7
+unfoldable pub mode14 : List Level → HdrPair
+mode14 v = direct (level v 0) (level v 1) (level v 2) (level v 3) (level v 4) (level v 5) (level v 6) (level v 7)
+
+unfoldable pub mode15 : List Level → HdrPair
+mode15 v =
+    direct (level v 0) (level v 1) (level v 2) (level v 3) (level v 4) (level v 5)
+    (alphasOf (level v 6) (level v 7) .0) (alphasOf (level v 6) (level v 7) .1)
+
+unfoldable pub mode11 : List Level → HdrPair
+mode11 v = direct (level v 0) (level v 1) (level v 2) (level v 3) (level v 4) (level v 5) oneHdr oneHdr
+
+-- the pair of an HDR mode, 15 the last of them
+unfoldable pub hdrPairOf : ℕ → List Level → HdrPair
+hdrPairOf mode v =
+    pick (eqb mode 2) (largeRange (level v 0) (level v 1))
+    (pick (eqb mode 3) (smallRange (level v 0) (level v 1))
+    (pick (eqb mode 7) (baseScale (level v 0) (level v 1) (level v 2) (level v 3))
+    (pick (eqb mode 11) (mode11 v)
+    (pick (eqb mode 14) (mode14 v)
+    (mode15 v)))))
+
+-- an endpoint's channel in 16 bits: HDR "shifted left 4 bits to become 16-bit integer values", LDR replicated
+unfoldable pub expandHalf : Bool → ℕ → ℕ
+expandHalf hdr c = pick hdr (16 * c) (replicated c)
+
+-- an end, given whether its colours and its alpha are HDR
+unfoldable pub halfEnd : Bool → Bool → List ℕ → List ℕ
+halfEnd colour alpha e = expandHalf colour (getD e 0 0) ∷ expandHalf colour (getD e 1 0) ∷ expandHalf colour (getD e 2 0) ∷ expandHalf alpha (getD e 3 0) ∷ []
+
+unfoldable pub expandedHdr : Bool → HdrPair → HalfPair
+expandedHdr alpha p = record { c0 = halfEnd true alpha (p .e0); c1 = halfEnd true alpha (p .e1); colour = true; alpha = alpha }
+
+unfoldable pub expandedLdr : EndpointPair → HalfPair
+expandedLdr p = record { c0 = halfEnd false false (p .e0); c1 = halfEnd false false (p .e1); colour = false; alpha = false }
+
+-- the pair of a mode in kind 2
+unfoldable pub halfPairOf : ℕ → List Level → HalfPair
+halfPairOf mode v = pick (isHdr mode) (expandedHdr (not (eqb mode 14)) (hdrPairOf mode v)) (expandedLdr (pairOf mode v))
+
+-- what stands for no partition: the pair of zeros
+abbrev pub zeroHalf : HalfPair
+zeroHalf = expandedLdr zeroPair
+
+-- what stands past the last pair
+abbrev pub noHalf : HalfPair
+noHalf = record { c0 = []; c1 = []; colour = false; alpha = false }
+
+-- the pairs of four partitions
+abbrev pub halfTableOf : List ℕ → ℕ → List Level → List HalfPair
+halfTableOf modes count levels = tableBy halfPairOf zeroHalf modes count levels
