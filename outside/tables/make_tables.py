@@ -7,10 +7,12 @@ endpoint MOST v0 v1 ..            unquantised colour endpoints, stored numbers 0
 weight MOST v0 v1 ..              unquantised weights, stored numbers 0..MOST in order
 mode M WIDTH HEIGHT RANGE PLANES  2D block mode; or: mode M void, mode M reserved
 partition W H COUNT INDEX DIGITS  partition of every texel of the footprint in raster order
+layers W H D COUNT INDEX DIGITS   the same of a volume footprint, layer by layer
 """
 
 FOOTPRINTS = [(4, 4), (5, 4), (5, 5), (6, 5), (6, 6), (8, 5), (8, 6), (8, 8),
               (10, 5), (10, 6), (10, 8), (10, 10), (12, 10), (12, 12)]
+VOLUMES = [(3, 3, 3), (4, 3, 3), (4, 4, 3), (4, 4, 4), (5, 4, 4), (5, 5, 4), (5, 5, 5), (6, 5, 5), (6, 6, 5), (6, 6, 6)]
 
 
 def field(x, high, low):
@@ -166,33 +168,31 @@ def hash52(p):
     return p
 
 
-def select_partition(seed, x, y, count, small_block):
+def select_partition(seed, x, y, z, count, small_block):
     if small_block:
-        x, y = x << 1, y << 1
+        x, y, z = x << 1, y << 1, z << 1
     seed += (count - 1) * 1024
     rnum = hash52(seed)
-    seeds = [(rnum >> shift) & 0xF for shift in (0, 4, 8, 12, 16, 20, 24, 28)]
+    seeds = [(rnum >> shift) & 0xF for shift in (0, 4, 8, 12, 16, 20, 24, 28, 18, 22, 26)]
+    seeds.append(((rnum >> 30) | (rnum << 2)) & MASK & 0xF)
     seeds = [s * s for s in seeds]
     if seed & 1:
         sh1, sh2 = (4 if seed & 2 else 5), (6 if count == 3 else 5)
     else:
         sh1, sh2 = (6 if count == 3 else 5), (4 if seed & 2 else 5)
-    s1, s2, s3, s4, s5, s6, s7, s8 = [s >> (sh2 if i % 2 else sh1) for i, s in enumerate(seeds)]
-    a = (s1 * x + s2 * y + (rnum >> 14)) & 0x3F
-    b = (s3 * x + s4 * y + (rnum >> 10)) & 0x3F
-    c = (s5 * x + s6 * y + (rnum >> 6)) & 0x3F
-    d = (s7 * x + s8 * y + (rnum >> 2)) & 0x3F
-    if count < 4:
-        d = 0
-    if count < 3:
-        c = 0
+    sh3 = sh1 if seed & 0x10 else sh2
+    s = [None] + [v >> (sh3 if i >= 8 else sh2 if i % 2 else sh1) for i, v in enumerate(seeds)]
+    a = (s[1] * x + s[2] * y + s[11] * z + (rnum >> 14)) & 0x3F
+    b = (s[3] * x + s[4] * y + s[12] * z + (rnum >> 10)) & 0x3F
+    c = (s[5] * x + s[6] * y + s[9] * z + (rnum >> 6)) & 0x3F
+    d = (s[7] * x + s[8] * y + s[10] * z + (rnum >> 2)) & 0x3F
+    d = d if count > 3 else 0
+    c = c if count > 2 else 0
     if a >= b and a >= c and a >= d:
         return 0
     if b >= c and b >= d:
         return 1
-    if c >= d:
-        return 2
-    return 3
+    return 2 if c >= d else 3
 
 
 def main():
@@ -209,9 +209,15 @@ def main():
     for width, height in FOOTPRINTS:
         for count in (2, 3, 4):
             for index in (0, 1, 2, 511, 512, 1023):
-                digits = ''.join(str(select_partition(index, x, y, count, width * height < 31))
+                digits = ''.join(str(select_partition(index, x, y, 0, count, width * height < 31))
                                  for y in range(height) for x in range(width))
                 print('partition', width, height, count, index, digits)
+    for width, height, depth in VOLUMES:
+        for count in (2, 3, 4):
+            for index in (0, 1, 2, 511, 512, 1023):
+                digits = ''.join(str(select_partition(index, x, y, z, count, width * height * depth < 31))
+                                 for z in range(depth) for y in range(height) for x in range(width))
+                print('layers', width, height, depth, count, index, digits)
 
 
 if __name__ == '__main__':

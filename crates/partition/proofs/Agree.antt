@@ -17,7 +17,7 @@ low : (u t : ℕ) → (u + t % 64) % 64 ≡ (u + 0 + t) % 64
 low u t = omega arith
 
 -- a doubled seed counts a place as the seed counts it doubled
-twice : (p x : ℕ) → p * 2 * x ≡ p * (x * 2)
+pub twice : (p x : ℕ) → p * 2 * x ≡ p * (x * 2)
 twice p x = mul-assoc p 2 x ∙ ap (λ (n : ℕ). p * n) (mul-comm 2 x)
 
 lane-agrees : (small : Bool) (p q r t x y : ℕ) → laneBy (laneFor small p q t) x y ≡ laneOf p q r t (doubled small x) (doubled small y) (doubled small 0)
@@ -32,7 +32,7 @@ unless-agrees true small p q r t x y = omega arith
 unless-agrees false small p q r t x y = lane-agrees small p q r t x y
 
 -- below two partitions every sum is 0
-chosen : (n a b c d : ℕ)
+pub chosen : (n a b c d : ℕ)
     → firstLargest (pick (ltb n 2) 0 a) (pick (ltb n 2) 0 b) (pick (ltb n 3) 0 c) (pick (ltb n 4) 0 d)
     ≡ pick (ltb n 2) 0 (firstLargest a b (pick (ltb n 3) 0 c) (pick (ltb n 4) 0 d))
 unfolding firstLargest

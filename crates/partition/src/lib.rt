@@ -1,12 +1,13 @@
 // Which partition a texel belongs to: the seeds are made once for a block, the pattern is asked at each texel.
 ghost use mathlib.Core.Path.{_≡_};
 ghost use mathlib.Core.Bool.{Bool};
-ghost use Prim.Native.Nat.{ℕ, _<_, _≤_, max};
+ghost use Prim.Native.Nat.{ℕ, _+_, _*_, _%_, _<_, _≤_, max};
 ghost use Rattle.laws.specs.Choice.{pick};
 ghost use Rattle.laws.specs.Table.{tab};
 ghost use Rattle.partition.specs.Hash.{hashOf};
-ghost use Rattle.partition.specs.Select.{bitShift, countShift, sh1, sh2, seedOf, firstLargest, doubled, partitionOf};
+ghost use Rattle.partition.specs.Select.{bitShift, countShift, sh1, sh2, sh3, seedOf, lastSeedOf, firstLargest, doubled, partitionOf};
 ghost use Rattle.partition.specs.inner.Seeds.{laneBy, laneFor, laneUnless, seedsFrom, seedsOf, selectBy, Pattern};
+ghost use Rattle.partition.specs.inner.Layers.{laneAtLayer, layerFrom, layerOf};
 use std::num::wrapping_add_u32;
 use std::num::wrapping_sub_u32;
 
@@ -86,7 +87,7 @@ fn seed_of(rnum: u32, k: u32, sh: u32) -> u32
 
 // A small block's places count double.
 fn doubled_seed(small: bool, seed: u32) -> u16
-    requires { ⌜ seed ≤ 225 ⌝ }
+    requires { ⌜ seed ≤ 255 ⌝ }
     ensures { λ r. ⌜ r ≡ doubled small seed ⌝ }
 {
     if small {
@@ -239,4 +240,75 @@ pub fn partition_row(s: Seeds, y: u8) -> [u16; 16]
         x += 1;
     }
     out
+}
+
+// The shift of the seeds that z counts.
+fn third_shift(seed: u32, count: u8) -> u32
+    ensures { λ r. ⌜ (r ≡ sh3 seed count) × (r < 7) ⌝ }
+{
+    let sh = shifts(seed, count);
+    if seed / 16 % 2 == 1 { sh.one } else { sh.two }
+}
+
+// The last seed: the top two bits of the hash below its low two, squared and shifted.
+fn last_seed(rnum: u32, sh: u32) -> u32
+    requires { ⌜ sh < 7 ⌝ }
+    ensures { λ r. ⌜ (r ≡ lastSeedOf rnum sh) × (r ≤ 225) ⌝ }
+{
+    let n = rnum % 4 * 4 + (rnum >> 30);
+    (n * n) >> sh
+}
+
+// Only the low six bits of an offset count.
+fn offset_at(offset: u16, r: u32, z: u16) -> u16
+    requires { ⌜ r ≤ 225 ⌝ }
+    ensures { λ n. ⌜ n ≡ (offset + r * z) % 64 ⌝ }
+{
+    (((offset as u32) + r * (z as u32)) % 64) as u16
+}
+
+fn lane_at_layer(absent: bool, l: Lane, r: u32, z: u16) -> Lane
+    requires { ⌜ r ≤ 225 ⌝ }
+    ensures { λ k. ⌜ k ≡ laneAtLayer absent l r z ⌝ }
+{
+    let x = l.x;
+    let y = l.y;
+    let offset = l.offset;
+    if absent {
+        return l;
+    }
+    Lane {
+        x,
+        y,
+        offset: offset_at(offset, r, z),
+    }
+}
+
+fn layer_from(s: Seeds, rnum: u32, sh3: u32, count: u8, z: u16) -> Seeds
+    requires { ⌜ sh3 < 7 ⌝ }
+    ensures { λ r. ⌜ r ≡ layerFrom s rnum sh3 count z ⌝ }
+{
+    let one = s.a;
+    let two = s.b;
+    let three = s.c;
+    let four = s.d;
+    let a = lane_at_layer(count < 2, one, seed_of(rnum, 26, sh3), z);
+    let b = lane_at_layer(count < 2, two, last_seed(rnum, sh3), z);
+    let c = lane_at_layer(count < 3, three, seed_of(rnum, 18, sh3), z);
+    let d = lane_at_layer(count < 4, four, seed_of(rnum, 22, sh3), z);
+    Seeds { a, b, c, d }
+}
+
+// The seeds of a volume's layer z: by them `partition_at` and `partition_row` give the partitions of that layer.
+pub fn layer_seeds(index: u16, count: u8, small: bool, z: u8) -> Seeds
+    ensures { λ r. ⌜ r ≡ layerOf index count small z ⌝ }
+    ensures { λ r. ⌜ ((x y : ℕ) → selectBy r x y ≡ partitionOf index count small x y z) ⌝ }
+{
+    let s = partition_seeds(index, count, small);
+    if count < 2 {
+        return s;
+    }
+    let seed = (index as u32) + ((count as u32) - 1) * 1024;
+    let zz = doubled_seed(small, z as u32);
+    layer_from(s, hash52(seed), third_shift(seed, count), count, zz)
 }

@@ -1,5 +1,5 @@
 // Writes the tables of 000 as the proved functions compute them: the digits of the trit and quint codes, the unquantised levels of
-// the endpoint and weight ranges, the block modes, and partition patterns. What it must write was made from 000 by other means.
+// the endpoint and weight ranges, the block modes, and partition patterns, flat and in layers. What it must write was made from 000 by other means.
 use bits::PhysicalBlock;
 use block_mode::BlockMode;
 use block_mode::WeightGrid;
@@ -190,6 +190,60 @@ fn partitions() {
     }
 }
 
+// The sides of the ten volume footprints, width, height and depth as digits.
+fn volume_sides(k: u8) -> u16 {
+    match k {
+        0 => 333,
+        1 => 433,
+        2 => 443,
+        3 => 444,
+        4 => 544,
+        5 => 554,
+        6 => 555,
+        7 => 655,
+        8 => 665,
+        _ => 666,
+    }
+}
+
+// The pattern of each layer, one behind the other.
+fn layers(index: u16, count: u8, small: bool, width: u8, height: u8, depth: u8) {
+    let mut z: u8 = 0;
+    while z < depth {
+        pattern(
+            partition::layer_seeds(index, count, small, z),
+            width,
+            height,
+        );
+        z += 1;
+    }
+}
+
+fn layer_line(sides: u16, count: u8, index: u16) {
+    let width = (sides / 100 % 10) as u8;
+    let height = (sides / 10 % 10) as u8;
+    let depth = (sides % 10) as u8;
+    io::write_all(STDOUT_FILENO, b"layers");
+    next(width);
+    next(height);
+    next(depth);
+    next(count);
+    space();
+    number(index as u64);
+    space();
+    layers(index, count, sides == 333, width, height, depth);
+    end_line();
+}
+
+// "layers WIDTH HEIGHT DEPTH COUNT INDEX PATTERN", for each volume footprint, two to four partitions and six indices
+fn volumes() {
+    let mut k: u8 = 0;
+    while k < 180 {
+        layer_line(volume_sides(k / 18), 2 + k / 6 % 3, shown_index(k % 6));
+        k += 1;
+    }
+}
+
 fn main() {
     codes(b"trit ", 256, 1, 5);
     codes(b"quint ", 128, 3, 3);
@@ -197,4 +251,5 @@ fn main() {
     weights();
     modes();
     partitions();
+    volumes();
 }
