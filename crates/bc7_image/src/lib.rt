@@ -7,7 +7,8 @@ use image_layout::Run;
 use image_layout::Tally;
 ghost use mathlib.Core.Path.{_≡_};
 ghost use Prim.Native.Nat.{_+_, _*_, _/_, _%_, _≤_, _<_};
-ghost use lib.ListN.{length};
+ghost use lib.ListN.{length, getD};
+ghost use Rattle.laws.specs.Table.{tab};
 ghost use Rattle.interpolation.specs.declared.Kind.the-variants.{Unorm16};
 ghost use Rattle.image_layout.specs.Faulty.{tallyOf};
 ghost use Rattle.image_layout.specs.Call.{checkedOf, toldOf};
@@ -23,8 +24,32 @@ fn blank() -> [u8; 64]
     [0u8; 64]
 }
 
-// Copies a run of a block's bytes.
-fn copy_run(src: &[u8; 64], r: Run, out: &mut [u8])
+// A whole row of a block, four texels, so that it is read at once and nothing is known to lie between.
+fn row_from(src: &[u8; 64], from: usize) -> [u8; 16]
+    requires { ⌜ from + 16 ≤ 64 ⌝ }
+    ensures { λ r. ⌜ r ≡ tab (λ k. getD (now (src .entry)) (from + k) 0) 16 ⌝ }
+{
+    let mut row = [0u8; 16];
+    let mut i: usize = 0;
+    while i < 16 {
+        row[i] = src[from + i];
+        i += 1;
+    }
+    row
+}
+
+// Puts it into the picture.
+fn put_row(row: [u8; 16], out: &mut [u8], at: usize)
+    requires { ⌜ at + 16 ≤ length (now out) ⌝ }
+    ensures { λ _. ⌜ Pasted Unorm16 row 0 16 (now (out .entry)) at (now (out .exit)) ⌝ }
+{
+    for i in 0..16usize {
+        out[at + i] = row[i];
+    }
+}
+
+// Copies a run of a block's bytes, one by one.
+fn copy_some(src: &[u8; 64], r: Run, out: &mut [u8])
     requires { ⌜ RunFits r 64 (length (now out)) ⌝ }
     ensures { λ _. ⌜ Pasted Unorm16 (now (src .entry)) (r .from) (r .n) (now (out .entry)) (r .at) (now (out .exit)) ⌝ }
 {
@@ -32,6 +57,21 @@ fn copy_run(src: &[u8; 64], r: Run, out: &mut [u8])
     let at = r.at;
     for i in 0..r.n {
         out[at + i] = src[from + i];
+    }
+}
+
+// Copies a run of a block's bytes; a whole row at once.
+fn copy_run(src: &[u8; 64], r: Run, out: &mut [u8])
+    requires { ⌜ RunFits r 64 (length (now out)) ⌝ }
+    ensures { λ _. ⌜ Pasted Unorm16 (now (src .entry)) (r .from) (r .n) (now (out .entry)) (r .at) (now (out .exit)) ⌝ }
+{
+    let from = r.from;
+    let at = r.at;
+    let n = r.n;
+    if n == 16 {
+        put_row(row_from(src, from), out, at);
+    } else {
+        copy_some(src, Run { from, at, n }, out);
     }
 }
 

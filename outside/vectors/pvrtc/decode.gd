@@ -1,5 +1,5 @@
-# Decodes each picture of the file IN (width, height as 16-bit numbers, then its words) by Godot's PVRTC decompressor, and writes its
-# bytes R, G, B, A to the file OUT: godot3-server -s decode.gd IN OUT
+# Decodes each picture of the file IN (width, height as 16-bit numbers, then its words or blocks) by Godot's decompressor of FORMAT,
+# pvrtc or bc7, and writes its bytes R, G, B, A to the file OUT: godot3-server -s decode.gd FORMAT IN OUT
 extends SceneTree
 
 func _init():
@@ -10,12 +10,13 @@ func _init():
 		print("cannot open ", names)
 		quit(1)
 		return
+	var bc7 = names[names.size() - 3] == "bc7"
 	while input.get_position() < input.get_len():
 		var width = input.get_16()
 		var height = input.get_16()
-		var words = input.get_buffer(width * height / 2)
+		var words = input.get_buffer(width * height if bc7 else width * height / 2)
 		var image = Image.new()
-		image.create_from_data(width, height, false, Image.FORMAT_PVRTC4A, words)
+		image.create_from_data(width, height, false, Image.FORMAT_BPTC_RGBA if bc7 else Image.FORMAT_PVRTC4A, words)
 		if image.decompress() != OK:
 			print("not decompressed: ", width, " by ", height)
 			quit(1)

@@ -1,62 +1,39 @@
-use mathlib.Core.Path.{_≡_, refl}
-use Prim.Native.Nat.{_-_, _≤_}
+use mathlib.Core.Path.{_≡_, refl, sym, ap, _∙_, subst}
+use mathlib.Core.List.{List}
+use Prim.Native.Nat.{ℕ, _+_, _≤_}
 use native.Mathlib.Omega.{arith}
-use lib.ListN.{length, length-set}
+use lib.ListN.{length, getD}
+use Rattle.laws.specs.Table.{tab}
+use Rattle.laws.proofs.Filling.{getD-tab}
 use Rattle.interpolation.specs.declared.Kind.the-variants.{Unorm16}
-use Rattle.image_layout.proofs.Regions.{Pasted, pasted-none, pasted-more}
+use Rattle.image_layout.proofs.Regions.{Pasted}
+use borrow.Author.Needs.{needs}
 use Rattle.bc7_image.proofs.copy_run.Statement.{statement}
 use Rattle.bc7_image.proofs.copy_run.Tie as tie
 
-abbrev Inv-loop : tie.InvT-loop
-Inv-loop src out₀ from at i₀ i-end out i = (i ≤ i-end) × (length out ≡ length out₀) × Pasted Unorm16 src from i out₀ at out
+-- a row that was read and put is a run of sixteen bytes
+row-run : (src : List ℕ) (from n : ℕ) (old : List ℕ) (at : ℕ) (new row : List ℕ) → n ≡ 16 → row ≡ tab (λ k. getD src (from + k) 0) 16
+    → Pasted Unorm16 row 0 16 old at new → Pasted Unorm16 src from n old at new
+row-run src from n old at new row e r p = record {
+  inside = λ k h.
+      let z : 0 + k ≡ k = omega arith in
+      p .inside k (omega arith) ∙ ap (λ (j : ℕ). getD row j 0) z ∙ ap (λ (l : List ℕ). getD l k 0) r ∙ getD-tab (λ j. getD src (from + j) 0) 16 k 0 (omega arith);
+  outside = λ k f. p .outside k (λ a b. f a (omega arith));
+}
 
-abbrev μ-loop : tie.MeasureT-loop
-μ-loop src out₀ from at i₀ i-end out i = i-end - i
-
-loop-holds : tie.Need-loop-holds Inv-loop μ-loop
-loop-holds c = (omega arith, refl, pasted-none _ _ _ _ _)
-
-add-out : tie.Need-add-out Inv-loop μ-loop
-add-out c = omega arith
-
-element-copy-out-out : tie.Need-element-copy-out-out Inv-loop μ-loop
-element-copy-out-out c = omega arith
-
-add-out-2 : tie.Need-add-out-2 Inv-loop μ-loop
-add-out-2 c = omega arith
-
-slice-write-out : tie.Need-slice-write-out Inv-loop μ-loop
-slice-write-out c = omega arith
-
-add-i : tie.Need-add-i Inv-loop μ-loop
-add-i c = omega arith
-
-loop-less : tie.Need-loop-less Inv-loop μ-loop
-loop-less c = omega arith
-
-loop-again : tie.Need-loop-again Inv-loop μ-loop
-loop-again c = let l = c .before .before .loop in
-    (omega arith, simp length-set (l .inv .1), pasted-more _ _ _ _ _ (l .i) (l .out) _ (omega arith) refl (l .inv .2))
-
-same-length : tie.Need-same-length Inv-loop μ-loop
-same-length c = c .before .loop .inv .1
-
-returns : tie.Need-returns Inv-loop μ-loop
-returns c = let q : c .before .loop .i ≡ c .before .before .args .r .n = omega arith in rw q at (c .before .loop .inv .2)
+returns : tie.Need-returns
+returns c =
+    let q = c .before .before in
+    row-run _ _ _ _ _ _ _ (q .before .before .before .if1 .taken) (q .before .before .row-from .ensures) (q .put-row .ensures)
 
 pub copy-run-spec : {M : Type 1} → statement M
 copy-run-spec =
     tie.close
     (tie.spec
-    Inv-loop
-    μ-loop
-    loop-holds
-    add-out
-    element-copy-out-out
-    add-out-2
-    slice-write-out
-    add-i
-    loop-less
-    loop-again
-    same-length
-    returns)
+    (λ c κs. omega arith)
+    (λ c κs. omega arith)
+    (λ c κs. search needs)
+    (λ c. search needs)
+    returns
+    (λ c. search needs)
+    (λ c. c .before .before .copy-some .ensures))
