@@ -136,13 +136,11 @@ fn half_lines(t: [HalfPair; 4]) -> [[u16; 10]; 4]
 fn table_lines(kind: Kind, modes: [u8; 4], count: u8, levels: [Level; 18]) -> [[u16; 10]; 4]
     ensures { λ r. ⌜ r ≡ linesBy kind modes count levels ⌝ }
 {
+    let t = color_endpoint::endpoint_table(modes, count, levels);
     if interpolation::takes_hdr(kind) {
-        half_lines(half_pair::half_table(modes, count, levels))
+        half_lines(half_pair::half_table(modes, count, levels, t))
     } else {
-        pair_lines(
-            color_endpoint::endpoint_table(modes, count, levels),
-            color_endpoint::filled(count),
-        )
+        pair_lines(t, color_endpoint::filled(count))
     }
 }
 

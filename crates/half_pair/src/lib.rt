@@ -8,6 +8,8 @@ ghost use mathlib.Core.Bool.{true, false, not};
 ghost use Prim.Native.Nat.{_*_, _-_, _%_, _≤_};
 ghost use lib.Dec.{eqb};
 ghost use lib.ListN.{getD};
+ghost use Rattle.color_endpoint.specs.Modes.{pairOf};
+ghost use Rattle.color_endpoint.specs.Table.{tableOf};
 ghost use Rattle.hdr_endpoint.specs.Luminance.{largeRange, smallRange};
 ghost use Rattle.hdr_endpoint.specs.Scale.{baseScale};
 ghost use Rattle.hdr_endpoint.specs.Direct.{direct, alphasOf};
@@ -159,14 +161,15 @@ fn expanded_ldr(p: EndpointPair) -> HalfPair
     }
 }
 
-// The pair of a mode in kind 2.
-pub fn half_pair(mode: u8, v: [Level; 8]) -> HalfPair
+// The pair of a mode in kind 2, given its pair in the other kinds, which is made in one place only.
+fn half_pair(mode: u8, v: [Level; 8], ldr: EndpointPair) -> HalfPair
+    requires { ⌜ ldr ≡ pairOf mode v ⌝ }
     ensures { λ r. ⌜ r ≡ halfPairOf mode v ⌝ }
 {
     if color_endpoint::is_hdr(mode) {
         expanded_hdr(mode != 14, hdr_pair(mode, v))
     } else {
-        expanded_ldr(color_endpoint::endpoint_pair(mode, v))
+        expanded_ldr(ldr)
     }
 }
 
@@ -177,8 +180,14 @@ fn zero_half() -> HalfPair
     expanded_ldr(endpoint_arithmetic::zero_pair())
 }
 
-// The pairs of four partitions in kind 2, as `color_endpoint::endpoint_table` has them in the others.
-pub fn half_table(modes: [u8; 4], count: u8, levels: [Level; 18]) -> [HalfPair; 4]
+// The pairs of four partitions in kind 2, given those of `color_endpoint::endpoint_table`.
+pub fn half_table(
+    modes: [u8; 4],
+    count: u8,
+    levels: [Level; 18],
+    ldr: [EndpointPair; 4],
+) -> [HalfPair; 4]
+    requires { ⌜ ldr ≡ tableOf modes count levels ⌝ }
     ensures { λ r. ⌜ r ≡ halfTableOf modes count levels ⌝ }
 {
     let n = color_endpoint::filled(count);
@@ -188,7 +197,7 @@ pub fn half_table(modes: [u8; 4], count: u8, levels: [Level; 18]) -> [HalfPair; 
     let mut start: u32 = 0;
     while p < n {
         let mode = modes[p];
-        t[p] = half_pair(mode, color_endpoint::numbers_from(levels, start));
+        t[p] = half_pair(mode, color_endpoint::numbers_from(levels, start), ldr[p]);
         start += color_endpoint::number_count(mode);
         p += 1;
     }

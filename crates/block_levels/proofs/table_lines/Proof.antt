@@ -12,8 +12,8 @@ returns c = rw (sym (c .before .before .before .takes-hdr .ensures) ∙ c .befor
 returns-2 : tie.Need-returns-2
 unfolding linesBy
 returns-2 c =
-    let t = c .before .before in
-    rw (sym (t .before .before .takes-hdr .ensures) ∙ t .before .if1 .left) (lines-same _ _ _ (c .before .filled .ensures) (t .endpoint-table .ensures) (c .pair-lines .ensures))
+    let t = c .before .before .before in
+    rw (sym (t .takes-hdr .ensures) ∙ c .before .before .if1 .left) (lines-same _ _ _ (c .before .filled .ensures) (t .before .endpoint-table .ensures) (c .pair-lines .ensures))
 
 pub table-lines-spec : {M : Type 1} → statement M
 table-lines-spec =

@@ -14,9 +14,6 @@ hdr-pair-requires c κs = search needs
 expanded-hdr-requires : tie.Need-expanded-hdr-requires
 expanded-hdr-requires c κs = search needs
 
-endpoint-pair-requires : tie.Need-endpoint-pair-requires
-endpoint-pair-requires c κs = search needs
-
 expanded-ldr-requires : tie.Need-expanded-ldr-requires
 expanded-ldr-requires c κs = search needs
 
@@ -29,8 +26,8 @@ returns c =
 returns-2 : tie.Need-returns-2
 unfolding halfPairOf
 returns-2 c =
-    let x3 = c .before .before .before in
-    rw (sym (x3 .is-hdr .ensures) ∙ c .before .before .if1 .left, c .expanded-ldr .ensures, c .before .endpoint-pair .ensures)
+    let x2 = c .before .before in
+    rw (sym (x2 .is-hdr .ensures) ∙ c .before .if1 .left, c .expanded-ldr .ensures, x2 .before .pre)
 
 pub half-pair-spec : {M : Type 1} → statement M
 half-pair-spec =
@@ -39,7 +36,6 @@ half-pair-spec =
     is-hdr-requires
     hdr-pair-requires
     expanded-hdr-requires
-    endpoint-pair-requires
     expanded-ldr-requires
     returns
     returns-2)

@@ -1,18 +1,25 @@
 -- After p turns the table is that of p partitions.
 use mathlib.Core.Path.{_≡_, refl, _∙_}
-use Prim.Native.Nat.{_≤_, _*_, _-_}
+use Prim.Native.Nat.{ℕ, _≤_, _<_, _*_, _-_}
 use native.Mathlib.Omega.{arith}
-use Rattle.color_endpoint.specs.Table.{startOf, entryBy, tableBy}
+use mathlib.Core.List.{List}
+use lib.ListN.{getD}
+use Rattle.encoding.specs.declared.Level.{Level}
+use Rattle.endpoint_arithmetic.specs.declared.EndpointPair.{EndpointPair}
+use Rattle.endpoint_arithmetic.specs.Pair.{zeroPair}
+use Rattle.interpolation.specs.Expansion.{noPair}
+use Rattle.color_endpoint.specs.Modes.{pairOf}
+use Rattle.color_endpoint.specs.Table.{startOf, numbersFrom, entryBy, tableBy, tableOf}
 use Rattle.half_pair.specs.Pair.{halfPairOf, zeroHalf, halfTableOf}
-use Rattle.color_endpoint.proofs.Laws.{table-next, table-full, start-next}
+use Rattle.color_endpoint.proofs.Laws.{table-next, table-full, table-at, entry-used, start-next}
 use Rattle.half_pair.proofs.half_table.Statement.{statement}
 use Rattle.half_pair.proofs.half_table.Tie as tie
 
 abbrev Inv-loop : tie.InvT-loop
-Inv-loop count levels modes n t₀ p₀ start₀ t p start = (p ≤ n) × (start ≤ 128 * p) × (start ≡ startOf modes p) × (t ≡ halfTableOf modes p levels)
+Inv-loop count levels modes ldr n t₀ p₀ start₀ t p start = (p ≤ n) × (start ≤ 128 * p) × (start ≡ startOf modes p) × (t ≡ halfTableOf modes p levels)
 
 abbrev μ-loop : tie.MeasureT-loop
-μ-loop count levels modes n t₀ p₀ start₀ t p start = n - p
+μ-loop count levels modes ldr n t₀ p₀ start₀ t p start = n - p
 
 filled-requires : tie.Need-filled-requires Inv-loop μ-loop
 filled-requires c κs = tt
@@ -30,8 +37,18 @@ array-read-mode c = omega arith
 numbers-from-requires : tie.Need-numbers-from-requires Inv-loop μ-loop
 numbers-from-requires c κs = omega arith
 
+-- the pair that was made of it in the other kinds
+made : (modes : List ℕ) (count : ℕ) (levels : List Level) (p : ℕ) {t : List EndpointPair} {start : ℕ} {v : List Level} → p < 4 → p < count
+    → t ≡ tableOf modes count levels → start ≡ startOf modes p → v ≡ numbersFrom levels start → getD t p noPair ≡ pairOf (getD modes p 0) v
+made modes count levels p four used et es ev =
+    rw (et, ev, es) (table-at pairOf zeroPair modes levels count p noPair four ∙ entry-used pairOf zeroPair modes levels count p used)
+
 half-pair-requires : tie.Need-half-pair-requires Inv-loop μ-loop
-half-pair-requires c κs = tt
+half-pair-requires c κs =
+    let i = c .before .before in
+    let l = i .before .loop in
+    let f = i .before .before .before in
+    made _ _ _ (l .p) (omega (arith, i .loop-test .taken, f .filled .ensures)) (omega (arith, i .loop-test .taken, f .filled .ensures)) (f .before .pre) (l .inv .2) (c .before .numbers-from .ensures)
 
 mul-t : tie.Need-mul-t Inv-loop μ-loop
 mul-t c = omega arith
@@ -53,12 +70,12 @@ loop-less c = omega arith
 
 loop-again : tie.Need-loop-again Inv-loop μ-loop
 loop-again c =
-    let l = c .before .before .before .before .loop in
-    let m = c .before .before .before .before .before .before .before .args .t1 in (
+    let l = c .before .before .before .before .before .loop in
+    let m = c .before .before .before .before .before .before .before .before .args .t1 in (
       omega arith,
       omega arith,
       rw (c .number-count .ensures .0, l .inv .2) (start-next m (l .p)),
-      table-next halfPairOf zeroHalf m _ (l .p) (omega arith) (l .inv .3) (l .inv .2) (c .before .before .numbers-from .ensures) (c .before .half-pair .ensures),
+      table-next halfPairOf zeroHalf m _ (l .p) (omega arith) (l .inv .3) (l .inv .2) (c .before .before .before .numbers-from .ensures) (c .before .half-pair .ensures),
     )
 
 returns : tie.Need-returns Inv-loop μ-loop
@@ -78,6 +95,8 @@ half-table-spec =
     loop-holds
     array-read-mode
     numbers-from-requires
+    (λ c. omega arith)
+    (λ c. omega arith)
     half-pair-requires
     mul-t
     array-set-from-t
