@@ -1,20 +1,19 @@
 use denote.Ref.{now}
 use mathlib.Core.Path.{ap, _∙_}
 use lib.ListN.{length}
-use Rattle.interpolation.specs.declared.Kind.the-variants.{Unorm16}
 use Rattle.image_layout.specs.Call.{Told}
 use Rattle.astc_header.specs.Header.{headerRefusal}
 use Rattle.astc_file.specs.File.{fileTold, fileOut}
 use Rattle.stallbrook.specs.Images.{tallyTold, tallyNumbers}
 use Rattle.stallbrook.proofs.Laws.{untold, telling}
 use borrow.Author.Needs.{needs}
-use Rattle.stallbrook.proofs.files.stallbrook_astc_decode_file_unorm16.Statement.{
+use Rattle.stallbrook.proofs.files.file_words.Statement.{
   statement,
 }
-use Rattle.stallbrook.proofs.files.stallbrook_astc_decode_file_unorm16.Tie as tie
-use Rattle.stallbrook.proofs.files.stallbrook_astc_decode_file_unorm16.Reads as reads
-use Rattle.stallbrook.proofs.files.stallbrook_astc_decode_file_unorm16.Lts as lts
-use Rattle.astc_file.proofs.decode_file_unorm16.Reads as decode-file-unorm16-reads
+use Rattle.stallbrook.proofs.files.file_words.Tie as tie
+use Rattle.stallbrook.proofs.files.file_words.Reads as reads
+use Rattle.stallbrook.proofs.files.file_words.Lts as lts
+use Rattle.astc_file.proofs.decode_file_words.Reads as decode-file-words-reads
 use Rattle.stallbrook.proofs.files.file_refusal_or_5.Reads as file-refusal-or-5-reads
 use Rattle.stallbrook.proofs.put_tally.Reads as put-tally-reads
 use Rattle.stallbrook.proofs.refusal_told.Reads as refusal-told-reads
@@ -28,12 +27,12 @@ file-refusal-or-5-requires c κs = search needs
 returns : tie.Need-returns
 returns c =
     let a = c .before .before .before .before .before .args in
-    let u = untold (fileTold (now (a .file)) (length (now (a .out)))) (headerRefusal (now (a .file))) (fileOut Unorm16 (now (a .file)) (now (a .out))) (now (a .out)) (now (a .tally)) (c .before .if1 .taken) in
+    let u = untold (fileTold (a .kind) (now (a .file)) (length (now (a .out)))) (headerRefusal (now (a .file))) (fileOut (a .kind) (now (a .file)) (now (a .out))) (now (a .out)) (now (a .tally)) (c .before .if1 .taken) in
     (c .file-refusal-or-5 .ensures ∙ u .number, (u .out, u .its-tally))
 
 -- src/files.rt:58:9
-decode-file-unorm16-requires : tie.Need-decode-file-unorm16-requires
-decode-file-unorm16-requires c κs = search needs
+decode-file-words-requires : tie.Need-decode-file-words-requires
+decode-file-words-requires c κs = search needs
 
 -- src/files.rt:59:22
 tally-told-requires : tie.Need-tally-told-requires
@@ -61,20 +60,20 @@ returns-2 c =
     let p = c .before .before .before in
     let d = p .before .before .before .before .before in
     let a = d .before .before .before .before .before .before .args in
-    let r = d .decode-file-unorm16 .ensures in
+    let r = d .decode-file-words .ensures in
     let told = r .1 .0 in
-    let u = telling (fileTold (now (a .file)) (length (now (a .out)))) (headerRefusal (now (a .file))) (fileOut Unorm16 (now (a .file)) (now (a .out))) (now (a .out)) (now (a .tally)) (d .before .before .if1 .left) in (
+    let u = telling (fileTold (a .kind) (now (a .file)) (length (now (a .out)))) (headerRefusal (now (a .file))) (fileOut (a .kind) (now (a .file)) (now (a .out))) (now (a .out)) (now (a .tally)) (d .before .before .if1 .left) in (
       c .refusal-told .ensures ∙ ap (λ (t : Told). t .refusal) told ∙ u .number,
       (r .1 .1 ∙ u .out, p .put-tally .ensures ∙ ap tallyNumbers (p .before .before .tally-told .ensures ∙ ap tallyTold told) ∙ u .its-tally),
     )
 
-pub stallbrook-astc-decode-file-unorm16-spec : {M : Type 1} → statement M
-stallbrook-astc-decode-file-unorm16-spec =
+pub file-words-spec : {M : Type 1} → statement M
+file-words-spec =
     tie.close
     (tie.spec
     file-refusal-or-5-requires
     returns
-    decode-file-unorm16-requires
+    decode-file-words-requires
     tally-told-requires
     put-tally-requires
     refusal-told-requires

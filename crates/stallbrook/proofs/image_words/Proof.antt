@@ -1,13 +1,12 @@
 use denote.Ref.{now}
 use mathlib.Core.Path.{ap, _∙_}
 use lib.ListN.{length}
-use Rattle.interpolation.specs.declared.Kind.the-variants.{Unorm16}
 use Rattle.image_layout.specs.Call.{Told, imageRefusal, imageOut, imageTold}
 use Rattle.stallbrook.specs.Images.{tallyTold, tallyNumbers}
 use Rattle.stallbrook.proofs.Laws.{untold, telling}
 use borrow.Author.Needs.{needs}
-use Rattle.stallbrook.proofs.stallbrook_astc_decode_image_unorm16.Statement.{statement}
-use Rattle.stallbrook.proofs.stallbrook_astc_decode_image_unorm16.Tie as tie
+use Rattle.stallbrook.proofs.image_words.Statement.{statement}
+use Rattle.stallbrook.proofs.image_words.Tie as tie
 
 refusal-or-5-requires : tie.Need-refusal-or-5-requires
 refusal-or-5-requires c κs = search needs
@@ -15,11 +14,11 @@ refusal-or-5-requires c κs = search needs
 returns : tie.Need-returns
 returns c =
     let a = c .before .before .before .before .before .args in
-    let u = untold (imageTold (a .footprint) (a .width) (a .height) (now (a .blocks)) (length (now (a .out)))) (imageRefusal (a .footprint) (a .width) (a .height) (length (now (a .blocks))) (length (now (a .out)))) (imageOut (a .footprint) Unorm16 (a .width) (a .height) (now (a .blocks)) (now (a .out))) (now (a .out)) (now (a .tally)) (c .before .if1 .taken) in
+    let u = untold (imageTold (a .footprint) (a .kind) (a .width) (a .height) (now (a .blocks)) (length (now (a .out)))) (imageRefusal (a .footprint) (a .width) (a .height) (length (now (a .blocks))) (length (now (a .out)))) (imageOut (a .footprint) (a .kind) (a .width) (a .height) (now (a .blocks)) (now (a .out))) (now (a .out)) (now (a .tally)) (c .before .if1 .taken) in
     (c .refusal-or-5 .ensures ∙ u .number, (u .out, u .its-tally))
 
-decode-image-unorm16-requires : tie.Need-decode-image-unorm16-requires
-decode-image-unorm16-requires c κs = search needs
+decode-image-words-requires : tie.Need-decode-image-words-requires
+decode-image-words-requires c κs = search needs
 
 tally-told-requires : tie.Need-tally-told-requires
 tally-told-requires c κs = search needs
@@ -41,20 +40,20 @@ returns-2 c =
     let p = c .before .before .before in
     let d = p .before .before .before .before .before in
     let a = d .before .before .before .before .before .before .args in
-    let r = d .decode-image-unorm16 .ensures in
+    let r = d .decode-image-words .ensures in
     let told = r .1 .0 in
-    let u = telling (imageTold (a .footprint) (a .width) (a .height) (now (a .blocks)) (length (now (a .out)))) (imageRefusal (a .footprint) (a .width) (a .height) (length (now (a .blocks))) (length (now (a .out)))) (imageOut (a .footprint) Unorm16 (a .width) (a .height) (now (a .blocks)) (now (a .out))) (now (a .out)) (now (a .tally)) (d .before .before .if1 .left) in (
+    let u = telling (imageTold (a .footprint) (a .kind) (a .width) (a .height) (now (a .blocks)) (length (now (a .out)))) (imageRefusal (a .footprint) (a .width) (a .height) (length (now (a .blocks))) (length (now (a .out)))) (imageOut (a .footprint) (a .kind) (a .width) (a .height) (now (a .blocks)) (now (a .out))) (now (a .out)) (now (a .tally)) (d .before .before .if1 .left) in (
       c .refusal-told .ensures ∙ ap (λ (t : Told). t .refusal) told ∙ u .number,
       (r .1 .1 ∙ u .out, p .put-tally .ensures ∙ ap tallyNumbers (p .before .before .tally-told .ensures ∙ ap tallyTold told) ∙ u .its-tally),
     )
 
-pub stallbrook-astc-decode-image-unorm16-spec : {M : Type 1} → statement M
-stallbrook-astc-decode-image-unorm16-spec =
+pub image-words-spec : {M : Type 1} → statement M
+image-words-spec =
     tie.close
     (tie.spec
     refusal-or-5-requires
     returns
-    decode-image-unorm16-requires
+    decode-image-words-requires
     tally-told-requires
     put-tally-requires
     refusal-told-requires
