@@ -1,11 +1,11 @@
 use denote.Ref.{now}
 use lib.ListN.{length, length-map}
 use borrow.Author.Needs.{needs}
-use Rattle.interpolation.specs.declared.Kind.the-variants.{Unorm16}
 use Rattle.symbolic_block.specs.Fields.{Sized}
+use Rattle.round_trip.specs.Demand.{wordKind}
 use Rattle.round_trip.proofs.Laws.{together, demanded}
-use Rattle.round_trip.proofs.round_trip_unorm16.Statement.{statement}
-use Rattle.round_trip.proofs.round_trip_unorm16.Tie as tie
+use Rattle.round_trip.proofs.round_trip_words.Statement.{statement}
+use Rattle.round_trip.proofs.round_trip_words.Tie as tie
 
 write-symbolic-requires : tie.Need-write-symbolic-requires
 write-symbolic-requires c κs = search needs
@@ -16,11 +16,11 @@ slice-aggregate-read-symbolic c = search needs
 read-symbolic-requires : tie.Need-read-symbolic-requires
 read-symbolic-requires c κs = search needs
 
-slice-aggregate-decode-unorm16 : tie.Need-slice-aggregate-decode-unorm16
-slice-aggregate-decode-unorm16 c = search needs
+slice-aggregate-show-words : tie.Need-slice-aggregate-show-words
+slice-aggregate-show-words c = search needs
 
-decode-unorm16-requires : tie.Need-decode-unorm16-requires
-decode-unorm16-requires c κs = search needs
+show-words-requires : tie.Need-show-words-requires
+show-words-requires c κs = search needs
 
 same-length : tie.Need-same-length
 same-length c = search needs
@@ -30,8 +30,8 @@ sized c = record {
   colours-4 = search needs;
   extents-4 = search needs;
   modes-4 = search needs;
-  endpoints-18 = simp length-map at (c .good .1 .0 .1 .1 .1 .1 .1 .1 .1 .1 .1 .1 .1 .1 .1 .1 .0 .1 .0 .1);
-  weights-64 = simp length-map at (c .good .1 .0 .1 .1 .1 .1 .1 .1 .1 .1 .1 .1 .1 .1 .1 .1 .1 .0 .1 .0 .1);
+  endpoints-18 = simp length-map at (c .good .1 .1 .0 .1 .1 .1 .1 .1 .1 .1 .1 .1 .1 .1 .1 .1 .1 .1 .0 .1 .0 .1);
+  weights-64 = simp length-map at (c .good .1 .1 .0 .1 .1 .1 .1 .1 .1 .1 .1 .1 .1 .1 .1 .1 .1 .1 .1 .0 .1 .0 .1);
 }
 
 returns : tie.Need-returns
@@ -43,17 +43,18 @@ returns c =
     let fp = z .args .fp in
     let s = z .args .s in
     let old = now (z .args .out) in
-    let e = together fp s (length old) _ _ _ (w .write-symbolic .ensures .0) (r .read-symbolic .ensures .0) (d .decode-unorm16 .ensures .0) in
-    (e, (d .decode-unorm16 .ensures .1 .0, demanded Unorm16 fp s (sized z) old _ _ e (d .decode-unorm16 .ensures .1 .0)))
+    let k = wordKind (z .args .half) in
+    let e = together k fp s (length old) _ _ _ (w .write-symbolic .ensures .0) (r .read-symbolic .ensures .0) (d .show-words .ensures .0) in
+    (e, (d .show-words .ensures .1, demanded k fp s (sized z) old _ _ e (d .show-words .ensures .1)))
 
-pub round-trip-unorm16-spec : {M : Type 1} → statement M
-round-trip-unorm16-spec =
+pub round-trip-words-spec : {M : Type 1} → statement M
+round-trip-words-spec =
     tie.close
     (tie.spec
     write-symbolic-requires
     slice-aggregate-read-symbolic
     read-symbolic-requires
-    slice-aggregate-decode-unorm16
-    decode-unorm16-requires
+    slice-aggregate-show-words
+    show-words-requires
     same-length
     returns)
