@@ -6,15 +6,17 @@
  * (tally, numbers, a written block) are all 0, unless they themselves have another length than said.
  *
  * Footprints 0 to 13: 4x4, 5x4, 5x5, 6x5, 6x6, 8x5, 8x6, 8x8, 10x5, 10x6, 10x8, 10x10, 12x10, 12x12.
- * Texels are R, G, B, A, rows first; in 16 bits (unorm16: endpoints widen to 257c), or in bytes before the sRGB curve (srgb8: they widen
- * to 256c+128, alpha as the colours, and the top byte is shown).
+ * Texels are R, G, B, A, rows first. Kind 0, unorm16: 16-bit numbers (endpoints widen to 257c). Kind 1, srgb8: bytes before the sRGB curve (they
+ * widen to 256c+128, alpha as the colours, and the top byte is shown). Kind 2, float16: half floats, as 16-bit patterns, of LDR and of HDR
+ * blocks: of an LDR channel 1.0 for the kind 0 number 65535, else that number / 65536 rounded towards zero; an HDR void extent shows its four
+ * colours as they are stored, infinities and NaN too.
  *
  * Refusals, the first that holds:
  *    1 footprint above 13
  *    3 an image side is 0 or above 16384
  *    4 block bytes not exactly 16 for each block
  *    5 the call's other list (texels, tally, numbers or wanted greys) not exactly as long as said
- * Faults of a block, the first that holds:
+ * Faults of a block, the first that holds; float16 has no 13 and no 20:
  *   11 reserved block mode
  *   12 void extent: bits 11..10 not both 1, or extents neither all ones nor low < high on both axes
  *   13 void extent with bit 9 set (HDR)
@@ -25,11 +27,12 @@
  *   18 more than 18 endpoint numbers
  *   19 too few endpoint bits
  *   20 a partition with an HDR endpoint mode
- * Refusals of a symbolic block: 12 and 14 to 20 as above, and
+ * Refusals of a symbolic block: 12 and 14 to 19 as above, 20 where its HDR mark is clear with an HDR endpoint mode, and
  *   31 a field outside its limits, or an unused field not 0
  *   32 no block mode has this grid, range and planes
  *   33 endpoint modes that do not fit the selector
  *   34 an endpoint number or weight above its range, or an unused one not 0
+ *   35 the HDR mark is set, and no partition's endpoint mode is HDR
  * Refusals of a PVRTC1 image, the first that holds:
  *   61 a side is not a power of two from 4 to 4096
  *    4 bytes of words not exactly 8 for each word
@@ -46,10 +49,11 @@ extern "C" {
 #endif
 
 /* A block's texels: 16 bytes to 4 numbers for each texel of the footprint.
- * Answers 0, the block's fault (11 to 20; every texel is then 65535, 0, 65535, 65535, in srgb8 255, 0, 255, 255), or the refusal
- * 1, 4 or 5, which leaves out as it was. */
+ * Answers 0, the block's fault (11 to 20; every texel is then 65535, 0, 65535, 65535, in srgb8 255, 0, 255, 255, in float16 65535 four times),
+ * or the refusal 1, 4 or 5, which leaves out as it was. */
 uint8_t stallbrook_astc_decode_block_unorm16(uint8_t footprint, const uint8_t *block, size_t block_len, uint16_t *out, size_t out_len);
 uint8_t stallbrook_astc_decode_block_srgb8(uint8_t footprint, const uint8_t *block, size_t block_len, uint8_t *out, size_t out_len);
+uint8_t stallbrook_astc_decode_block_float16(uint8_t footprint, const uint8_t *block, size_t block_len, uint16_t *out, size_t out_len);
 
 /* An image's texels: blocks in raster order, 16 bytes each, to 4 numbers for each texel of width x height.
  * Answers 0, or the refusal 1, 3, 4 or 5, which leaves out as it was. tally is of 3 numbers: the count of blocks with a fault, and the
@@ -59,18 +63,20 @@ uint8_t stallbrook_astc_decode_image_unorm16(uint8_t footprint, uint32_t width, 
     uint16_t *out, size_t out_len, uint64_t *tally, size_t tally_len);
 uint8_t stallbrook_astc_decode_image_srgb8(uint8_t footprint, uint32_t width, uint32_t height, const uint8_t *blocks, size_t blocks_len,
     uint8_t *out, size_t out_len, uint64_t *tally, size_t tally_len);
+uint8_t stallbrook_astc_decode_image_float16(uint8_t footprint, uint32_t width, uint32_t height, const uint8_t *blocks, size_t blocks_len,
+    uint16_t *out, size_t out_len, uint64_t *tally, size_t tally_len);
 
-/* A block's symbolic block: its settings and stored numbers, as 103 numbers. In order, with their places: void-extent mark (0), 4 colours
+/* A block's symbolic block: its settings and stored numbers, as 104 numbers. In order, with their places: void-extent mark (0), 4 colours
  * (1 to 4), 4 extents (5 to 8), grid width (9), grid height (10), weight range (11), planes (12), plane channel (13), partitions (14),
- * partition index (15), selector (16), 4 endpoint modes (17 to 20), 18 endpoint numbers (21 to 38), 64 weights (39 to 102); unused ones
- * are 0.
- * Answers 0, or the block's fault or the refusal 1 or 4, all 103 numbers being 0 then. Where numbers is not of 103 numbers it answers 1,
- * 4 or else 5, and leaves them as they were. */
+ * partition index (15), selector (16), 4 endpoint modes (17 to 20), 18 endpoint numbers (21 to 38), 64 weights (39 to 102), HDR mark (103); unused
+ * ones are 0. The HDR mark is a void extent's bit 9; of any other block it is 1 exactly where some partition's endpoint mode is HDR.
+ * Answers 0, or the block's fault in float16 (11, 12, 14 to 19) or the refusal 1 or 4, all 104 numbers being 0 then. Where numbers is not of 104
+ * numbers it answers 1, 4 or else 5, and leaves them as they were. */
 uint8_t stallbrook_astc_read_symbolic(uint8_t footprint, const uint8_t *block, size_t block_len, uint16_t *numbers, size_t numbers_len);
 
-/* The block of a symbolic block, with the smallest codes and spare bits 0: 103 numbers in the order above, whatever they are, to 16 bytes.
- * Answers 0, or the first refusal in the order 1, 4 (block not of 16 bytes), 5 (numbers not of 103), 31, 32, 14 to 17, 33, 18 to 20, 34 (with
- * mark 1: 1, 4, 5, 31, 12). On every refusal block is 16 zeros when it has 16 bytes, also where numbers has a wrong length; a block of
+/* The block of a symbolic block, with the smallest codes and spare bits 0: 104 numbers in the order above, whatever they are, to 16 bytes.
+ * Answers 0, or the first refusal in the order 1, 4 (block not of 16 bytes), 5 (numbers not of 104), 31, 32, 14 to 17, 33, 18 to 20, 34, 35
+ * (with mark 1: 1, 4, 5, 31, 12). On every refusal block is 16 zeros when it has 16 bytes, also where numbers has a wrong length; a block of
  * another length is left as it was. */
 uint8_t stallbrook_astc_write_symbolic(uint8_t footprint, const uint16_t *numbers, size_t numbers_len, uint8_t *block, size_t block_len);
 
@@ -96,11 +102,11 @@ uint8_t stallbrook_pvrtc_decode_image(uint32_t width, uint32_t height, const uin
 /* ---- Clips: frames of blocks that arrive in pieces of any size.
  *
  * A clip is the version byte 1 and frames. A frame is ten bytes, numbers with the high byte first, and its blocks: a length of 4 bytes, of the
- * rest, which is 6 plus 16 for each block; footprint and kind (0 unorm16, 1 srgb8), a byte each; width and height, 2 bytes each.
+ * rest, which is 6 plus 16 for each block; footprint and kind (0 unorm16, 1 srgb8, 2 float16), a byte each; width and height, 2 bytes each.
  *
  * Refusals of a clip that is read, told at the byte that shows them:
  *   51 another version; at the first byte
- *    1 footprint above 13, 2 kind above 1, 3 a side is 0 or above 16384, 52 a wrong length, the first that holds; at a frame's tenth byte
+ *    1 footprint above 13, 2 kind above 2, 3 a side is 0 or above 16384, 52 a wrong length, the first that holds; at a frame's tenth byte
  *   53 the end inside a frame or before the version byte; told by stallbrook_clip_finish
  * After a refusal, and after the end, nothing is taken until a fresh start and the same number is told again.
  *
@@ -155,6 +161,7 @@ uint8_t stallbrook_astc_write_header(uint8_t footprint, uint32_t width, uint32_t
  * Answers 0, or the refusal 41, 42, 43, 3, 4 or 5, which leaves out as it was. */
 uint8_t stallbrook_astc_decode_file_unorm16(const uint8_t *file, size_t file_len, uint16_t *out, size_t out_len, uint64_t *tally, size_t tally_len);
 uint8_t stallbrook_astc_decode_file_srgb8(const uint8_t *file, size_t file_len, uint8_t *out, size_t out_len, uint64_t *tally, size_t tally_len);
+uint8_t stallbrook_astc_decode_file_float16(const uint8_t *file, size_t file_len, uint16_t *out, size_t out_len, uint64_t *tally, size_t tally_len);
 
 /* ---- BC7 (BPTC RGBA): blocks of 16 bytes, 4x4 texels of 4 bytes each (R, G, B, A, rows first).
  * 71 is a block's fault: a first byte of 0. 72 and 73 are refusals of a sheet: a mode above 7; then a field or an anchor index beyond its

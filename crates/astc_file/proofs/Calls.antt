@@ -17,7 +17,7 @@ use Rattle.astc_header.proofs.Refusals.{stopped, passed, part-all, taken}
 use Rattle.astc_file.specs.File.{fileAnswer, fileTold, fileOut}
 
 abbrev pub FilePromised : Kind → List ℕ → List ℕ → ImageAnswer → List ℕ → Type 0
-FilePromised kind s old r new = (r ≡ fileAnswer s (length old)) × ((toldOf r ≡ fileTold s (length old)) × (new ≡ fileOut kind s old))
+FilePromised kind s old r new = (r ≡ fileAnswer kind s (length old)) × ((toldOf r ≡ fileTold kind s (length old)) × (new ≡ fileOut kind s old))
 
 module _ (kind : Kind) (s old : List ℕ) where
   -- a refused file: its number, and the buffer as it was

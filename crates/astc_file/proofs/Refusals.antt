@@ -10,6 +10,7 @@ use lib.Dec.{eqb, ltb}
 use lib.ListN.{length, drop}
 use borrow.Author.Tests.{eq-eqb, ne-eqb, le-ltb}
 use Rattle.laws.specs.Choice.{pick, either}
+use Rattle.interpolation.specs.declared.Kind.{Kind}
 use Rattle.image_size.specs.Sides.{badSide}
 use Rattle.image_size.proofs.Laws.{sized}
 use Rattle.image_layout.specs.Call.{imageRefusal, imageTold}
@@ -70,19 +71,19 @@ module _ (s : List ℕ) (places : ℕ) where
         | no n ↦ refused-5 _ _ _ _ _ (k .footprint) (k .wide) (k .high) (t .exact) n ∙ rw (ne-eqb places (4 * (headerIn s .height * headerIn s .width)) n)
       ]
 
-  image-told : imageTold (headerIn s .footprint) (headerIn s .width) (headerIn s .height) (drop 16 s) places .refusal
+  image-told : (kind : Kind) → imageTold (headerIn s .footprint) kind (headerIn s .width) (headerIn s .height) (drop 16 s) places .refusal
       ≡ imageRefusal (headerIn s .footprint) (headerIn s .width) (headerIn s .height) (length (drop 16 s)) places
   unfolding imageTold
-  image-told =
+  image-told kind =
       elim (ℕ-discrete (imageRefusal (headerIn s .footprint) (headerIn s .width) (headerIn s .height) (length (drop 16 s)) places) 0) [
         | yes z ↦ rw z
         | no n ↦ rw (ne-eqb (imageRefusal (headerIn s .footprint) (headerIn s .width) (headerIn s .height) (length (drop 16 s)) places) 0 n)
       ]
 
-  pub five-last : FiveLast s places
+  pub five-last : (kind : Kind) → FiveLast kind s places
   unfolding fileTold
-  five-last =
+  five-last kind =
       elim (ℕ-discrete (headerRefusal s) 0) [
-        | yes z ↦ rw z (image-told ∙ image-five z ∙ then-five z)
+        | yes z ↦ rw z (image-told kind ∙ image-five z ∙ then-five z)
         | no n ↦ rw (ne-eqb (headerRefusal s) 0 n) (header-first n)
       ]

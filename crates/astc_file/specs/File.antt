@@ -16,16 +16,16 @@ use Rattle.image_layout.specs.Call.{Told, imageAnswer, imageTold, imageOut}
 use Rattle.astc_header.specs.Header.{headerIn, blocksIn, fileReasons, headerRefusal}
 
 -- a refused file is told by its number; for any other the answer is the image call's, of its header and of the bytes behind it
-unfoldable pub fileAnswer : List ℕ → ℕ → ImageAnswer
-fileAnswer s places =
+unfoldable pub fileAnswer : Kind → List ℕ → ℕ → ImageAnswer
+fileAnswer kind s places =
     let h = headerIn s in
-    pick (eqb (headerRefusal s) 0) (imageAnswer (h .footprint) (h .width) (h .height) (drop 16 s) places) (Refused (headerRefusal s))
+    pick (eqb (headerRefusal s) 0) (imageAnswer (h .footprint) kind (h .width) (h .height) (drop 16 s) places) (Refused (headerRefusal s))
 
 -- the numbers told, alike
-unfoldable pub fileTold : List ℕ → ℕ → Told
-fileTold s places =
+unfoldable pub fileTold : Kind → List ℕ → ℕ → Told
+fileTold kind s places =
     let h = headerIn s in
-    pick (eqb (headerRefusal s) 0) (imageTold (h .footprint) (h .width) (h .height) (drop 16 s) places)
+    pick (eqb (headerRefusal s) 0) (imageTold (h .footprint) kind (h .width) (h .height) (drop 16 s) places)
     (record { refusal = headerRefusal s; count = 0; first = 0; fault = 0 })
 
 -- the result buffer, in each kind: what the image call leaves; "nothing is written" on a refusal
@@ -47,6 +47,6 @@ fileRefusal s places =
     ∷ when (not (eqb places (4 * (h .height * h .width)))) 5
     ∷ []))
 
--- the number that is told is the first in that order
-abbrev pub FiveLast : List ℕ → ℕ → Type 0
-FiveLast s places = fileTold s places .refusal ≡ fileRefusal s places
+-- the number that is told is the first in that order, in every kind
+abbrev pub FiveLast : Kind → List ℕ → ℕ → Type 0
+FiveLast kind s places = fileTold kind s places .refusal ≡ fileRefusal s places

@@ -28,6 +28,10 @@ use Rattle.block_levels.proofs.Levels.{points-le}
 use Rattle.weight_grid.proofs.Reading.{read-lt}
 use Rattle.interpolation.specs.declared.Texel.{Texel}
 use Rattle.interpolation.specs.declared.Kind.{Kind}
+use Rattle.interpolation.specs.declared.Kind.the-variants.{Unorm16, Srgb8, Float16}
+use Rattle.interpolation.specs.Expansion.{takesHdr}
+use Rattle.interpolation.specs.inner.Line.{lineTexel}
+use Rattle.half_line.specs.inner.Line.{halfTexelOn}
 use Rattle.texel.specs.Meaning.{channel}
 use Rattle.block_core.specs.declared.Frame.{Frame}
 use Rattle.block_core.specs.inner.Prepared.{texelOn, texelAt, texelIn}
@@ -126,3 +130,18 @@ pub told : (kind : Kind) (g : WeightGrid) (component : ℕ) (points : List Level
 unfolding texelIn texelAt readOf
 told kind g component points lines seeds partitions f x y both h ew ep es et en er eb e1 e2 el =
     rw (el, e1, e2, er, eb, en, es, et, ep ∙ which-told seeds partitions y x ew h)
+
+-- the texel of a kind on the numbers of its pair, as each painter mixes it
+pub on-line : (kind : Kind) (line : List ℕ) (first second component : ℕ) → takesHdr kind ≡ false → lineTexel kind line first second component ≡ texelOn kind line first second component
+unfolding texelOn
+on-line kind line first second component e = rw e
+
+pub on-half : (line : List ℕ) (first second component : ℕ) → halfTexelOn line first second component ≡ texelOn Float16 line first second component
+unfolding texelOn
+on-half line first second component = refl
+
+-- HDR is taken in kind 2 alone
+pub half-kind : (kind : Kind) → takesHdr kind ≡ true → kind ≡ Float16
+half-kind Unorm16 e = absurd (let z : _≡_ {A = Bool} false true = e in let w : _≡_ {A = ℕ} 0 1 = cc in omega arith)
+half-kind Srgb8 e = absurd (let z : _≡_ {A = Bool} false true = e in let w : _≡_ {A = ℕ} 0 1 = cc in omega arith)
+half-kind Float16 e = refl

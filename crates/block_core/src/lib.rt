@@ -18,6 +18,8 @@ ghost use Rattle.footprint.specs.Footprint.{widthOf, texelsOf};
 ghost use Rattle.block_header.specs.Counts.{weightCount, endpointCount, endpointRangeOf};
 ghost use Rattle.block_mode.specs.Back2D.{Limits};
 ghost use Rattle.partition.specs.inner.Seeds.{selectBy};
+ghost use mathlib.Core.Bool.{false};
+ghost use Rattle.interpolation.specs.declared.Kind.the-variants.{Float16};
 ghost use Rattle.interpolation.specs.Expansion.{takesHdr};
 ghost use Rattle.encoding.specs.Levels.{firstLevel, secondLevel};
 ghost use Rattle.texel.specs.Meaning.{errorTexel, texelFrom};
@@ -84,17 +86,6 @@ fn put(out: &mut [u16; 576], i: usize, r: u16, g: u16, b: u16, a: u16)
     out[i + 3] = a;
 }
 
-// A texel of a kind on the numbers of its pair.
-fn mixed(kind: Kind, line: [u16; 10], weights: LevelPair, component: u8) -> Texel
-    ensures { λ r. ⌜ r ≡ texelOn kind line (firstLevel weights) (secondLevel weights) component ⌝ }
-{
-    if interpolation::takes_hdr(kind) {
-        half_line::mix_half(line, weights, component)
-    } else {
-        interpolation::mix_line(kind, line, weights, component)
-    }
-}
-
 // What every texel of a block with a fault is.
 fn error_texel(kind: Kind) -> Texel
     ensures { λ r. ⌜ r ≡ errorTexel kind ⌝ }
@@ -108,7 +99,7 @@ fn error_texel(kind: Kind) -> Texel
     }
 }
 
-// All texels, row by row; the row's partitions are found at once. Only points of the grid are read: at the last column or row a point stands
+// All texels in kinds 0 and 1, row by row; the row's partitions are found at once. Only points of the grid are read: at the last column or row a point stands
 // for its neighbour outside, whose factor is 0.
 fn paint(
     kind: Kind,
@@ -121,6 +112,7 @@ fn paint(
     f: Frame,
     out: &mut [u16; 576],
 )
+    requires { ⌜ takesHdr kind ≡ false ⌝ }
     requires { ⌜ Inside g f ⌝ }
     requires { ⌜ ByteLevels points ⌝ }
     ensures { λ r. ⌜ (length (now (out .entry)) ≡ 576 → now (out .exit) ≡ painted (f .width) (texelIn kind g component points (now (lines .entry)) seeds partitions f) (f .height * f .width) (now (out .entry))) ⌝ }
@@ -143,8 +135,49 @@ fn paint(
             let p11 = points[n + below + right];
             let both = weight_grid::infill_both(gs, gt, p00, p01, p10, p11);
             let line = lines[which[x as usize] as usize];
-            let t = mixed(kind, line, both, component);
+            let t = interpolation::mix_line(kind, line, both, component);
             put(out, place(f.width, x, y), t.r, t.g, t.b, t.a);
+            x += 1;
+        }
+        y += 1;
+    }
+}
+
+// All texels in kind 2. A loop of its own: the mix of kind 2 in the loop of the others would take their registers.
+fn paint_half(
+    g: WeightGrid,
+    component: u8,
+    points: [LevelPair; 64],
+    lines: &[[u16; 10]; 4],
+    seeds: Seeds,
+    partitions: u8,
+    f: Frame,
+    out: &mut [u16; 576],
+)
+    requires { ⌜ Inside g f ⌝ }
+    requires { ⌜ ByteLevels points ⌝ }
+    ensures { λ r. ⌜ (length (now (out .entry)) ≡ 576 → now (out .exit) ≡ painted (f .width) (texelIn Float16 g component points (now (lines .entry)) seeds partitions f) (f .height * f .width) (now (out .entry))) ⌝ }
+{
+    let row = g.width as usize;
+    let mut y: u8 = 0;
+    while y < f.height {
+        let gt = weight_grid::grid_place(f.down, y, g.height);
+        let from = ((gt / 16) as usize) * row;
+        let below = weight_grid::step(gt, g.height, row);
+        let which = row_partitions(seeds, partitions, y);
+        let mut x: u8 = 0;
+        while x < f.width {
+            let gs = weight_grid::grid_place(f.across, x, g.width);
+            let n = from + (gs / 16) as usize;
+            let right = weight_grid::step(gs, g.width, 1);
+            let q00 = points[n];
+            let q01 = points[n + right];
+            let q10 = points[n + below];
+            let q11 = points[n + below + right];
+            let both = weight_grid::infill_both(gs, gt, q00, q01, q10, q11);
+            let line = lines[which[x as usize] as usize];
+            let half = half_line::mix_half(line, both, component);
+            put(out, place(f.width, x, y), half.r, half.g, half.b, half.a);
             x += 1;
         }
         y += 1;
@@ -175,17 +208,32 @@ fn paint_coded(block: PhysicalBlock, s: Settings, fp: u8, kind: Kind, out: &mut 
     let points = block_levels::points_of(block, g);
     let lines = block_levels::lines_of(block, h, kind, s.numbers, s.range);
     let seeds = partition::partition_seeds(h.index, h.partitions, footprint::is_small(fp));
-    paint(
-        kind,
-        g,
-        second_component(g.planes, h.component),
-        points,
-        &lines,
-        seeds,
-        h.partitions,
-        frame_of(fp),
-        out,
-    );
+    let component = second_component(g.planes, h.component);
+    let frame = frame_of(fp);
+    if interpolation::takes_hdr(kind) {
+        paint_half(
+            g,
+            component,
+            points,
+            &lines,
+            seeds,
+            h.partitions,
+            frame,
+            out,
+        );
+    } else {
+        paint(
+            kind,
+            g,
+            component,
+            points,
+            &lines,
+            seeds,
+            h.partitions,
+            frame,
+            out,
+        );
+    }
 }
 
 // What `decode_into` does, from the halves of a block: as two numbers they need no copy in memory.

@@ -122,6 +122,7 @@ fn sheet_of(e0: u8, e1: u8, weights: [Stored; 64]) -> SymbolicBlock
     endpoints[1] = Stored(e1);
     SymbolicBlock {
         mark: 0,
+        hdr: 0,
         colours: [0u16; 4],
         extents: [0u16; 4],
         width: 4,

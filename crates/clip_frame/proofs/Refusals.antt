@@ -37,11 +37,11 @@ before false false false r e = absurd (e refl)
 module _ (f : Frame) (rest : List Reason) where
   pub own-none : ownRefusal f ≡ 0 → firstOf (frameReasons f rest) ≡ firstOf rest
   unfolding ownRefusal
-  own-none e = past (ltb 13 (f .footprint)) (ltb 1 (f .kind)) (either (badSide (f .width)) (badSide (f .height))) (firstOf rest) e
+  own-none e = past (ltb 13 (f .footprint)) (ltb 2 (f .kind)) (either (badSide (f .width)) (badSide (f .height))) (firstOf rest) e
 
   pub own-first : (ownRefusal f ≡ 0 → ⊥) → firstOf (frameReasons f rest) ≡ ownRefusal f
   unfolding ownRefusal
-  own-first e = before (ltb 13 (f .footprint)) (ltb 1 (f .kind)) (either (badSide (f .width)) (badSide (f .height))) (firstOf rest) e
+  own-first e = before (ltb 13 (f .footprint)) (ltb 2 (f .kind)) (either (badSide (f .width)) (badSide (f .height))) (firstOf rest) e
 
 module _ (fp k w h : ℕ) where
   abbrev said : Frame
@@ -51,13 +51,13 @@ module _ (fp k w h : ℕ) where
   unfolding ownRefusal
   own-1 a = rw (lt-ltb 13 fp a)
 
-  pub own-2 : fp ≤ 13 → 1 < k → ownRefusal said ≡ 2
+  pub own-2 : fp ≤ 13 → 2 < k → ownRefusal said ≡ 2
   unfolding ownRefusal
-  own-2 a b = rw (le-ltb 13 fp a, lt-ltb 1 k b)
+  own-2 a b = rw (le-ltb 13 fp a, lt-ltb 2 k b)
 
-  pub own-3 : fp ≤ 13 → k ≤ 1 → ownRefusal said ≡ sizeRefusal fp w h
+  pub own-3 : fp ≤ 13 → k ≤ 2 → ownRefusal said ≡ sizeRefusal fp w h
   unfolding ownRefusal sizeRefusal
-  own-3 a b = rw (le-ltb 13 fp a, le-ltb 1 k b)
+  own-3 a b = rw (le-ltb 13 fp a, le-ltb 2 k b)
 
 pub size-fine : (f : Frame) → ownRefusal f ≡ 0 → sizeRefusal (f .footprint) (f .width) (f .height) ≡ 0
 unfolding ownRefusal sizeRefusal

@@ -42,10 +42,10 @@ frameBytes f blocks = headBytes (6 + length blocks) f ++ blocks
 
 -- ---- refusals, the first reason that holds; 0 for none
 
--- "1, 2 and 3 with the limits then in force", which speak of the frame alone: flat footprints are 0 to 13, kinds 0 and 1. In front of others
+-- "1, 2 and 3 with the limits then in force", which speak of the frame alone: flat footprints are 0 to 13, kinds 0 to 2 (02, i). In front of others
 abbrev pub frameReasons : Frame → List Reason → List Reason
 frameReasons f rest =
-    when (ltb 13 (f .footprint)) 1 ∷ when (ltb 1 (f .kind)) 2 ∷ when (either (badSide (f .width)) (badSide (f .height))) 3 ∷ rest
+    when (ltb 13 (f .footprint)) 1 ∷ when (ltb 2 (f .kind)) 2 ∷ when (either (badSide (f .width)) (badSide (f .height))) 3 ∷ rest
 
 unfoldable pub ownRefusal : Frame → ℕ
 ownRefusal f = firstOf (frameReasons f [])

@@ -45,7 +45,7 @@ fn own_refusal(footprint: u8, kind: u8, width: u32, height: u32) -> u8
     if footprint > 13 {
         return 1;
     }
-    if kind > 1 {
+    if kind > 2 {
         return 2;
     }
     image_size::size_refusal(footprint, width, height)

@@ -69,7 +69,7 @@ fine-empty p i j l f a b t = record { have = omega arith; size = refl; held = by
 -- a refusal's number is a byte
 refusal-small : (f : Frame) (n : ℕ) → frameRefusal f n < 256
 unfolding frameRefusal
-refusal-small f n = go (ltb 13 (f .footprint)) (ltb 1 (f .kind)) (either (badSide (f .width)) (badSide (f .height))) (not (eqb n (6 + 16 * blocksIn f))) where
+refusal-small f n = go (ltb 13 (f .footprint)) (ltb 2 (f .kind)) (either (badSide (f .width)) (badSide (f .height))) (not (eqb n (6 + 16 * blocksIn f))) where
   go : (x y z u : Bool) → pick x 1 (pick y 2 (pick z 3 (pick u 52 0))) < 256
   go true y z u = omega arith
   go false true z u = omega arith

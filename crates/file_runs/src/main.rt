@@ -1,6 +1,6 @@
 // Runs of the calls on .astc files. The input is records of 40 bytes: a length, and a file of so many bytes. Of each file the header is read,
-// what is told is written again, and the picture of 3 by 2 texels is shown in both kinds: the number told, the faults, in kind 1 the colours. The
-// headers and colours of the stored output are astcenc's, the numbers those of the second reader.
+// what is told is written again, and the picture of 3 by 2 texels is shown in each kind: the number told, the faults, in kind 1 the colours, in
+// kind 2 all half floats. The headers, colours and half floats of the stored output are astcenc's, the numbers those of the second reader.
 use image_layout::ImageAnswer;
 use image_layout::Tally;
 use libc::STDIN_FILENO;
@@ -18,6 +18,10 @@ fn byte(n: u8) {
 }
 
 fn number(n: u32) {
+    word(b" ", n as u64);
+}
+
+fn pattern(n: u16) {
     word(b" ", n as u64);
 }
 
@@ -79,6 +83,16 @@ fn colours(texels: &[u8; 24]) {
     end_line();
 }
 
+// The half floats of 3 by 2 texels.
+fn halves(texels: &[u16; 24]) {
+    let mut i: usize = 0;
+    while i < 24 {
+        pattern(texels[i]);
+        i += 1;
+    }
+    end_line();
+}
+
 fn show(file: &[u8]) {
     let mut numbers = [7u16; 24];
     told(astc_file::decode_file_unorm16(file, &mut numbers));
@@ -86,6 +100,9 @@ fn show(file: &[u8]) {
     let mut texels = [7u8; 24];
     told(astc_file::decode_file_srgb8(file, &mut texels));
     colours(&texels);
+    let mut patterns = [7u16; 24];
+    told(astc_file::decode_file_float16(file, &mut patterns));
+    halves(&patterns);
 }
 
 fn wide(n: u8) -> usize

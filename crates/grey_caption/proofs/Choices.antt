@@ -1,20 +1,23 @@
 -- The choices of weights are the acceptable sheets at these settings.
 -- Assumes nothing.
-use mathlib.Core.Path.{_≡_, refl, sym, ap}
+use mathlib.Core.Path.{_≡_, refl, sym, ap, _∙_}
+use mathlib.Core.Bool.{false}
 use mathlib.Core.List.{[], _∷_}
 use Prim.Native.Nat.{ℕ, zero, suc, _≤_, _<_}
 use native.Mathlib.Decide.{decLt}
 use native.Mathlib.Omega.{arith}
 use lib.Dec.{T, ltb}
 use lib.ListN.{getD}
-use borrow.Author.Tests.{lt-ltb, le-ltb}
+use borrow.Author.Tests.{lt-ltb, le-ltb, eqb-false}
 use Rattle.laws.specs.Choice.{pick}
 use Rattle.quantization.specs.Ranges.{encodingAt, bitsAt, mostAt}
 use Rattle.color_endpoint.specs.Table.{numberCount, startOf}
+use Rattle.color_endpoint.specs.Modes.{isHdr}
 use Rattle.block_header.specs.declared.Header.{Header}
 use Rattle.block_header.specs.Counts.{weightCount, endpointCount, endpointRangeOf}
+use Rattle.block_header.specs.Reasons.{someHdr}
 use Rattle.symbolic_block.specs.declared.SymbolicBlock.{SymbolicBlock}
-use Rattle.symbolic_block.specs.Fields.{gridOf, headerOf, endpointIn, weightIn}
+use Rattle.symbolic_block.specs.Fields.{gridOf, headerOf, isMarked, endpointIn, weightIn}
 use Rattle.symbolic_block.specs.Refusals.{within}
 use Rattle.symbolic_block.specs.Reading.{modeBlock}
 use Rattle.symbolic_block.proofs.Lists.{within-used, within-unused, zeros-back, stored-back}
@@ -73,17 +76,24 @@ module _ (e0 e1 : ℕ) (s : SymbolicBlock) (a : AtSettings e0 e1 s) where
         | no m ↦ rw (le-ltb i 16 (omega arith)) (sym (within-unused 64 16 3 (weightIn s) weights-in i l (omega arith)))
       ]
 
+  -- mode 0 is LDR
+  ldr : isMarked s ≡ false
+  unfolding someHdr isHdr settings
+  ldr = accepts .marked ∙ ap someHdr (a .header)
+
   back : sheetWith e0 e1 (weightIn s) ≡ s
-  unfolding sheetWith modeBlock settings
+  unfolding sheetWith modeBlock settings someHdr isHdr
   back =
       let h : settings ≡ headerOf s = sym (a .header) in
       let m : 0 ≡ s .mark = sym (a .mode-sheet) in
+      let k : 0 ≡ s .hdr = omega (arith, accepts .hdr-most, eqb-false (s .hdr) 1 ldr) in
       let c = zeros-back (s .colours) 4 (a .sized .colours-4) (accepts .colours-0) in
       let x = zeros-back (s .extents) 4 (a .sized .extents-4) (accepts .extents-0) in
       let e = stored-back (s .endpoints) (λ i. getD (e0 ∷ e1 ∷ []) i 0) 18 (a .sized .endpoints-18) end-is in
       let w = stored-back (s .weights) (λ i. pick (ltb i 16) (weightIn s i) 0) 64 (a .sized .weights-64) weight-is in
       λ i. record {
         mark = m i;
+        hdr = k i;
         colours = c i;
         extents = x i;
         width = h i .grid .width;

@@ -11,14 +11,17 @@ use Rattle.laws.proofs.Filling.{getD-tab, length-tab}
 use Rattle.bits.specs.Field.{field}
 use Rattle.footprint.specs.Footprint.{footprints, widthOf, heightOf, texelsOf}
 use Rattle.interpolation.specs.declared.Kind.the-variants.{Srgb8}
+use Rattle.color_endpoint.specs.Modes.{isHdr}
+use Rattle.block_header.specs.Reasons.{someHdr}
 use Rattle.symbolic_block.specs.declared.SymbolicBlock.{SymbolicBlock}
+use Rattle.symbolic_block.specs.Reading.{modeBlock}
 use Rattle.symbolic_block.specs.Fields.{weightIn}
 use Rattle.symbolic_block.specs.Picture.{pictureNumber}
 use Rattle.symbolic_block.specs.Writing.{blockOf}
 use Rattle.symbolic_reader.specs.Answers.{readingOf}
-use Rattle.round_trip.specs.Demand.{roundTripOf, pictureNumbers, Kept}
+use Rattle.round_trip.specs.Demand.{FineIn, roundTripOf, pictureNumbers, Kept}
 use Rattle.round_trip.proofs.Laws.{demanded}
-use Rattle.grey_caption.specs.Caption.{footprint, most, sheetWith, blockWith, greyOf, squared, bestWeight, weightFor, captionOf}
+use Rattle.grey_caption.specs.Caption.{footprint, most, settings, sheetWith, blockWith, greyOf, squared, bestWeight, weightFor, captionOf}
 use Rattle.grey_caption.specs.Best.{Weights, shownBy, sumOf, differenceOf, Shows, Best, bitOf, Local, Placed}
 use Rattle.grey_caption.proofs.Sheets.{sized, weight-at, weight-past, accepted}
 use Rattle.grey_caption.proofs.Picture as picture
@@ -36,9 +39,14 @@ module _ (e0 e1 : ℕ) (h0 : e0 ≤ 255) (h1 : e1 ≤ 255) where
     abbrev s : SymbolicBlock
     s = sheetWith e0 e1 w
 
-    kept : Kept Srgb8 footprint s old (roundTripOf footprint s (length old)) (shownBy old (blockWith e0 e1 w))
+    kept : Kept Srgb8 footprint s old (roundTripOf Srgb8 footprint s (length old)) (shownBy old (blockWith e0 e1 w))
     unfolding roundTripOf blockWith
-    kept = demanded Srgb8 footprint s (sized e0 e1 w) old _ (roundTripOf footprint s (length old)) refl refl .kept (accepted e0 e1 w h0 h1 h)
+    kept = demanded Srgb8 footprint s (sized e0 e1 w) old _ (roundTripOf Srgb8 footprint s (length old)) refl refl .kept (accepted e0 e1 w h0 h1 h)
+
+    -- it is LDR, so without fault in kind 1
+    fine : FineIn Srgb8 footprint (roundTripOf Srgb8 footprint s (length old) .writing .bytes)
+    unfolding sheetWith modeBlock settings someHdr isHdr
+    fine = kept .kinds-ldr refl
 
     sixteen : length old ≡ 4 * texelsOf footprint
     unfolding texelsOf widthOf heightOf footprints
@@ -51,7 +59,7 @@ module _ (e0 e1 : ℕ) (h0 : e0 ≤ 255) (h1 : e1 ≤ 255) where
         let a : (4 * i + c) / 4 ≡ i = omega arith in
         let b : (4 * i + c) % 4 ≡ c = omega arith in
         let d : 4 * (i / 4) + i % 4 ≡ i = omega arith in
-        ap (λ (l : List ℕ). getD l (4 * i + c) 0) (kept .picture sixteen)
+        ap (λ (l : List ℕ). getD l (4 * i + c) 0) (kept .picture fine sixteen)
         ∙ getD-tab (λ k. pictureNumber footprint Srgb8 s (k / 4 % 4) (k / 4 / 4) (k % 4)) 64 (4 * i + c) 0 (omega arith)
         ∙ ap₂ (λ (j k : ℕ). pictureNumber footprint Srgb8 s (j % 4) (j / 4) k) a b
         ∙ picture.number-is e0 e1 w h0 h1 (i % 4) (i / 4) c (omega arith) (omega arith) m
@@ -62,7 +70,7 @@ module _ (e0 e1 : ℕ) (h0 : e0 ≤ 255) (h1 : e1 ≤ 255) where
     shows = record {
       written = kept .written;
       sixteen = kept .sixteen;
-      no-fault = kept .shown sixteen;
+      no-fault = kept .shown fine sixteen;
       read = kept .same;
       texel = texel;
     }

@@ -22,7 +22,7 @@ use Rattle.block_header.specs.Reasons.{gridTooLarge, tooManyWeights, weightBits
 use Rattle.color_endpoint.specs.Modes.{isHdr}
 use Rattle.block_header.specs.Counts.{weightCount, weightBits, componentBits, extraBits, endpointCount, bitsLeft, endpointRangeOf}
 use Rattle.symbolic_block.specs.Fields.{headerOf, endpointIn, weightIn, Sized}
-use Rattle.symbolic_block.specs.Refusals.{within, unknownFootprint, badMark, badWidth, badHeight, badRange, badPlanes, badComponent, badPartitions, badIndex, badSelector, badModes, someInUse, noBlockMode, modesMisfit, badEndpoints, badWeights, modeRefusals, Acceptable}
+use Rattle.symbolic_block.specs.Refusals.{within, unknownFootprint, badMark, badHdr, badWidth, badHeight, badRange, badPlanes, badComponent, badPartitions, badIndex, badSelector, badModes, someInUse, noBlockMode, modesMisfit, badEndpoints, badWeights, markedWithout, modeRefusals, Acceptable}
 use Rattle.symbolic_block.specs.Reading.{modeBlock}
 use Rattle.symbolic_block.proofs.Lists.{is-within, all-within, stored-at}
 use Rattle.symbolic_block.proofs.Opened.{refusal-is, refusals-mode}
@@ -98,9 +98,10 @@ module _ (e0 e1 : ℕ) (w : ℕ → ℕ) where
     weights-fine = is-within (within 64 16 3 (weightIn (sheetWith e0 e1 w))) weights-in
 
     pub none : None (modeRefusals footprint (sheetWith e0 e1 w))
-    unfolding modeRefusals unknownFootprint badMark badWidth badHeight badRange badPlanes badComponent badPartitions badIndex badSelector badModes someInUse within noBlockMode modeBits modesMisfit gridTooLarge tooManyWeights weightBitsOutside fourWithTwoPlanes tooManyEndpoints tooFewEndpointBits someHdr hdrRefused isHdr sheetWith modeBlock settings tab weightCount weightBits endpointCount startOf numberCount bitsLeft componentBits extraBits rangeBits encodingAt bitsAt sequenceBits widthOf heightOf footprints
+    unfolding modeRefusals unknownFootprint badMark badHdr badWidth badHeight badRange badPlanes badComponent badPartitions badIndex badSelector badModes someInUse within noBlockMode modeBits modesMisfit gridTooLarge tooManyWeights weightBitsOutside fourWithTwoPlanes tooManyEndpoints tooFewEndpointBits someHdr hdrRefused isHdr markedWithout sheetWith modeBlock settings tab weightCount weightBits endpointCount startOf numberCount bitsLeft componentBits extraBits rangeBits encodingAt bitsAt sequenceBits widthOf heightOf footprints
     none =
         refl
+        also refl
         also refl
         also refl
         also refl
@@ -119,6 +120,7 @@ module _ (e0 e1 : ℕ) (w : ℕ → ℕ) where
         also refl also refl also refl
         also endpoints-fine
         also weights-fine
+        also refl
         also tt
 
     pub accepted : Acceptable footprint (sheetWith e0 e1 w)

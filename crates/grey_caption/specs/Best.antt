@@ -55,7 +55,7 @@ differenceOf wanted texels = sumOf (λ i. squared (getD texels (4 * i) 0) (getD 
 pub record Shows (e0 e1 : ℕ) (w : ℕ → ℕ) (old : List ℕ) : Type 0 where
   pub written : writingOf footprint (sheetWith e0 e1 w) .answer ≡ Done
   pub sixteen : length (blockWith e0 e1 w) ≡ 16
-  pub no-fault : blockAnswer footprint (blockWith e0 e1 w) (length old) ≡ Done
+  pub no-fault : blockAnswer Srgb8 footprint (blockWith e0 e1 w) (length old) ≡ Done
   -- and reads back with these weights
   pub read : readingOf footprint (blockWith e0 e1 w) .block ≡ sheetWith e0 e1 w
   -- R = G = B, and A is 255

@@ -9,7 +9,8 @@ use interpolation::Kind;
 ghost use mathlib.Core.Path.{_≡_};
 ghost use Prim.Native.Nat.{_+_, _*_, _/_, _%_, _≤_, _<_};
 ghost use lib.ListN.{length};
-ghost use Rattle.interpolation.specs.declared.Kind.the-variants.{Unorm16, Srgb8};
+ghost use Rattle.interpolation.specs.declared.Kind.the-variants.{Unorm16, Srgb8, Float16};
+ghost use Rattle.one_block.specs.Calls.{Words};
 ghost use Rattle.image_layout.specs.Numbers.{faultAt, imageNumberAt, imageNumbers};
 ghost use Rattle.image_layout.specs.Faulty.{tallyOf};
 ghost use Rattle.image_layout.specs.Call.{checkedOf, imageAnswer, imageOut, imageTold, toldOf};
@@ -24,7 +25,7 @@ fn blank() -> [u16; 576]
     [0u16; 576]
 }
 
-// ---- kind 0: 16-bit numbers
+// ---- kinds 0 and 2: 16-bit numbers
 
 // Copies a run of a block's numbers.
 fn copy_numbers(src: &[u16; 576], r: Run, out: &mut [u16])
@@ -51,30 +52,39 @@ fn place_numbers(buf: &[u16; 576], g: ImageGrid, p: Part, out: &mut [u16])
 }
 
 // Shows block b, and answers its fault.
-fn show_numbers(g: ImageGrid, b: usize, s: &[u8], buf: &mut [u16; 576], out: &mut [u16]) -> u8
+fn show_numbers(
+    g: ImageGrid,
+    kind: Kind,
+    b: usize,
+    s: &[u8],
+    buf: &mut [u16; 576],
+    out: &mut [u16],
+) -> u8
+    requires { ⌜ Words kind ⌝ }
     requires { ⌜ Sound g ⌝ }
     requires { ⌜ b < g .down * g .across ⌝ }
     requires { ⌜ length (now s) ≡ 16 * (g .down * g .across) ⌝ }
     requires { ⌜ length (now out) ≡ 4 * (g .height * g .width) ⌝ }
     requires { ⌜ length (now buf) ≡ 576 ⌝ }
-    ensures { λ r. ⌜ r ≡ faultAt (g .footprint) (now (s .entry)) b ⌝ }
-    ensures { λ _. ⌜ Tile (g .width) (g .height) (g .columns) (g .rows) (b % g .across) (b / g .across) (imageNumberAt (g .footprint) Unorm16 (g .width) (now (s .entry))) (now (out .entry)) (now (out .exit)) ⌝ }
+    ensures { λ r. ⌜ r ≡ faultAt (g .footprint) kind (now (s .entry)) b ⌝ }
+    ensures { λ _. ⌜ Tile (g .width) (g .height) (g .columns) (g .rows) (b % g .across) (b / g .across) (imageNumberAt (g .footprint) kind (g .width) (now (s .entry))) (now (out .entry)) (now (out .exit)) ⌝ }
     ensures { λ _. ⌜ length (now (buf .exit)) ≡ 576 ⌝ }
 {
     let p = image_parts::part_of(g, b);
     let block = image_parts::block_of(s, b);
-    let e = block_core::decode_into(block, g.footprint, Kind::Unorm16, buf);
+    let e = block_core::decode_into(block, g.footprint, kind, buf);
     place_numbers(buf, g, p, out);
     e
 }
 
 // Shows every block, in raster order, and counts the faults.
-fn decode_numbers(g: ImageGrid, s: &[u8], out: &mut [u16]) -> Tally
+fn decode_numbers(g: ImageGrid, kind: Kind, s: &[u8], out: &mut [u16]) -> Tally
+    requires { ⌜ Words kind ⌝ }
     requires { ⌜ Sound g ⌝ }
     requires { ⌜ length (now s) ≡ 16 * (g .down * g .across) ⌝ }
     requires { ⌜ length (now out) ≡ 4 * (g .height * g .width) ⌝ }
-    ensures { λ r. ⌜ r ≡ tallyOf (faultAt (g .footprint) (now (s .entry))) (g .down * g .across) ⌝ }
-    ensures { λ _. ⌜ now (out .exit) ≡ imageNumbers (g .footprint) Unorm16 (g .width) (g .height) (now (s .entry)) ⌝ }
+    ensures { λ r. ⌜ r ≡ tallyOf (faultAt (g .footprint) kind (now (s .entry))) (g .down * g .across) ⌝ }
+    ensures { λ _. ⌜ now (out .exit) ≡ imageNumbers (g .footprint) kind (g .width) (g .height) (now (s .entry)) ⌝ }
 {
     let mut buf = blank();
     let mut t = Tally {
@@ -84,30 +94,50 @@ fn decode_numbers(g: ImageGrid, s: &[u8], out: &mut [u16]) -> Tally
     };
     let n = g.down * g.across;
     for b in 0..n {
-        let e = show_numbers(g, b, s, &mut buf, out);
+        let e = show_numbers(g, kind, b, s, &mut buf, out);
         t = image_layout::note(t, b as u64, e);
     }
     t
 }
 
-// Kind 0 of an image, once it is checked.
+// An image in a kind of 16-bit numbers, once it is checked.
 fn answer_numbers(
     checked: CheckedImage,
+    footprint: u8,
+    kind: Kind,
+    width: u32,
+    height: u32,
+    blocks: &[u8],
+    out: &mut [u16],
+) -> ImageAnswer
+    requires { ⌜ Words kind ⌝ }
+    requires { ⌜ checked ≡ checkedOf footprint width height (length (now blocks)) (length (now out)) ⌝ }
+    ensures answer { λ r. ⌜ r ≡ imageAnswer footprint kind width height (now (blocks .entry)) (length (now (out .entry))) ⌝ }
+    ensures told { λ r. ⌜ toldOf r ≡ imageTold footprint kind width height (now (blocks .entry)) (length (now (out .entry))) ⌝ }
+    ensures image { λ _. ⌜ now (out .exit) ≡ imageOut footprint kind width height (now (blocks .entry)) (now (out .entry)) ⌝ }
+{
+    match checked {
+        CheckedImage::Rejected(e) => ImageAnswer::Refused(e),
+        CheckedImage::Accepted(g) => ImageAnswer::Decoded(decode_numbers(g, kind, blocks, out)),
+    }
+}
+
+// An image in a kind of 16-bit numbers: kinds 0 and 2.
+pub fn decode_image_words(
+    kind: Kind,
     footprint: u8,
     width: u32,
     height: u32,
     blocks: &[u8],
     out: &mut [u16],
 ) -> ImageAnswer
-    requires { ⌜ checked ≡ checkedOf footprint width height (length (now blocks)) (length (now out)) ⌝ }
-    ensures answer { λ r. ⌜ r ≡ imageAnswer footprint width height (now (blocks .entry)) (length (now (out .entry))) ⌝ }
-    ensures told { λ r. ⌜ toldOf r ≡ imageTold footprint width height (now (blocks .entry)) (length (now (out .entry))) ⌝ }
-    ensures image { λ _. ⌜ now (out .exit) ≡ imageOut footprint Unorm16 width height (now (blocks .entry)) (now (out .entry)) ⌝ }
+    requires { ⌜ Words kind ⌝ }
+    ensures answer { λ r. ⌜ r ≡ imageAnswer footprint kind width height (now (blocks .entry)) (length (now (out .entry))) ⌝ }
+    ensures told { λ r. ⌜ toldOf r ≡ imageTold footprint kind width height (now (blocks .entry)) (length (now (out .entry))) ⌝ }
+    ensures image { λ _. ⌜ now (out .exit) ≡ imageOut footprint kind width height (now (blocks .entry)) (now (out .entry)) ⌝ }
 {
-    match checked {
-        CheckedImage::Rejected(e) => ImageAnswer::Refused(e),
-        CheckedImage::Accepted(g) => ImageAnswer::Decoded(decode_numbers(g, blocks, out)),
-    }
+    let checked = image_layout::check_image(footprint, width, height, blocks.len(), out.len());
+    answer_numbers(checked, footprint, kind, width, height, blocks, out)
 }
 
 // Kind 0: an image to four 16-bit numbers for each texel.
@@ -118,12 +148,26 @@ pub fn decode_image_unorm16(
     blocks: &[u8],
     out: &mut [u16],
 ) -> ImageAnswer
-    ensures answer { λ r. ⌜ r ≡ imageAnswer footprint width height (now (blocks .entry)) (length (now (out .entry))) ⌝ }
-    ensures told { λ r. ⌜ toldOf r ≡ imageTold footprint width height (now (blocks .entry)) (length (now (out .entry))) ⌝ }
+    ensures answer { λ r. ⌜ r ≡ imageAnswer footprint Unorm16 width height (now (blocks .entry)) (length (now (out .entry))) ⌝ }
+    ensures told { λ r. ⌜ toldOf r ≡ imageTold footprint Unorm16 width height (now (blocks .entry)) (length (now (out .entry))) ⌝ }
     ensures image { λ _. ⌜ now (out .exit) ≡ imageOut footprint Unorm16 width height (now (blocks .entry)) (now (out .entry)) ⌝ }
 {
-    let checked = image_layout::check_image(footprint, width, height, blocks.len(), out.len());
-    answer_numbers(checked, footprint, width, height, blocks, out)
+    decode_image_words(Kind::Unorm16, footprint, width, height, blocks, out)
+}
+
+// Kind 2: an image to four half floats for each texel, as their 16-bit patterns.
+pub fn decode_image_float16(
+    footprint: u8,
+    width: u32,
+    height: u32,
+    blocks: &[u8],
+    out: &mut [u16],
+) -> ImageAnswer
+    ensures answer { λ r. ⌜ r ≡ imageAnswer footprint Float16 width height (now (blocks .entry)) (length (now (out .entry))) ⌝ }
+    ensures told { λ r. ⌜ toldOf r ≡ imageTold footprint Float16 width height (now (blocks .entry)) (length (now (out .entry))) ⌝ }
+    ensures image { λ _. ⌜ now (out .exit) ≡ imageOut footprint Float16 width height (now (blocks .entry)) (now (out .entry)) ⌝ }
+{
+    decode_image_words(Kind::Float16, footprint, width, height, blocks, out)
 }
 
 // ---- kind 1: bytes
@@ -159,7 +203,7 @@ fn show_bytes(g: ImageGrid, b: usize, s: &[u8], buf: &mut [u16; 576], out: &mut 
     requires { ⌜ length (now s) ≡ 16 * (g .down * g .across) ⌝ }
     requires { ⌜ length (now out) ≡ 4 * (g .height * g .width) ⌝ }
     requires { ⌜ length (now buf) ≡ 576 ⌝ }
-    ensures { λ r. ⌜ r ≡ faultAt (g .footprint) (now (s .entry)) b ⌝ }
+    ensures { λ r. ⌜ r ≡ faultAt (g .footprint) Srgb8 (now (s .entry)) b ⌝ }
     ensures { λ _. ⌜ Tile (g .width) (g .height) (g .columns) (g .rows) (b % g .across) (b / g .across) (imageNumberAt (g .footprint) Srgb8 (g .width) (now (s .entry))) (now (out .entry)) (now (out .exit)) ⌝ }
     ensures { λ _. ⌜ length (now (buf .exit)) ≡ 576 ⌝ }
 {
@@ -175,7 +219,7 @@ fn decode_bytes(g: ImageGrid, s: &[u8], out: &mut [u8]) -> Tally
     requires { ⌜ Sound g ⌝ }
     requires { ⌜ length (now s) ≡ 16 * (g .down * g .across) ⌝ }
     requires { ⌜ length (now out) ≡ 4 * (g .height * g .width) ⌝ }
-    ensures { λ r. ⌜ r ≡ tallyOf (faultAt (g .footprint) (now (s .entry))) (g .down * g .across) ⌝ }
+    ensures { λ r. ⌜ r ≡ tallyOf (faultAt (g .footprint) Srgb8 (now (s .entry))) (g .down * g .across) ⌝ }
     ensures { λ _. ⌜ now (out .exit) ≡ imageNumbers (g .footprint) Srgb8 (g .width) (g .height) (now (s .entry)) ⌝ }
 {
     let mut buf = blank();
@@ -202,8 +246,8 @@ fn answer_bytes(
     out: &mut [u8],
 ) -> ImageAnswer
     requires { ⌜ checked ≡ checkedOf footprint width height (length (now blocks)) (length (now out)) ⌝ }
-    ensures answer { λ r. ⌜ r ≡ imageAnswer footprint width height (now (blocks .entry)) (length (now (out .entry))) ⌝ }
-    ensures told { λ r. ⌜ toldOf r ≡ imageTold footprint width height (now (blocks .entry)) (length (now (out .entry))) ⌝ }
+    ensures answer { λ r. ⌜ r ≡ imageAnswer footprint Srgb8 width height (now (blocks .entry)) (length (now (out .entry))) ⌝ }
+    ensures told { λ r. ⌜ toldOf r ≡ imageTold footprint Srgb8 width height (now (blocks .entry)) (length (now (out .entry))) ⌝ }
     ensures image { λ _. ⌜ now (out .exit) ≡ imageOut footprint Srgb8 width height (now (blocks .entry)) (now (out .entry)) ⌝ }
 {
     match checked {
@@ -220,8 +264,8 @@ pub fn decode_image_srgb8(
     blocks: &[u8],
     out: &mut [u8],
 ) -> ImageAnswer
-    ensures answer { λ r. ⌜ r ≡ imageAnswer footprint width height (now (blocks .entry)) (length (now (out .entry))) ⌝ }
-    ensures told { λ r. ⌜ toldOf r ≡ imageTold footprint width height (now (blocks .entry)) (length (now (out .entry))) ⌝ }
+    ensures answer { λ r. ⌜ r ≡ imageAnswer footprint Srgb8 width height (now (blocks .entry)) (length (now (out .entry))) ⌝ }
+    ensures told { λ r. ⌜ toldOf r ≡ imageTold footprint Srgb8 width height (now (blocks .entry)) (length (now (out .entry))) ⌝ }
     ensures image { λ _. ⌜ now (out .exit) ≡ imageOut footprint Srgb8 width height (now (blocks .entry)) (now (out .entry)) ⌝ }
 {
     let checked = image_layout::check_image(footprint, width, height, blocks.len(), out.len());

@@ -212,9 +212,9 @@ module _ (fp w h bytes places : ℕ) where
 -- ---- the answer, 01's numbers of it, and the buffer
 
 -- the answer tells 01's numbers
-pub answer-told : (fp w h : ℕ) (s : List ℕ) (places : ℕ) → toldOf (imageAnswer fp w h s places) ≡ imageTold fp w h s places
+pub answer-told : (fp : ℕ) (kind : Kind) (w h : ℕ) (s : List ℕ) (places : ℕ) → toldOf (imageAnswer fp kind w h s places) ≡ imageTold fp kind w h s places
 unfolding imageAnswer imageTold
-answer-told fp w h s places =
+answer-told fp kind w h s places =
     elim (ℕ-discrete (imageRefusal fp w h (length s) places) 0) [
       | yes z ↦ rw z
       | no z ↦ rw (ne-eqb (imageRefusal fp w h (length s) places) 0 z)
@@ -223,11 +223,11 @@ answer-told fp w h s places =
 -- what a call promises: its answer, 01's numbers of it, and the buffer
 abbrev pub Promised : ℕ → Kind → ℕ → ℕ → List ℕ → List ℕ → ImageAnswer → List ℕ → Type 0
 Promised fp kind w h s old r new =
-    (r ≡ imageAnswer fp w h s (length old)) × ((toldOf r ≡ imageTold fp w h s (length old)) × (new ≡ imageOut fp kind w h s old))
+    (r ≡ imageAnswer fp kind w h s (length old)) × ((toldOf r ≡ imageTold fp kind w h s (length old)) × (new ≡ imageOut fp kind w h s old))
 
 module _ (fp : ℕ) (kind : Kind) (w h : ℕ) (s old : List ℕ) where
-  promised : (r : ImageAnswer) (new : List ℕ) → r ≡ imageAnswer fp w h s (length old) → new ≡ imageOut fp kind w h s old → Promised fp kind w h s old r new
-  promised r new e p = (e, (ap toldOf e ∙ answer-told fp w h s (length old), p))
+  promised : (r : ImageAnswer) (new : List ℕ) → r ≡ imageAnswer fp kind w h s (length old) → new ≡ imageOut fp kind w h s old → Promised fp kind w h s old r new
+  promised r new e p = (e, (ap toldOf e ∙ answer-told fp kind w h s (length old), p))
 
   -- a refused call: its number, and the buffer as it was
   pub refused : (e : ℕ) → checkedOf fp w h (length s) (length old) ≡ Rejected e → Promised fp kind w h s old (Refused e) old
@@ -242,7 +242,7 @@ module _ (fp : ℕ) (kind : Kind) (w h : ℕ) (s old : List ℕ) where
   decoded-out z = rw z refl
 
   pub decoded : (g : ImageGrid) (t : Tally) (new : List ℕ) → checkedOf fp w h (length s) (length old) ≡ Accepted g
-      → t ≡ tallyOf (faultAt (g .footprint) s) (g .down * g .across) → new ≡ imageNumbers (g .footprint) kind (g .width) (g .height) s
+      → t ≡ tallyOf (faultAt (g .footprint) kind s) (g .down * g .across) → new ≡ imageNumbers (g .footprint) kind (g .width) (g .height) s
       → Promised fp kind w h s old (Decoded t) new
   unfolding imageAnswer imageTally gridOf blocksOf
   decoded g t new q e n =

@@ -80,7 +80,7 @@ module _ (fp : ℕ) (kind : Kind) (w h x y c : ℕ) (hx : x < w) (hy : y < h) (h
       ∙ number-of s
       ∙ sym (number-at fp kind (numberOf bytes) (x % widthOf fp) (y % heightOf fp) c (mod-lt x p) hc)
       ∙ sym (getD-tab (λ k. shownOf kind (blockChannel fp kind (numberOf bytes) k)) (4 * (widthOf fp * heightOf fp)) i 0 (place-within (widthOf fp) (heightOf fp) _ _ c (mod-lt x p) (mod-lt y q) hc))
-      ∙ ap (λ (l : List ℕ). getD l i 0) (written fp bytes block taken kind)
+      ∙ ap (λ (l : List ℕ). getD l i 0) (written kind fp bytes block taken)
 
   -- two images that agree on the texel's own sixteen bytes agree on the texel, whatever all other blocks hold
   same-texel : (s t old new : List ℕ) → imageRefusal fp w h (length s) (length old) ≡ 0 → imageRefusal fp w h (length t) (length new) ≡ 0

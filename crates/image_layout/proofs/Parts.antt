@@ -84,7 +84,7 @@ begins g b s h =
 
 -- the first b blocks of an ASTC image are decoded
 abbrev pub Decoding : Kind → ImageGrid → List ℕ → List ℕ → List ℕ → List ℕ → Tally → ℕ → Type 0
-Decoding kind g s old new buf t b = Walking (imageNumberAt (g .footprint) kind (g .width) s) (faultAt (g .footprint) s) 576 g old new buf t b
+Decoding kind g s old new buf t b = Walking (imageNumberAt (g .footprint) kind (g .width) s) (faultAt (g .footprint) kind s) 576 g old new buf t b
 
 module _ (kind : Kind) (g : ImageGrid) where
   -- a row of a part
@@ -110,17 +110,17 @@ module _ (kind : Kind) (g : ImageGrid) where
 
     -- before the first block
     pub decoding-start : (old buf : List ℕ) → length buf ≡ 576 → Decoding kind g s old old buf (record { count = 0; first = 0; fault = 0 }) 0
-    decoding-start = walking-start (imageNumberAt (g .footprint) kind (g .width) s) (faultAt (g .footprint) s) 576 g sound
+    decoding-start = walking-start (imageNumberAt (g .footprint) kind (g .width) s) (faultAt (g .footprint) kind s) 576 g sound
 
     -- one block more
     pub decoding-more : (old l buf : List ℕ) (t : Tally) (b : ℕ) (new buf′ : List ℕ) (t′ : Tally) (e : ℕ) → Decoding kind g s old l buf t b
         → b < g .down * g .across → length new ≡ length l → length buf′ ≡ 576
         → Tile (g .width) (g .height) (g .columns) (g .rows) (b % g .across) (b / g .across) (imageNumberAt (g .footprint) kind (g .width) s) l new
-        → e ≡ faultAt (g .footprint) s b → t′ ≡ noted t b e → Decoding kind g s old new buf′ t′ (b + 1)
-    decoding-more = walking-more (imageNumberAt (g .footprint) kind (g .width) s) (faultAt (g .footprint) s) 576 g sound
+        → e ≡ faultAt (g .footprint) kind s b → t′ ≡ noted t b e → Decoding kind g s old new buf′ t′ (b + 1)
+    decoding-more = walking-more (imageNumberAt (g .footprint) kind (g .width) s) (faultAt (g .footprint) kind s) 576 g sound
 
     -- after the last
     pub decoding-done : (old l buf : List ℕ) (t : Tally) (b : ℕ) → length old ≡ 4 * (g .height * g .width) → g .down * g .across ≤ b → Decoding kind g s old l buf t b
-        → (t ≡ tallyOf (faultAt (g .footprint) s) (g .down * g .across)) × (l ≡ imageNumbers (g .footprint) kind (g .width) (g .height) s)
+        → (t ≡ tallyOf (faultAt (g .footprint) kind s) (g .down * g .across)) × (l ≡ imageNumbers (g .footprint) kind (g .width) (g .height) s)
     unfolding imageNumbers
-    decoding-done = walking-done (imageNumberAt (g .footprint) kind (g .width) s) (faultAt (g .footprint) s) 576 g sound
+    decoding-done = walking-done (imageNumberAt (g .footprint) kind (g .width) s) (faultAt (g .footprint) kind s) 576 g sound

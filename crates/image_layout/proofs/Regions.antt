@@ -1,5 +1,5 @@
 -- What a result buffer holds while blocks are copied into it, by place: row y, column x, channel c. Source numbers have 16 bits, and
--- the kind says what is shown of each, so one law serves both kinds and both element types.
+-- the kind says what is shown of each, so one law serves every kind and both element types.
 -- Assumes nothing.
 use mathlib.Core.Path.{_≡_, refl, sym, ap, ap₂, _∙_}
 use mathlib.Core.List.{List}
@@ -12,7 +12,9 @@ use lib.Seq.{getD-set-same, getD-set-other}
 use Rattle.laws.specs.Table.{tab}
 use Rattle.laws.proofs.Filling.{Filled, filled-all}
 use Rattle.interpolation.specs.declared.Kind.{Kind}
+use Rattle.interpolation.specs.declared.Kind.the-variants.{Unorm16}
 use Rattle.interpolation.specs.Expansion.{shownOf}
+use Rattle.one_block.specs.Calls.{Words}
 use Rattle.image_size.specs.Sides.{blocksAcross}
 use Rattle.image_layout.proofs.Covering.{below-row, in-piece}
 use Rattle.image_layout.specs.OwnBlock.{place}
@@ -50,6 +52,14 @@ pub record Placed (kind : Kind) (w x0 y0 cols rows bw : ℕ) (buf old new : List
       → getD new (place w (x0 + dx) (y0 + dy) c) 0 ≡ shownOf kind (getD buf (place bw dx dy c) 0)
   pub outside : (x y c : ℕ) → x < w → c < 4 → (x0 ≤ x → x < x0 + cols → y0 ≤ y → y < y0 + rows → ⊥)
       → getD new (place w x y c) 0 ≡ getD old (place w x y c) 0
+
+-- numbers copied as they are, in a kind that shows them so
+pub placed-words : (kind : Kind) → Words kind → (w x0 y0 cols rows bw : ℕ) (buf old new : List ℕ)
+    → Placed Unorm16 w x0 y0 cols rows bw buf old new → Placed kind w x0 y0 cols rows bw buf old new
+placed-words kind same w x0 y0 cols rows bw buf old new p = record {
+  inside = λ dx dy c a b h. p .inside dx dy c a b h ∙ sym (same _);
+  outside = p .outside;
+}
 
 module _ (kind : Kind) (w x0 y0 cols bw : ℕ) (buf old : List ℕ) where
   pub placed-none : Placed kind w x0 y0 cols 0 bw buf old old

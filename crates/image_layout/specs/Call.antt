@@ -35,14 +35,14 @@ checkedOf fp w h bytes places =
     pick (eqb e 0) (Accepted (gridOf fp w h)) (Rejected e)
 
 -- the faults of an image's blocks
-unfoldable pub imageTally : ℕ → ℕ → ℕ → List ℕ → Tally
-imageTally fp w h s = tallyOf (faultAt fp s) (blocksOf fp w h)
+unfoldable pub imageTally : ℕ → Kind → ℕ → ℕ → List ℕ → Tally
+imageTally fp kind w h s = tallyOf (faultAt fp kind s) (blocksOf fp w h)
 
 -- the answer, for every input
-unfoldable pub imageAnswer : ℕ → ℕ → ℕ → List ℕ → ℕ → ImageAnswer
-imageAnswer fp w h s places =
+unfoldable pub imageAnswer : ℕ → Kind → ℕ → ℕ → List ℕ → ℕ → ImageAnswer
+imageAnswer fp kind w h s places =
     let e = imageRefusal fp w h (length s) places in
-    pick (eqb e 0) (Decoded (imageTally fp w h s)) (Refused e)
+    pick (eqb e 0) (Decoded (imageTally fp kind w h s)) (Refused e)
 
 -- the result buffer after the call: "nothing is written" on a refusal
 unfoldable pub imageOut : ℕ → Kind → ℕ → ℕ → List ℕ → List ℕ → List ℕ
@@ -67,7 +67,7 @@ toldOf (Refused e) = record { refusal = e; count = 0; first = 0; fault = 0 }
 toldOf (Decoded t) = toldDecoded t
 
 -- what a call tells: on a refusal "all other numbers told are 0"
-unfoldable pub imageTold : ℕ → ℕ → ℕ → List ℕ → ℕ → Told
-imageTold fp w h s places =
+unfoldable pub imageTold : ℕ → Kind → ℕ → ℕ → List ℕ → ℕ → Told
+imageTold fp kind w h s places =
     let e = imageRefusal fp w h (length s) places in
-    pick (eqb e 0) (toldDecoded (imageTally fp w h s)) (record { refusal = e; count = 0; first = 0; fault = 0 })
+    pick (eqb e 0) (toldDecoded (imageTally fp kind w h s)) (record { refusal = e; count = 0; first = 0; fault = 0 })

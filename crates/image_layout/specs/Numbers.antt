@@ -1,6 +1,5 @@
 -- 01, "What is covered": the numbers of an image, "Channels are R, G, B, A, rows first", and the faults of its blocks.
 -- Assumes nothing.
-use mathlib.Core.Bool.{false}
 use Prim.Native.Nat.{ℕ, _*_, _/_, _%_}
 use mathlib.Core.List.{List}
 use lib.ListN.{take, drop}
@@ -8,6 +7,7 @@ use Rattle.laws.specs.Table.{tab}
 use Rattle.bits.specs.Block.{numberOf}
 use Rattle.footprint.specs.Footprint.{widthOf, heightOf}
 use Rattle.interpolation.specs.declared.Kind.{Kind}
+use Rattle.interpolation.specs.Expansion.{takesHdr}
 use Rattle.block_fault.specs.Faults.{faultOf}
 use Rattle.texel.specs.BlockTexel.{blockNumberAt}
 use Rattle.image_layout.specs.Geometry.{blockIndex}
@@ -20,9 +20,9 @@ blockBytes s b = take 16 (drop (16 * b) s)
 unfoldable pub blockAt : List ℕ → ℕ → ℕ
 blockAt s b = numberOf (blockBytes s b)
 
--- its fault, 0 for none
-unfoldable pub faultAt : ℕ → List ℕ → ℕ → ℕ
-faultAt fp s b = faultOf false fp (blockAt s b)
+-- its fault by the kind's list, 0 for none
+unfoldable pub faultAt : ℕ → Kind → List ℕ → ℕ → ℕ
+faultAt fp kind s b = faultOf (takesHdr kind) fp (blockAt s b)
 
 -- channel c of the texel in column x of row y of an image w texels wide: what that texel's block shows at its place in the block
 unfoldable pub imageNumberAt : ℕ → Kind → ℕ → List ℕ → ℕ → ℕ → ℕ → ℕ

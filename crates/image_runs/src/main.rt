@@ -1,4 +1,4 @@
-// Runs of the image calls: the sides and footprints of 01's samples, each refusal, and images with faulty blocks. For each a line
+// Runs of the image calls: the sides and footprints of 01's samples, each refusal, images with faulty blocks and with HDR ones. For each a line
 // "refused N", or "faulty COUNT first INDEX fault N" and the first texel.
 use image_layout::ImageAnswer;
 use image_layout::Tally;
@@ -48,10 +48,8 @@ fn srgb8(footprint: u8, width: u32, height: u32, blocks: &[u8], out: &mut [u8]) 
     end_line();
 }
 
-// Kind 0, the same.
-fn unorm16(footprint: u8, width: u32, height: u32, blocks: &[u8], out: &mut [u16]) {
-    let a = image::decode_image_unorm16(footprint, width, height, blocks, out);
-    told(a);
+// The first texel of a buffer.
+fn texel(out: &[u16]) {
     if 4 <= out.len() {
         io::write_all(STDOUT_FILENO, b" texel");
         number(out[0]);
@@ -60,6 +58,20 @@ fn unorm16(footprint: u8, width: u32, height: u32, blocks: &[u8], out: &mut [u16
         number(out[3]);
     }
     end_line();
+}
+
+// Kind 0, the same.
+fn unorm16(footprint: u8, width: u32, height: u32, blocks: &[u8], out: &mut [u16]) {
+    let a = image::decode_image_unorm16(footprint, width, height, blocks, out);
+    told(a);
+    texel(out);
+}
+
+// Kind 2, the same.
+fn float16(footprint: u8, width: u32, height: u32, blocks: &[u8], out: &mut [u16]) {
+    let a = image::decode_image_float16(footprint, width, height, blocks, out);
+    told(a);
+    texel(out);
 }
 
 // Sides 16,384, 0 and 16,385, with blocks that are all zero.
@@ -140,7 +152,82 @@ fn shapes() {
     unorm16(0, 0, 1, &blocks[..47], &mut row);
 }
 
+// An HDR void extent of 1.0, infinity, a signalling NaN and -2.0, the block of 01's program with HDR endpoint mode 2, and a block of zeros: 13,
+// 20 and 11 in kind 0, 11 alone in kind 2.
+fn lamps() {
+    let blocks = [
+        0xFC,
+        0xFF,
+        0xFF,
+        0xFF,
+        0xFF,
+        0xFF,
+        0xFF,
+        0xFF,
+        0x00,
+        0x3C,
+        0x00,
+        0x7C,
+        0x01,
+        0x7D,
+        0x00,
+        0xC0,
+        0x42,
+        0x40,
+        0x00,
+        0xFE,
+        0x01,
+        0,
+        0,
+        0,
+        0,
+        0,
+        0,
+        0,
+        0,
+        0,
+        0,
+        0x80,
+        0,
+        0,
+        0,
+        0,
+        0,
+        0,
+        0,
+        0,
+        0,
+        0,
+        0,
+        0,
+        0,
+        0,
+        0,
+        0,
+    ];
+    let mut row = [2u16; 36];
+    unorm16(0, 9, 1, &blocks, &mut row);
+    float16(0, 9, 1, &blocks, &mut row);
+    let mut texel = [2u16; 4];
+    unorm16(0, 1, 1, &blocks[16..32], &mut texel);
+    float16(0, 1, 1, &blocks[16..32], &mut texel);
+    float16(0, 1, 1, &blocks[32..48], &mut texel);
+}
+
+// Kind 2's refusals.
+fn no_lamps() {
+    let blocks = [0u8; 48];
+    let mut row = [2u16; 36];
+    float16(14, 0, 1, &blocks[..47], &mut row);
+    float16(0, 0, 1, &blocks[..47], &mut row);
+    float16(0, 9, 1, &blocks[..47], &mut row);
+    let mut short = [2u16; 35];
+    float16(0, 9, 1, &blocks, &mut short);
+}
+
 fn main() {
     sides();
     shapes();
+    lamps();
+    no_lamps();
 }

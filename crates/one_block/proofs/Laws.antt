@@ -20,7 +20,7 @@ use Rattle.footprint.proofs.Laws.{texels-le}
 use Rattle.footprint.specs.Footprint.{texelsOf}
 use Rattle.interpolation.specs.declared.Kind.{Kind}
 use Rattle.block_fault.specs.Faults.{faultOf}
-use Rattle.interpolation.specs.Expansion.{shownOf}
+use Rattle.interpolation.specs.Expansion.{shownOf, takesHdr}
 use Rattle.texel.specs.BlockTexel.{blockChannel, blockNumbers, blockInto}
 use Rattle.block_core.proofs.Shows.{held}
 use Rattle.block_answer.specs.declared.Answer.{Answer}
@@ -31,56 +31,56 @@ use Rattle.one_block.specs.Calls.{blockAnswer, blockTold, blockOut}
 
 -- ---- what a call comes to
 
-module _ (fp : ℕ) (s : List ℕ) (old : List ℕ) where
+module _ (kind : Kind) (fp : ℕ) (s : List ℕ) (old : List ℕ) where
   module _ (h : blockRefusal fp (length s) (length old) ≡ 0 → ⊥) where
-    pub refused : Refused (blockRefusal fp (length s) (length old)) ≡ blockAnswer fp s (length old)
+    pub refused : Refused (blockRefusal fp (length s) (length old)) ≡ blockAnswer kind fp s (length old)
     unfolding blockAnswer
     refused = rw (ne-eqb _ _ h)
 
-    pub untouched : (kind : Kind) → old ≡ blockOut kind fp s old
+    pub untouched : old ≡ blockOut kind fp s old
     unfolding blockOut
-    untouched kind = rw (ne-eqb _ _ h)
+    untouched = rw (ne-eqb _ _ h)
 
   module _ (e : blockRefusal fp (length s) (length old) ≡ 0) where
-    pub answered : answerFor (faultOf false fp (numberOf s)) ≡ blockAnswer fp s (length old)
+    pub answered : answerFor (faultOf (takesHdr kind) fp (numberOf s)) ≡ blockAnswer kind fp s (length old)
     unfolding blockAnswer
     answered = rw (eq-eqb _ _ e)
 
-    pub written : (kind : Kind) → blockNumbers fp kind (numberOf s) ≡ blockOut kind fp s old
+    pub written : blockNumbers fp kind (numberOf s) ≡ blockOut kind fp s old
     unfolding blockOut
-    written kind = rw (eq-eqb _ _ e)
+    written = rw (eq-eqb _ _ e)
 
 -- 01's number of an answer
-pub answer-told : (fp : ℕ) (s : List ℕ) (numbers : ℕ) → numberTold (blockAnswer fp s numbers) ≡ blockTold fp s numbers
+pub answer-told : (kind : Kind) (fp : ℕ) (s : List ℕ) (numbers : ℕ) → numberTold (blockAnswer kind fp s numbers) ≡ blockTold kind fp s numbers
 unfolding blockAnswer blockTold answerFor
-answer-told fp s numbers = go (eqb (blockRefusal fp (length s) numbers) 0) (eqb (faultOf false fp (numberOf s)) 0) refl where
-  go : (a b : Bool) → eqb (faultOf false fp (numberOf s)) 0 ≡ b
-      → numberTold (pick a (pick b Done (Faulty (faultOf false fp (numberOf s)))) (Refused (blockRefusal fp (length s) numbers))) ≡ pick a (faultOf false fp (numberOf s)) (blockRefusal fp (length s) numbers)
-  go true true e = sym (eqb-true (faultOf false fp (numberOf s)) 0 e)
-  go true false e = refl
-  go false b e = refl
+answer-told kind fp s numbers = go (faultOf (takesHdr kind) fp (numberOf s)) (eqb (blockRefusal fp (length s) numbers) 0) _ refl where
+  go : (f : ℕ) (a b : Bool) → eqb f 0 ≡ b
+      → numberTold (pick a (pick b Done (Faulty f)) (Refused (blockRefusal fp (length s) numbers))) ≡ pick a f (blockRefusal fp (length s) numbers)
+  go f true true e = sym (eqb-true f 0 e)
+  go f true false e = refl
+  go f false b e = refl
 
 -- all that a call promises, from its answer and its buffer
-pub promised : (kind : Kind) (fp : ℕ) (s old : List ℕ) (r : Answer) (new : List ℕ) → r ≡ blockAnswer fp s (length old) → new ≡ blockOut kind fp s old
-    → (r ≡ blockAnswer fp s (length old)) × ((new ≡ blockOut kind fp s old) × (numberTold r ≡ blockTold fp s (length old)))
-promised kind fp s old r new e o = (e, (o, ap numberTold e ∙ answer-told fp s (length old)))
+pub promised : (kind : Kind) (fp : ℕ) (s old : List ℕ) (r : Answer) (new : List ℕ) → r ≡ blockAnswer kind fp s (length old) → new ≡ blockOut kind fp s old
+    → (r ≡ blockAnswer kind fp s (length old)) × ((new ≡ blockOut kind fp s old) × (numberTold r ≡ blockTold kind fp s (length old)))
+promised kind fp s old r new e o = (e, (o, ap numberTold e ∙ answer-told kind fp s (length old)))
 
 -- a call that is not refused: the answer, and the first numbers of a buffer that holds the block, as shown
-module _ (fp : ℕ) (s old : List ℕ) (b : Bytes s) (B : ℕ) (l : B ≡ field (numberOf s) 0 128) (e : blockRefusal fp (length s) (length old) ≡ 0) where
+module _ (kind : Kind) (fp : ℕ) (s old : List ℕ) (b : Bytes s) (B : ℕ) (l : B ≡ field (numberOf s) 0 128) (e : blockRefusal fp (length s) (length old) ≡ 0) where
   number : B ≡ numberOf s
   number = l ∙ loaded s b (not-refused _ _ _ e .sixteen)
 
-  pub told : answerFor (faultOf false fp B) ≡ blockAnswer fp s (length old)
-  told = ap (λ (x : ℕ). answerFor (faultOf false fp x)) number ∙ answered fp s old e
+  pub told : answerFor (faultOf (takesHdr kind) fp B) ≡ blockAnswer kind fp s (length old)
+  told = ap (λ (x : ℕ). answerFor (faultOf (takesHdr kind) fp x)) number ∙ answered kind fp s old e
 
-  pub copied : (kind : Kind) (buffer : List ℕ) (show : ℕ → ℕ) → ((x : ℕ) → show x ≡ shownOf kind x) → (start : List ℕ) → length start ≡ 576 → buffer ≡ blockInto fp kind B start
+  pub copied : (buffer : List ℕ) (show : ℕ → ℕ) → ((x : ℕ) → show x ≡ shownOf kind x) → (start : List ℕ) → length start ≡ 576 → buffer ≡ blockInto fp kind B start
       → tab (λ k. show (getD buffer k 0)) (length old) ≡ blockOut kind fp s old
   unfolding blockNumbers
-  copied kind buffer show same start size into =
+  copied buffer show same start size into =
       ap (tab (λ k. show (getD buffer k 0))) (not-refused _ _ _ e .size)
       ∙ numbers
       ∙ ap (blockNumbers fp kind) number
-      ∙ written fp s old e kind
+      ∙ written kind fp s old e
     where
       numbers : tab (λ k. show (getD buffer k 0)) (4 * texelsOf fp) ≡ blockNumbers fp kind B
       numbers = tab-ext _ _ 0 (4 * texelsOf fp) (λ k p. same _ ∙ ap (shownOf kind) (held fp kind B start buffer size into .holds k p))

@@ -5,9 +5,9 @@ ghost use mathlib.Core.Path.{_≡_};
 ghost use Prim.Native.Nat.{_/_, _≤_};
 ghost use lib.ListN.{length, getD};
 ghost use Rattle.laws.specs.Table.{tab};
-ghost use Rattle.interpolation.specs.declared.Kind.the-variants.{Unorm16, Srgb8};
+ghost use Rattle.interpolation.specs.declared.Kind.the-variants.{Unorm16, Srgb8, Float16};
 ghost use Rattle.block_answer.specs.Told.{blockRefusal, numberTold};
-ghost use Rattle.one_block.specs.Calls.{blockAnswer, blockTold, blockOut};
+ghost use Rattle.one_block.specs.Calls.{blockAnswer, blockTold, blockOut, Words};
 
 // The first numbers of the buffer, as they stand.
 fn copy_words(from: &[u16; 576], out: &mut [u16])
@@ -33,38 +33,49 @@ fn copy_bytes(from: &[u16; 576], out: &mut [u8])
     }
 }
 
-// The block in kind 0, once the refusal n is known.
-fn show_words(n: u8, fp: u8, block: &[u8], out: &mut [u16]) -> Answer
+// The block in a kind of 16-bit numbers, once the refusal n is known.
+fn show_words(n: u8, fp: u8, kind: Kind, block: &[u8], out: &mut [u16]) -> Answer
     requires { ⌜ n ≡ blockRefusal fp (length (now block)) (length (now out)) ⌝ }
-    ensures { λ r. ⌜ r ≡ blockAnswer fp (now (block .entry)) (length (now (out .entry))) ⌝ }
-    ensures { λ r. ⌜ now (out .exit) ≡ blockOut Unorm16 fp (now (block .entry)) (now (out .entry)) ⌝ }
-    ensures { λ r. ⌜ numberTold r ≡ blockTold fp (now (block .entry)) (length (now (out .entry))) ⌝ }
+    requires { ⌜ Words kind ⌝ }
+    ensures { λ r. ⌜ r ≡ blockAnswer kind fp (now (block .entry)) (length (now (out .entry))) ⌝ }
+    ensures { λ r. ⌜ now (out .exit) ≡ blockOut kind fp (now (block .entry)) (now (out .entry)) ⌝ }
+    ensures { λ r. ⌜ numberTold r ≡ blockTold kind fp (now (block .entry)) (length (now (out .entry))) ⌝ }
 {
     if n != 0 {
         return Answer::Refused(n);
     }
     let mut buffer = [0u16; 576];
-    let fault = block_core::decode_into(bits::load(block), fp, Kind::Unorm16, &mut buffer);
+    let fault = block_core::decode_into(bits::load(block), fp, kind, &mut buffer);
     copy_words(&buffer, out);
     block_answer::answer_for(fault)
 }
 
 // The texels of a block in kind 0: four numbers of 16 bits each.
 pub fn decode_unorm16(fp: u8, block: &[u8], out: &mut [u16]) -> Answer
-    ensures { λ r. ⌜ r ≡ blockAnswer fp (now (block .entry)) (length (now (out .entry))) ⌝ }
+    ensures { λ r. ⌜ r ≡ blockAnswer Unorm16 fp (now (block .entry)) (length (now (out .entry))) ⌝ }
     ensures { λ r. ⌜ now (out .exit) ≡ blockOut Unorm16 fp (now (block .entry)) (now (out .entry)) ⌝ }
-    ensures { λ r. ⌜ numberTold r ≡ blockTold fp (now (block .entry)) (length (now (out .entry))) ⌝ }
+    ensures { λ r. ⌜ numberTold r ≡ blockTold Unorm16 fp (now (block .entry)) (length (now (out .entry))) ⌝ }
 {
     let n = block_answer::refusal(fp, block.len(), out.len());
-    show_words(n, fp, block, out)
+    show_words(n, fp, Kind::Unorm16, block, out)
+}
+
+// The texels of a block in kind 2: four half floats each, as their 16-bit patterns.
+pub fn decode_float16(fp: u8, block: &[u8], out: &mut [u16]) -> Answer
+    ensures { λ r. ⌜ r ≡ blockAnswer Float16 fp (now (block .entry)) (length (now (out .entry))) ⌝ }
+    ensures { λ r. ⌜ now (out .exit) ≡ blockOut Float16 fp (now (block .entry)) (now (out .entry)) ⌝ }
+    ensures { λ r. ⌜ numberTold r ≡ blockTold Float16 fp (now (block .entry)) (length (now (out .entry))) ⌝ }
+{
+    let n = block_answer::refusal(fp, block.len(), out.len());
+    show_words(n, fp, Kind::Float16, block, out)
 }
 
 // The block in kind 1, once the refusal n is known.
 fn show_bytes(n: u8, fp: u8, block: &[u8], out: &mut [u8]) -> Answer
     requires { ⌜ n ≡ blockRefusal fp (length (now block)) (length (now out)) ⌝ }
-    ensures { λ r. ⌜ r ≡ blockAnswer fp (now (block .entry)) (length (now (out .entry))) ⌝ }
+    ensures { λ r. ⌜ r ≡ blockAnswer Srgb8 fp (now (block .entry)) (length (now (out .entry))) ⌝ }
     ensures { λ r. ⌜ now (out .exit) ≡ blockOut Srgb8 fp (now (block .entry)) (now (out .entry)) ⌝ }
-    ensures { λ r. ⌜ numberTold r ≡ blockTold fp (now (block .entry)) (length (now (out .entry))) ⌝ }
+    ensures { λ r. ⌜ numberTold r ≡ blockTold Srgb8 fp (now (block .entry)) (length (now (out .entry))) ⌝ }
 {
     if n != 0 {
         return Answer::Refused(n);
@@ -77,9 +88,9 @@ fn show_bytes(n: u8, fp: u8, block: &[u8], out: &mut [u8]) -> Answer
 
 // The texels of a block in kind 1: four bytes each.
 pub fn decode_srgb8(fp: u8, block: &[u8], out: &mut [u8]) -> Answer
-    ensures { λ r. ⌜ r ≡ blockAnswer fp (now (block .entry)) (length (now (out .entry))) ⌝ }
+    ensures { λ r. ⌜ r ≡ blockAnswer Srgb8 fp (now (block .entry)) (length (now (out .entry))) ⌝ }
     ensures { λ r. ⌜ now (out .exit) ≡ blockOut Srgb8 fp (now (block .entry)) (now (out .entry)) ⌝ }
-    ensures { λ r. ⌜ numberTold r ≡ blockTold fp (now (block .entry)) (length (now (out .entry))) ⌝ }
+    ensures { λ r. ⌜ numberTold r ≡ blockTold Srgb8 fp (now (block .entry)) (length (now (out .entry))) ⌝ }
 {
     let n = block_answer::refusal(fp, block.len(), out.len());
     show_bytes(n, fp, block, out)

@@ -1,6 +1,6 @@
 // Runs of the reader. Each record of standard input is a footprint and a block. For each a line "refused N" or "fault N", or the
-// symbolic block's fields in 01's order, then "block" and the sixteen bytes that are written for it, and whether they show the same
-// texels in kind 0.
+// symbolic block's fields in 01's order and its HDR mark, then "block" and the sixteen bytes that are written for it, and whether they show
+// the same texels in kind 2.
 use block_answer::Answer;
 use encoding::Stored;
 use libc::STDIN_FILENO;
@@ -79,6 +79,7 @@ fn fields(s: SymbolicBlock) {
     endpoints(e);
     let w = s.weights;
     weights(w);
+    byte(s.hdr);
 }
 
 fn all(bytes: [u8; 16]) {
@@ -93,7 +94,7 @@ fn all(bytes: [u8; 16]) {
 fn shown(fp: u8, block: &[u8]) -> [u16; 576] {
     let mut numbers = [0u16; 576];
     let n = 4 * (footprint::texels(fp) as usize);
-    one_block::decode_unorm16(fp, block, &mut numbers[..n]);
+    one_block::decode_float16(fp, block, &mut numbers[..n]);
     numbers
 }
 

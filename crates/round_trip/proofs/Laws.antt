@@ -1,6 +1,7 @@
 -- Demand 3 of the definitions, carried to the answers of the calls.
 -- Assumes nothing.
 use mathlib.Core.Path.{_≡_, refl, sym, ap, _∙_, subst}
+use mathlib.Core.Logic.{_↔_}
 use mathlib.Core.Bool.{Bool, true, false}
 use mathlib.Core.List.{List}
 use Prim.Native.Nat.{ℕ, _*_, _/_, _%_, _≤_}
@@ -15,6 +16,8 @@ use Rattle.bits.specs.Block.{numberOf, bytesOf}
 use Rattle.bits.proofs.Blocks.{number-bytes, bytes-length}
 use Rattle.footprint.specs.Footprint.{widthOf, texelsOf}
 use Rattle.interpolation.specs.declared.Kind.{Kind}
+use Rattle.interpolation.specs.declared.Kind.the-variants.{Float16}
+use Rattle.interpolation.specs.Expansion.{takesHdr}
 use Rattle.block_fault.specs.Faults.{faultOf}
 use Rattle.texel.specs.Meaning.{shownChannel}
 use Rattle.texel.specs.BlockTexel.{blockNumberAt, blockChannel, blockNumbers}
@@ -39,7 +42,7 @@ use Rattle.symbolic_calls.specs.Writing.{writingOf}
 use Rattle.symbolic_calls.proofs.Laws as writer
 use Rattle.round_trip.specs.declared.RoundTrip.{RoundTrip}
 use Rattle.round_trip.specs.declared.Rewriting.{Rewriting}
-use Rattle.round_trip.specs.Demand.{roundTripOf, pictureNumbers, Demanded, rewriting, rewritingOf, Sound, Rewritten}
+use Rattle.round_trip.specs.Demand.{FineIn, roundTripOf, pictureNumbers, Demanded, rewriting, rewritingOf, Sound, Rewritten}
 
 -- ---- refusals
 
@@ -83,12 +86,12 @@ module _ (fp : ℕ) (block : List ℕ) (h : Sound fp block) where
     taken : blockRefusal fp (length block) (length old) ≡ 0
     taken = sym (accepted fp _ _ (h .known) (h .sixteen) size)
 
-    sound-answer : blockAnswer fp block (length old) ≡ Done
+    sound-answer : (kind : Kind) → FineIn kind fp block → blockAnswer kind fp block (length old) ≡ Done
     unfolding answerFor
-    sound-answer = sym (one.answered fp block old taken) ∙ ap answerFor (h .no-fault)
+    sound-answer kind k = sym (one.answered kind fp block old taken) ∙ ap answerFor k
 
     sound-out : (kind : Kind) → blockOut kind fp block old ≡ blockNumbers fp kind (numberOf block)
-    sound-out kind = sym (one.written fp block old taken kind)
+    sound-out kind = sym (one.written kind fp block old taken)
 
 -- ---- an acceptable symbolic block
 
@@ -103,24 +106,37 @@ module _ (fp : ℕ) (s : SymbolicBlock) (z : Sized s) (a : Acceptable fp s) wher
   sound = record {
     known = known fp s a;
     sixteen = ap (λ (l : List ℕ). length l) bytes-are ∙ bytes-length 16 (blockOf s);
-    no-fault = ap (faultOf false fp) number ∙ demand-3 .written-no-fault fp s z a;
+    no-fault = ap (faultOf true fp) number ∙ demand-3 .written-no-fault fp s z a;
   }
 
   -- the reader tells what was written
   pub back : readingOf fp (writingOf fp s .bytes) ≡ done s
   back = sound-read fp _ sound ∙ ap (λ (B : ℕ). done (readBlock B)) number ∙ ap done (demand-3 .written-reads-back fp s z a)
 
-  numbers : (kind : Kind) → blockNumbers fp kind (blockOf s) ≡ pictureNumbers fp kind s
-  unfolding blockNumbers blockChannel blockNumberAt shownChannel pictureNumbers
-  numbers kind = tab-ext _ _ 0 (4 * texelsOf fp) (λ k p. demand-3 .written-shows-numbers fp s z a kind (k / 4 % widthOf fp) (k / 4 / widthOf fp) (k % 4))
+  -- its fault in a kind is that of the definition's block
+  in-kind : (kind : Kind) → faultOf (takesHdr kind) fp (numberOf (writingOf fp s .bytes)) ≡ faultOf (takesHdr kind) fp (blockOf s)
+  in-kind kind = ap (faultOf (takesHdr kind) fp) number
 
-  picture : (old : List ℕ) → length old ≡ 4 * texelsOf fp → (kind : Kind) → blockOut kind fp (writingOf fp s .bytes) old ≡ pictureNumbers fp kind s
-  picture old size kind = sound-out fp _ sound old size kind ∙ ap (blockNumbers fp kind) number ∙ numbers kind
+  numbers : (kind : Kind) → faultOf (takesHdr kind) fp (blockOf s) ≡ 0 → blockNumbers fp kind (blockOf s) ≡ pictureNumbers fp kind s
+  unfolding blockNumbers blockChannel blockNumberAt shownChannel pictureNumbers
+  numbers kind k = tab-ext _ _ 0 (4 * texelsOf fp) (λ i p. demand-3 .written-shows-numbers fp s z a kind k (i / 4 % widthOf fp) (i / 4 / widthOf fp) (i % 4))
+
+  picture : (kind : Kind) → FineIn kind fp (writingOf fp s .bytes) → (old : List ℕ) → length old ≡ 4 * texelsOf fp
+      → blockOut kind fp (writingOf fp s .bytes) old ≡ pictureNumbers fp kind s
+  picture kind k old size = sound-out fp _ sound old size kind ∙ ap (blockNumbers fp kind) number ∙ numbers kind (sym (in-kind kind) ∙ k)
+
+  ldr : (kind : Kind) → s .hdr ≡ 0 → FineIn kind fp (writingOf fp s .bytes)
+  ldr kind h = in-kind kind ∙ demand-3 .written-kinds-ldr fp s z a h kind
+
+  hdr : (kind : Kind) → s .hdr ≡ 1 → FineIn kind fp (writingOf fp s .bytes) ↔ (kind ≡ Float16)
+  hdr kind h =
+      let k = demand-3 .written-kinds-hdr fp s z a h kind in
+      (λ f. k .0 (sym (in-kind kind) ∙ f), λ q. in-kind kind ∙ k .1 q)
 
 -- ---- the whole
 
 module _ (kind : Kind) (fp : ℕ) (s : SymbolicBlock) (z : Sized s) (old out : List ℕ) where
-  definitions-kept : out ≡ blockOut kind fp (writingOf fp s .bytes) old → Demanded kind fp s old (roundTripOf fp s (length old)) out
+  definitions-kept : out ≡ blockOut kind fp (writingOf fp s .bytes) old → Demanded kind fp s old (roundTripOf kind fp s (length old)) out
   unfolding roundTripOf
   definitions-kept e = record {
     refused-exactly = (λ d. demand-3 .refused-exactly fp s .0 (answer-accepted fp s d), λ h. accepted-answer fp s (demand-3 .refused-exactly fp s .1 h));
@@ -132,12 +148,14 @@ module _ (kind : Kind) (fp : ℕ) (s : SymbolicBlock) (z : Sized s) (old out : L
       no-fault = sound fp s z a .no-fault;
       read = ap (λ (r : Reading). r .answer) (back fp s z a);
       same = ap (λ (r : Reading). r .block) (back fp s z a);
-      shown = λ size. sound-answer fp _ (sound fp s z a) old size;
-      picture = λ size. e ∙ picture fp s z a old size kind;
+      shown = λ k size. sound-answer fp _ (sound fp s z a) old size kind k;
+      picture = λ k size. e ∙ picture fp s z a kind k old size;
+      kinds-ldr = ldr fp s z a kind;
+      kinds-hdr = hdr fp s z a kind;
     };
   }
 
-  pub demanded : (r : RoundTrip) → r ≡ roundTripOf fp s (length old) → out ≡ blockOut kind fp (r .writing .bytes) old → Demanded kind fp s old r out
+  pub demanded : (r : RoundTrip) → r ≡ roundTripOf kind fp s (length old) → out ≡ blockOut kind fp (r .writing .bytes) old → Demanded kind fp s old r out
   unfolding roundTripOf
   demanded r e =
       subst (λ (q : RoundTrip). out ≡ blockOut kind fp (q .writing .bytes) old → Demanded kind fp s old q out) (sym e) definitions-kept
@@ -146,56 +164,60 @@ module _ (kind : Kind) (fp : ℕ) (s : SymbolicBlock) (z : Sized s) (old out : L
 abbrev answers : Writing → Reading → Answer → RoundTrip
 answers w r a = record { writing = w; reading = r; shown = a }
 
-pub together : (fp : ℕ) (s : SymbolicBlock) (numbers : ℕ) (w : Writing) (r : Reading) (a : Answer) → w ≡ writingOf fp s
-    → r ≡ readingOf fp (w .bytes) → a ≡ blockAnswer fp (w .bytes) numbers → answers w r a ≡ roundTripOf fp s numbers
+pub together : (kind : Kind) (fp : ℕ) (s : SymbolicBlock) (numbers : ℕ) (w : Writing) (r : Reading) (a : Answer) → w ≡ writingOf fp s
+    → r ≡ readingOf fp (w .bytes) → a ≡ blockAnswer kind fp (w .bytes) numbers → answers w r a ≡ roundTripOf kind fp s numbers
 unfolding roundTripOf
-together fp s numbers w r a e f g =
+together kind fp s numbers w r a e f g =
     ap (λ (x : Reading). answers w x a) f ∙ ap (answers w (readingOf fp (w .bytes))) g
-    ∙ ap (λ (x : Writing). answers x (readingOf fp (x .bytes)) (blockAnswer fp (x .bytes) numbers)) e
+    ∙ ap (λ (x : Writing). answers x (readingOf fp (x .bytes)) (blockAnswer kind fp (x .bytes) numbers)) e
 
 -- ---- a block read and written anew
 
 module _ (kind : Kind) (fp : ℕ) (block old old2 out again : List ℕ) (h : Sound fp block) where
-  same-numbers : blockNumbers fp kind (blockOf (readBlock (numberOf block))) ≡ blockNumbers fp kind (numberOf block)
+  same-numbers : FineIn kind fp block → blockNumbers fp kind (blockOf (readBlock (numberOf block))) ≡ blockNumbers fp kind (numberOf block)
   unfolding blockNumbers blockChannel blockNumberAt shownChannel
-  same-numbers =
+  same-numbers k =
       tab-ext _ _ 0 (4 * texelsOf fp)
-      (λ k p. demand-3 .rewritten-shows-numbers fp (numberOf block) (h .known) (h .no-fault) kind (k / 4 % widthOf fp) (k / 4 / widthOf fp) (k % 4))
+      (λ i p. demand-3 .rewritten-shows-numbers fp (numberOf block) (h .known) kind k (i / 4 % widthOf fp) (i / 4 / widthOf fp) (i % 4))
 
   rewritten-done : out ≡ blockOut kind fp block old → again ≡ blockOut kind fp (writingOf fp (readBlock (numberOf block)) .bytes) old2
-      → Rewritten fp block old old2 (rewriting fp block (length old) (length old2) (done (readBlock (numberOf block)))) out again
+      → Rewritten kind fp block old old2 (rewriting kind fp block (length old) (length old2) (done (readBlock (numberOf block)))) out again
   rewritten-done e f =
       let B = numberOf block in
       let z = demand-3 .read-sized fp B (h .no-fault) in
-      let a = demand-3 .read-acceptable fp B (h .known) (h .no-fault) in record {
+      let a = demand-3 .read-acceptable fp B (h .known) (h .no-fault) in
+      let again-in : FineIn kind fp block → FineIn kind fp (writingOf fp (readBlock B) .bytes) =
+      (λ k. in-kind fp (readBlock B) z a kind ∙ demand-3 .rewritten-kinds fp B (h .known) (h .no-fault) kind ∙ k) in record {
         read = refl;
         reads-as = demand-3 .reads-as fp B (h .no-fault);
         reads-as-one = λ s y r. demand-3 .reads-as-one fp B s (h .no-fault) y r;
         acceptable = a;
         written = accepted-answer fp (readBlock B) a;
-        shown = λ size. sound-answer fp block h old size;
-        shown-again = λ size. sound-answer fp _ (sound fp (readBlock B) z a) old2 size;
-        same-shown = λ size size2. f ∙ sound-out fp _ (sound fp (readBlock B) z a) old2 size2 kind ∙ ap (blockNumbers fp kind) (number fp (readBlock B) z a)
-            ∙ same-numbers ∙ sym (e ∙ sound-out fp block h old size kind);
+        shown = λ k size. sound-answer fp block h old size kind k;
+        shown-again = λ k size. sound-answer fp _ (sound fp (readBlock B) z a) old2 size kind (again-in k);
+        same-shown = λ k size size2. f ∙ sound-out fp _ (sound fp (readBlock B) z a) old2 size2 kind ∙ ap (blockNumbers fp kind) (number fp (readBlock B) z a)
+            ∙ same-numbers k ∙ sym (e ∙ sound-out fp block h old size kind);
+        kinds-ldr = λ q. demand-3 .read-kinds-ldr fp B (h .no-fault) q kind;
+        kinds-hdr = λ q. demand-3 .read-kinds-hdr fp B (h .no-fault) q kind;
       }
 
-  pub rewritten : (r : Rewriting) → r ≡ rewritingOf fp block (length old) (length old2) → out ≡ blockOut kind fp block old
-      → again ≡ blockOut kind fp (r .writing .bytes) old2 → Rewritten fp block old old2 r out again
+  pub rewritten : (r : Rewriting) → r ≡ rewritingOf kind fp block (length old) (length old2) → out ≡ blockOut kind fp block old
+      → again ≡ blockOut kind fp (r .writing .bytes) old2 → Rewritten kind fp block old old2 r out again
   unfolding rewritingOf
   rewritten r e g =
-      subst (λ (q : Rewriting). again ≡ blockOut kind fp (q .writing .bytes) old2 → Rewritten fp block old old2 q out again)
-      (sym (e ∙ ap (rewriting fp block (length old) (length old2)) (sound-read fp block h))) (rewritten-done g)
+      subst (λ (q : Rewriting). again ≡ blockOut kind fp (q .writing .bytes) old2 → Rewritten kind fp block old old2 q out again)
+      (sym (e ∙ ap (rewriting kind fp block (length old) (length old2)) (sound-read fp block h))) (rewritten-done g)
 
 -- the answers one by one
 abbrev four-answers : Reading → Writing → Answer → Answer → Rewriting
 four-answers r w a b = record { reading = r; writing = w; shown = a; again = b }
 
-pub four-together : (fp : ℕ) (block : List ℕ) (numbers numbers2 : ℕ) (r : Reading) (w : Writing) (a b : Answer) → r ≡ readingOf fp block
-    → w ≡ writingOf fp (r .block) → a ≡ blockAnswer fp block numbers → b ≡ blockAnswer fp (w .bytes) numbers2
-    → four-answers r w a b ≡ rewritingOf fp block numbers numbers2
+pub four-together : (kind : Kind) (fp : ℕ) (block : List ℕ) (numbers numbers2 : ℕ) (r : Reading) (w : Writing) (a b : Answer) → r ≡ readingOf fp block
+    → w ≡ writingOf fp (r .block) → a ≡ blockAnswer kind fp block numbers → b ≡ blockAnswer kind fp (w .bytes) numbers2
+    → four-answers r w a b ≡ rewritingOf kind fp block numbers numbers2
 unfolding rewritingOf
-four-together fp block numbers numbers2 r w a b e f g k =
+four-together kind fp block numbers numbers2 r w a b e f g k =
     ap (four-answers r w a) k
-    ∙ ap (λ (x : Answer). four-answers r w x (blockAnswer fp (w .bytes) numbers2)) g
-    ∙ ap (λ (x : Writing). four-answers r x (blockAnswer fp block numbers) (blockAnswer fp (x .bytes) numbers2)) f
-    ∙ ap (rewriting fp block numbers numbers2) e
+    ∙ ap (λ (x : Answer). four-answers r w x (blockAnswer kind fp (w .bytes) numbers2)) g
+    ∙ ap (λ (x : Writing). four-answers r x (blockAnswer kind fp block numbers) (blockAnswer kind fp (x .bytes) numbers2)) f
+    ∙ ap (rewriting kind fp block numbers numbers2) e

@@ -1,15 +1,19 @@
 -- 01, "Words of demand 3", of what the calls return: the writer, the reader of symbolic blocks (01: sheets) and the one-block call.
+-- 02, i: a block without fault is one by kind 2's list, and what is shown is said of a kind in which the block has no fault.
 -- Assumes nothing.
 use mathlib.Core.Path.{_≡_}
 use mathlib.Core.Logic.{_↔_}
-use mathlib.Core.Bool.{true, false}
+use mathlib.Core.Bool.{Bool, true, false}
 use mathlib.Core.List.{List}
 use Prim.Native.Nat.{ℕ, _*_, _/_, _%_, _≤_, _<_}
 use lib.ListN.{length}
+use Rattle.laws.specs.Choice.{pick}
 use Rattle.laws.specs.Table.{tab}
 use Rattle.bits.specs.Block.{numberOf}
 use Rattle.footprint.specs.Footprint.{widthOf, texelsOf}
 use Rattle.interpolation.specs.declared.Kind.{Kind}
+use Rattle.interpolation.specs.declared.Kind.the-variants.{Unorm16, Float16}
+use Rattle.interpolation.specs.Expansion.{takesHdr}
 use Rattle.block_fault.specs.Faults.{faultOf}
 use Rattle.block_answer.specs.declared.Answer.the-variants.{Refused, Done}
 use Rattle.one_block.specs.Calls.{blockAnswer}
@@ -25,12 +29,20 @@ use Rattle.symbolic_calls.specs.Writing.{writingOf}
 use Rattle.round_trip.specs.declared.RoundTrip.{RoundTrip}
 use Rattle.round_trip.specs.declared.Rewriting.{Rewriting}
 
+-- kinds 0 and 2, which show numbers of 16 bits: whether half floats
+abbrev pub wordKind : Bool → Kind
+wordKind half = pick half Float16 Unorm16
+
+-- the block has no fault in a kind
+abbrev pub FineIn : Kind → ℕ → List ℕ → Type 0
+FineIn kind fp block = faultOf (takesHdr kind) fp (numberOf block) ≡ 0
+
 -- the three answers
-unfoldable pub roundTripOf : ℕ → SymbolicBlock → ℕ → RoundTrip
-roundTripOf fp s numbers = record {
+unfoldable pub roundTripOf : Kind → ℕ → SymbolicBlock → ℕ → RoundTrip
+roundTripOf kind fp s numbers = record {
   writing = writingOf fp s;
   reading = readingOf fp (writingOf fp s .bytes);
-  shown = blockAnswer fp (writingOf fp s .bytes) numbers;
+  shown = blockAnswer kind fp (writingOf fp s .bytes) numbers;
 }
 
 -- the picture's numbers in the order of a result buffer: "Channels are R, G, B, A, rows first"
@@ -43,13 +55,16 @@ pub record Kept (kind : Kind) (fp : ℕ) (s : SymbolicBlock) (old : List ℕ) (r
   pub written : r .writing .answer ≡ Done
   -- a block without fault
   pub sixteen : length (r .writing .bytes) ≡ 16
-  pub no-fault : faultOf false fp (numberOf (r .writing .bytes)) ≡ 0
+  pub no-fault : faultOf true fp (numberOf (r .writing .bytes)) ≡ 0
   -- that reads back as the same
   pub read : r .reading .answer ≡ Done
   pub same : r .reading .block ≡ s
-  -- and shows its picture, at every texel
-  pub shown : length old ≡ 4 * texelsOf fp → r .shown ≡ Done
-  pub picture : length old ≡ 4 * texelsOf fp → out ≡ pictureNumbers fp kind s
+  -- and shows its picture, at every texel, where it has no fault in the kind
+  pub shown : FineIn kind fp (r .writing .bytes) → length old ≡ 4 * texelsOf fp → r .shown ≡ Done
+  pub picture : FineIn kind fp (r .writing .bytes) → length old ≡ 4 * texelsOf fp → out ≡ pictureNumbers fp kind s
+  -- so in every kind where the HDR mark is clear, in kind 2 alone where it is set
+  pub kinds-ldr : s .hdr ≡ 0 → FineIn kind fp (r .writing .bytes)
+  pub kinds-hdr : s .hdr ≡ 1 → FineIn kind fp (r .writing .bytes) ↔ (kind ≡ Float16)
 
 -- of any
 pub record Demanded (kind : Kind) (fp : ℕ) (s : SymbolicBlock) (old : List ℕ) (r : RoundTrip) (out : List ℕ) : Type 0 where
@@ -64,25 +79,25 @@ pub record Demanded (kind : Kind) (fp : ℕ) (s : SymbolicBlock) (old : List ℕ
 -- ---- a block read and written anew
 
 -- with what was read of it
-abbrev pub rewriting : ℕ → List ℕ → ℕ → ℕ → Reading → Rewriting
-rewriting fp block numbers numbers2 r = record {
+abbrev pub rewriting : Kind → ℕ → List ℕ → ℕ → ℕ → Reading → Rewriting
+rewriting kind fp block numbers numbers2 r = record {
   reading = r;
   writing = writingOf fp (r .block);
-  shown = blockAnswer fp block numbers;
-  again = blockAnswer fp (writingOf fp (r .block) .bytes) numbers2;
+  shown = blockAnswer kind fp block numbers;
+  again = blockAnswer kind fp (writingOf fp (r .block) .bytes) numbers2;
 }
 
-unfoldable pub rewritingOf : ℕ → List ℕ → ℕ → ℕ → Rewriting
-rewritingOf fp block numbers numbers2 = rewriting fp block numbers numbers2 (readingOf fp block)
+unfoldable pub rewritingOf : Kind → ℕ → List ℕ → ℕ → ℕ → Rewriting
+rewritingOf kind fp block numbers numbers2 = rewriting kind fp block numbers numbers2 (readingOf fp block)
 
 -- sixteen bytes that are a block without fault
 pub record Sound (fp : ℕ) (block : List ℕ) : Type 0 where
   pub known : fp ≤ 13
   pub sixteen : length block ≡ 16
-  pub no-fault : faultOf false fp (numberOf block) ≡ 0
+  pub no-fault : faultOf true fp (numberOf block) ≡ 0
 
 -- of a block without fault
-pub record Rewritten (fp : ℕ) (block old old2 : List ℕ) (r : Rewriting) (out again : List ℕ) : Type 0 where
+pub record Rewritten (kind : Kind) (fp : ℕ) (block old old2 : List ℕ) (r : Rewriting) (out again : List ℕ) : Type 0 where
   -- it reads as the symbolic block that the reader tells, and as no other
   pub read : r .reading .answer ≡ Done
   pub reads-as : ReadsAs (numberOf block) (r .reading .block)
@@ -90,7 +105,10 @@ pub record Rewritten (fp : ℕ) (block old old2 : List ℕ) (r : Rewriting) (out
   -- this is acceptable, and written
   pub acceptable : Acceptable fp (r .reading .block)
   pub written : r .writing .answer ≡ Done
-  -- and what is written shows the same
-  pub shown : length old ≡ 4 * texelsOf fp → r .shown ≡ Done
-  pub shown-again : length old2 ≡ 4 * texelsOf fp → r .again ≡ Done
-  pub same-shown : length old ≡ 4 * texelsOf fp → length old2 ≡ 4 * texelsOf fp → again ≡ out
+  -- and what is written shows the same, where the block has no fault in the kind
+  pub shown : FineIn kind fp block → length old ≡ 4 * texelsOf fp → r .shown ≡ Done
+  pub shown-again : FineIn kind fp block → length old2 ≡ 4 * texelsOf fp → r .again ≡ Done
+  pub same-shown : FineIn kind fp block → length old ≡ 4 * texelsOf fp → length old2 ≡ 4 * texelsOf fp → again ≡ out
+  -- so in every kind where the HDR mark is clear, in kind 2 alone where it is set
+  pub kinds-ldr : r .reading .block .hdr ≡ 0 → FineIn kind fp block
+  pub kinds-hdr : r .reading .block .hdr ≡ 1 → FineIn kind fp block ↔ (kind ≡ Float16)

@@ -2,6 +2,7 @@
 -- Assumes nothing.
 use mathlib.Core.Path.{_≡_, refl}
 use mathlib.Core.List.{map}
+use lib.Count.{leadingZeros}
 use Rattle.quantization.specs.Ranges.{rangeBits, endpointRange}
 use Rattle.quantization.specs.Unquantise.{unquantEndpoint, unquantWeight}
 use Rattle.integer_sequence.specs.Writing.{codeOf}
@@ -21,12 +22,13 @@ use Rattle.partition.specs.Select.{partitionOf}
 use Rattle.block_header.specs.Counts.{endpointRangeOf}
 use Rattle.block_header.specs.Reasons.{gridTooLarge, tooManyWeights, weightBitsOutside, fourWithTwoPlanes, tooManyEndpoints, tooFewEndpointBits, someHdr, hdrRefused}
 use Rattle.block_fault.specs.Bits as block
-use Rattle.block_fault.specs.Faults.{faultOf}
-use Rattle.texel.specs.Meaning.{texelFrom, planeWeight, secondWeight, secondComponent, shownChannel}
+use Rattle.block_fault.specs.Faults.{badExtents, badVoidExtent, hdrVoidExtent, voidReasons, faultOf}
+use Rattle.half_float.specs.Half.{towardZero, unormHalf}
+use Rattle.texel.specs.Meaning.{texelFrom, planeWeight, secondWeight, secondComponent, shownChannel, solidNumber, solidTexel, errorTexel}
 use Rattle.texel.specs.BlockTexel.{blockNumberAt}
 use Rattle.samples.specs.Samples.{Sample, samples}
 
 -- every sample computes to what is wanted
 pub samples-hold : map (λ (s : Sample). s .computed) samples ≡ map (λ (s : Sample). s .wanted) samples
-unfolding codeOf rangeBits unquantWeight unquantEndpoint bitTransfer baseOf offsetOf pairOf mode1 luminancePair lowLuminance highLuminance expandedPair expandedEnd replicated centred texelOf channelOf mixOf weightOf widthOf footprints scaleOf gridPlace numberOf blockMode heightOf endpointRange mode0 numberCount startOf numbersFrom entryBy tableBy weightAt cellOf infillOf blendOf w00 w01 w10 w11 partitionOf endpointRangeOf gridTooLarge tooManyWeights weightBitsOutside fourWithTwoPlanes tooManyEndpoints tooFewEndpointBits isHdr someHdr hdrRefused block.headerAt block.endpointAt block.weightAt faultOf texelFrom planeWeight secondWeight secondComponent shownChannel blockNumberAt
+unfolding codeOf rangeBits unquantWeight unquantEndpoint bitTransfer baseOf offsetOf pairOf mode1 luminancePair lowLuminance highLuminance expandedPair expandedEnd replicated centred texelOf channelOf mixOf weightOf widthOf footprints scaleOf gridPlace numberOf blockMode heightOf endpointRange mode0 numberCount startOf numbersFrom entryBy tableBy weightAt cellOf infillOf blendOf w00 w01 w10 w11 partitionOf endpointRangeOf gridTooLarge tooManyWeights weightBitsOutside fourWithTwoPlanes tooManyEndpoints tooFewEndpointBits isHdr someHdr hdrRefused block.headerAt block.endpointAt block.weightAt block.extentAt block.colourAt badExtents badVoidExtent hdrVoidExtent voidReasons faultOf leadingZeros towardZero unormHalf solidNumber solidTexel errorTexel texelFrom planeWeight secondWeight secondComponent shownChannel blockNumberAt
 samples-hold = refl

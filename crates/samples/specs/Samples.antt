@@ -1,6 +1,6 @@
 -- 01, "Bench samples": the samples marked P, as one table. Each entry is 01's words, what the definitions compute, and what 01 wants.
 -- Assumes nothing.
-use mathlib.Core.Bool.{false}
+use mathlib.Core.Bool.{true, false}
 use Prim.Native.Nat.{ℕ, _-_, _/_, _%_, _^_}
 use mathlib.Core.List.{List, [], _∷_, map}
 use lib.IntN.{ℤ, pos, negℤ}
@@ -16,7 +16,7 @@ use Rattle.endpoint_arithmetic.specs.declared.EndpointPair.{EndpointPair}
 use Rattle.endpoint_arithmetic.specs.Signed.{bitTransfer}
 use Rattle.color_endpoint.specs.Modes.{pairOf}
 use Rattle.interpolation.specs.declared.Kind.{Kind}
-use Rattle.interpolation.specs.declared.Kind.the-variants.{Unorm16, Srgb8}
+use Rattle.interpolation.specs.declared.Kind.the-variants.{Unorm16, Srgb8, Float16}
 use Rattle.interpolation.specs.declared.Texel.{Texel}
 use Rattle.interpolation.specs.Expansion.{expandedPair, shownOf}
 use Rattle.interpolation.specs.Texel.{texelOf}
@@ -54,6 +54,10 @@ programBlock = numberOf (0x42 ∷ 0x00 ∷ 0x00 ∷ 0xFE ∷ 0x01 ∷ 0 ∷ 0 �
 -- the block whose bits are all 1
 abbrev pub allOnes : ℕ
 allOnes = 2 ^ 128 - 1
+
+-- "FC FD and six FF, then colours": a solid block by its second byte, with colours that are infinity, a NaN, all ones and 0 as half floats
+abbrev pub solid : ℕ → ℕ
+solid second = numberOf (0xFC ∷ second ∷ 0xFF ∷ 0xFF ∷ 0xFF ∷ 0xFF ∷ 0xFF ∷ 0xFF ∷ 0x00 ∷ 0x7C ∷ 0x01 ∷ 0x7E ∷ 0xFF ∷ 0xFF ∷ 0x00 ∷ 0x00 ∷ [])
 
 -- the table: a new sample is one more entry
 abbrev pub samples : List Sample
@@ -96,4 +100,11 @@ samples =
     ∷ sample (faultOf false 0 0 ∷ []) (11 ∷ [])
     -- "All-one block: 14 at 4x4, 16 at 5x5." Footprint 2 is 5x5.
     ∷ sample (faultOf false 0 allOnes ∷ faultOf false 2 allOnes ∷ []) (14 ∷ 16 ∷ [])
+    -- "FC FD and six FF, then colours: fine. The same block beginning FC FF: 13; beginning FC F9: 12." 02, i: "In kind 2 faults 13 and 20
+    -- don't exist"
+    ∷ sample (map (λ b. faultOf false 0 (solid b)) (0xFD ∷ 0xFF ∷ 0xF9 ∷ [])) (0 ∷ 13 ∷ 12 ∷ [])
+    ∷ sample (map (λ b. faultOf true 0 (solid b)) (0xFD ∷ 0xFF ∷ 0xF9 ∷ [])) (0 ∷ 0 ∷ 12 ∷ [])
+    -- 02, i: "An HDR solid block shows its four colours as stored, infinities and NaN too. What is LDR .. the half floats that 000 makes of it"
+    ∷ sample (map (blockNumberAt 0 Float16 (solid 0xFF) 0 0) (0 ∷ 1 ∷ 2 ∷ 3 ∷ [])) (0x7C00 ∷ 0x7E01 ∷ 0xFFFF ∷ 0 ∷ [])
+    ∷ sample (map (blockNumberAt 0 Float16 (solid 0xFD) 0 0) (0 ∷ 1 ∷ 2 ∷ 3 ∷ [])) (0x37C0 ∷ 0x37E0 ∷ 0x3C00 ∷ 0 ∷ [])
     ∷ []

@@ -39,25 +39,25 @@ tallyWith t old = pick (eqb (length old) 3) (tallyNumbers (tallyTold t)) old
 
 -- ---- images
 
-abbrev pub imageNumber : ℕ → ℕ → ℕ → List ℕ → ℕ → ℕ → ℕ
-imageNumber fp w h s places n = numberWith (imageTold fp w h s places) (imageRefusal fp w h (length s) places) n
+abbrev pub imageNumber : ℕ → Kind → ℕ → ℕ → List ℕ → ℕ → ℕ → ℕ
+imageNumber fp kind w h s places n = numberWith (imageTold fp kind w h s places) (imageRefusal fp w h (length s) places) n
 
 abbrev pub imageShown : ℕ → Kind → ℕ → ℕ → List ℕ → List ℕ → ℕ → List ℕ
 imageShown fp kind w h s old n = outWith n (imageOut fp kind w h s old) old
 
-abbrev pub tallyShown : ℕ → ℕ → ℕ → List ℕ → ℕ → List ℕ → List ℕ
-tallyShown fp w h s places old = tallyWith (imageTold fp w h s places) old
+abbrev pub tallyShown : ℕ → Kind → ℕ → ℕ → List ℕ → ℕ → List ℕ → List ℕ
+tallyShown fp kind w h s places old = tallyWith (imageTold fp kind w h s places) old
 
 -- ---- .astc files (02, a)
 
-abbrev pub fileNumber : List ℕ → ℕ → ℕ → ℕ
-fileNumber s places n = numberWith (fileTold s places) (headerRefusal s) n
+abbrev pub fileNumber : Kind → List ℕ → ℕ → ℕ → ℕ
+fileNumber kind s places n = numberWith (fileTold kind s places) (headerRefusal s) n
 
 abbrev pub fileShown : Kind → List ℕ → List ℕ → ℕ → List ℕ
 fileShown kind s old n = outWith n (fileOut kind s old) old
 
-abbrev pub fileTally : List ℕ → ℕ → List ℕ → List ℕ
-fileTally s places old = tallyWith (fileTold s places) old
+abbrev pub fileTally : Kind → List ℕ → ℕ → List ℕ → List ℕ
+fileTally kind s places old = tallyWith (fileTold kind s places) old
 
 -- ---- pictures of BC7 blocks
 

@@ -8,10 +8,11 @@ mod pvrtc;
 use image_layout::CheckedImage;
 use image_layout::ImageAnswer;
 use image_layout::Tally;
+use interpolation::Kind;
 ghost use mathlib.Core.Path.{_≡_};
 ghost use lib.ListN.{length};
-ghost use Rattle.interpolation.specs.declared.Kind.the-variants.{Unorm16, Srgb8};
-ghost use Rattle.one_block.specs.Calls.{blockTold, blockOut};
+ghost use Rattle.interpolation.specs.declared.Kind.the-variants.{Unorm16, Srgb8, Float16};
+ghost use Rattle.one_block.specs.Calls.{blockTold, blockOut, Words};
 ghost use Rattle.image_layout.specs.Call.{imageRefusal, toldOf};
 ghost use Rattle.symbolic_numbers.specs.Calls.{readNumber, readNumbers, writeNumber, writeBlock};
 ghost use Rattle.stallbrook.specs.Images.{tallyTold, tallyNumbers, refusalOr5, imageNumber, imageShown, tallyShown};
@@ -23,7 +24,7 @@ pub extern "C" fn stallbrook_astc_decode_block_unorm16(
     block: &[u8],
     out: &mut [u16],
 ) -> u8
-    ensures { λ r. ⌜ r ≡ blockTold footprint (now (block .entry)) (length (now (out .entry))) ⌝ }
+    ensures { λ r. ⌜ r ≡ blockTold Unorm16 footprint (now (block .entry)) (length (now (out .entry))) ⌝ }
     ensures { λ r. ⌜ now (out .exit) ≡ blockOut Unorm16 footprint (now (block .entry)) (now (out .entry)) ⌝ }
 {
     block_answer::number_told(one_block::decode_unorm16(footprint, block, out))
@@ -36,10 +37,23 @@ pub extern "C" fn stallbrook_astc_decode_block_srgb8(
     block: &[u8],
     out: &mut [u8],
 ) -> u8
-    ensures { λ r. ⌜ r ≡ blockTold footprint (now (block .entry)) (length (now (out .entry))) ⌝ }
+    ensures { λ r. ⌜ r ≡ blockTold Srgb8 footprint (now (block .entry)) (length (now (out .entry))) ⌝ }
     ensures { λ r. ⌜ now (out .exit) ≡ blockOut Srgb8 footprint (now (block .entry)) (now (out .entry)) ⌝ }
 {
     block_answer::number_told(one_block::decode_srgb8(footprint, block, out))
+}
+
+// The texels of a block in kind 2: half floats, as their 16-bit patterns.
+#[no_mangle]
+pub extern "C" fn stallbrook_astc_decode_block_float16(
+    footprint: u8,
+    block: &[u8],
+    out: &mut [u16],
+) -> u8
+    ensures { λ r. ⌜ r ≡ blockTold Float16 footprint (now (block .entry)) (length (now (out .entry))) ⌝ }
+    ensures { λ r. ⌜ now (out .exit) ≡ blockOut Float16 footprint (now (block .entry)) (now (out .entry)) ⌝ }
+{
+    block_answer::number_told(one_block::decode_float16(footprint, block, out))
 }
 
 // ---- images
@@ -86,6 +100,29 @@ fn put_tally(t: Tally, tally: &mut [u64])
     tally[2] = t.fault as u64;
 }
 
+// An image in a kind of 16-bit numbers, with its tally.
+fn image_words(
+    kind: Kind,
+    footprint: u8,
+    width: u32,
+    height: u32,
+    blocks: &[u8],
+    out: &mut [u16],
+    tally: &mut [u64],
+) -> u8
+    requires { ⌜ Words kind ⌝ }
+    ensures { λ r. ⌜ r ≡ imageNumber footprint kind width height (now (blocks .entry)) (length (now (out .entry))) (length (now (tally .entry))) ⌝ }
+    ensures { λ r. ⌜ now (out .exit) ≡ imageShown footprint kind width height (now (blocks .entry)) (now (out .entry)) (length (now (tally .entry))) ⌝ }
+    ensures { λ r. ⌜ now (tally .exit) ≡ tallyShown footprint kind width height (now (blocks .entry)) (length (now (out .entry))) (now (tally .entry)) ⌝ }
+{
+    if tally.len() != 3 {
+        return refusal_or_5(footprint, width, height, blocks.len(), out.len());
+    }
+    let answer = image::decode_image_words(kind, footprint, width, height, blocks, out);
+    put_tally(tally_told(answer), tally);
+    refusal_told(answer)
+}
+
 // An image in kind 0: 0 or the refusal's number with `out` as it was. `tally` gets the count of faulty blocks and the raster index and
 // fault of the first one, zeros on a refusal; where it is not of 3 numbers the call is refused by 1, 3, 4 or else 5, and writes nothing.
 #[no_mangle]
@@ -97,16 +134,28 @@ pub extern "C" fn stallbrook_astc_decode_image_unorm16(
     out: &mut [u16],
     tally: &mut [u64],
 ) -> u8
-    ensures { λ r. ⌜ r ≡ imageNumber footprint width height (now (blocks .entry)) (length (now (out .entry))) (length (now (tally .entry))) ⌝ }
+    ensures { λ r. ⌜ r ≡ imageNumber footprint Unorm16 width height (now (blocks .entry)) (length (now (out .entry))) (length (now (tally .entry))) ⌝ }
     ensures { λ r. ⌜ now (out .exit) ≡ imageShown footprint Unorm16 width height (now (blocks .entry)) (now (out .entry)) (length (now (tally .entry))) ⌝ }
-    ensures { λ r. ⌜ now (tally .exit) ≡ tallyShown footprint width height (now (blocks .entry)) (length (now (out .entry))) (now (tally .entry)) ⌝ }
+    ensures { λ r. ⌜ now (tally .exit) ≡ tallyShown footprint Unorm16 width height (now (blocks .entry)) (length (now (out .entry))) (now (tally .entry)) ⌝ }
 {
-    if tally.len() != 3 {
-        return refusal_or_5(footprint, width, height, blocks.len(), out.len());
-    }
-    let answer = image::decode_image_unorm16(footprint, width, height, blocks, out);
-    put_tally(tally_told(answer), tally);
-    refusal_told(answer)
+    image_words(Kind::Unorm16, footprint, width, height, blocks, out, tally)
+}
+
+// An image in kind 2: half floats, as their 16-bit patterns; the rest as in kind 0.
+#[no_mangle]
+pub extern "C" fn stallbrook_astc_decode_image_float16(
+    footprint: u8,
+    width: u32,
+    height: u32,
+    blocks: &[u8],
+    out: &mut [u16],
+    tally: &mut [u64],
+) -> u8
+    ensures { λ r. ⌜ r ≡ imageNumber footprint Float16 width height (now (blocks .entry)) (length (now (out .entry))) (length (now (tally .entry))) ⌝ }
+    ensures { λ r. ⌜ now (out .exit) ≡ imageShown footprint Float16 width height (now (blocks .entry)) (now (out .entry)) (length (now (tally .entry))) ⌝ }
+    ensures { λ r. ⌜ now (tally .exit) ≡ tallyShown footprint Float16 width height (now (blocks .entry)) (length (now (out .entry))) (now (tally .entry)) ⌝ }
+{
+    image_words(Kind::Float16, footprint, width, height, blocks, out, tally)
 }
 
 // An image in kind 1: 0 or the refusal's number with `out` as it was. `tally` gets the count of faulty blocks and the raster index and
@@ -120,9 +169,9 @@ pub extern "C" fn stallbrook_astc_decode_image_srgb8(
     out: &mut [u8],
     tally: &mut [u64],
 ) -> u8
-    ensures { λ r. ⌜ r ≡ imageNumber footprint width height (now (blocks .entry)) (length (now (out .entry))) (length (now (tally .entry))) ⌝ }
+    ensures { λ r. ⌜ r ≡ imageNumber footprint Srgb8 width height (now (blocks .entry)) (length (now (out .entry))) (length (now (tally .entry))) ⌝ }
     ensures { λ r. ⌜ now (out .exit) ≡ imageShown footprint Srgb8 width height (now (blocks .entry)) (now (out .entry)) (length (now (tally .entry))) ⌝ }
-    ensures { λ r. ⌜ now (tally .exit) ≡ tallyShown footprint width height (now (blocks .entry)) (length (now (out .entry))) (now (tally .entry)) ⌝ }
+    ensures { λ r. ⌜ now (tally .exit) ≡ tallyShown footprint Srgb8 width height (now (blocks .entry)) (length (now (out .entry))) (now (tally .entry)) ⌝ }
 {
     if tally.len() != 3 {
         return refusal_or_5(footprint, width, height, blocks.len(), out.len());
@@ -132,7 +181,7 @@ pub extern "C" fn stallbrook_astc_decode_image_srgb8(
     refusal_told(answer)
 }
 
-// ---- symbolic blocks (01: sheets) as lists of 103 numbers, in the order of 01, "Fields"
+// ---- symbolic blocks (01: sheets) as lists of 104 numbers: the fields in the order of 01, "Fields", and the HDR mark
 
 // A block's symbolic block: the fault's number or the refusal's with zeros in `numbers`, 5 with `numbers` as it was, or 0.
 #[no_mangle]

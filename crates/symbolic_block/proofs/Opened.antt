@@ -67,27 +67,28 @@ refusal-is fp s = refl
 
 -- ---- a block
 
--- a block without fault where HDR is not taken has none in any kind
-any-kind : (fp B : ℕ) → faultOf false fp B ≡ 0 → (kind : Kind) → faultOf (takesHdr kind) fp B ≡ 0
-any-kind fp B e Unorm16 = e
-any-kind fp B e Srgb8 = e
-any-kind fp B e Float16 = fault-hdr fp B e
+-- a block without fault in some kind has none where HDR is taken
+pub some-kind : (fp B : ℕ) (kind : Kind) → faultOf (takesHdr kind) fp B ≡ 0 → faultOf true fp B ≡ 0
+some-kind fp B Unorm16 e = fault-hdr fp B e
+some-kind fp B Srgb8 e = fault-hdr fp B e
+some-kind fp B Float16 e = e
 
 module _ (B : ℕ) (v : isVoid (modeAt B) ≡ true) where
-  pub fault-void : (fp : ℕ) → faultOf false fp B ≡ firstOf (voidReasons false B)
+  pub fault-void : (fp : ℕ) → faultOf true fp B ≡ firstOf (voidReasons true B)
   unfolding faultOf
   fault-void fp = rw v
 
-  pub read-void : readBlock B ≡ voidBlock (colourAt B) (extentAt B)
+  pub read-void : readBlock B ≡ voidBlock (field B 9 1) (colourAt B) (extentAt B)
   unfolding readBlock
   read-void = rw v
 
-  pub texel-void : (fp : ℕ) (kind : Kind) (x y : ℕ) → faultOf false fp B ≡ 0 → blockTexel fp kind B x y ≡ solidTexel kind (hdrVoidExtent B) (colourAt B)
+  pub texel-void : (fp : ℕ) (kind : Kind) (x y : ℕ) → faultOf (takesHdr kind) fp B ≡ 0
+      → blockTexel fp kind B x y ≡ solidTexel kind (hdrVoidExtent B) (colourAt B)
   unfolding blockTexel
-  texel-void fp kind x y e = rw (any-kind fp B e kind, v)
+  texel-void fp kind x y e = rw (e, v)
 
 module _ (B : ℕ) (v : isVoid (modeAt B) ≡ false) where
-  pub fault-mode : (fp : ℕ) → faultOf false fp B ≡ firstOf (modeReasons false fp B)
+  pub fault-mode : (fp : ℕ) → faultOf true fp B ≡ firstOf (modeReasons true fp B)
   unfolding faultOf
   fault-mode fp = rw v
 
@@ -95,30 +96,30 @@ module _ (B : ℕ) (v : isVoid (modeAt B) ≡ false) where
   unfolding readBlock
   read-mode = rw v
 
-  pub texel-mode : (fp : ℕ) (kind : Kind) (x y : ℕ) → faultOf false fp B ≡ 0
+  pub texel-mode : (fp : ℕ) (kind : Kind) (x y : ℕ) → faultOf (takesHdr kind) fp B ≡ 0
       → blockTexel fp kind B x y ≡ texelFrom fp kind (headerAt B) (endpointAt B (headerAt B)) (weightAt B (headerAt B)) x y
   unfolding blockTexel
-  texel-mode fp kind x y e = rw (any-kind fp B e kind, v)
+  texel-mode fp kind x y e = rw (e, v)
 
 -- the faults of a block, none of which holds
-pub no-void-fault : (fp B : ℕ) → isVoid (modeAt B) ≡ true → faultOf false fp B ≡ 0 → (badVoidExtent B ≡ false) × (hdrVoidExtent B ≡ false)
+pub no-void-fault : (fp B : ℕ) → isVoid (modeAt B) ≡ true → faultOf true fp B ≡ 0 → badVoidExtent B ≡ false
 unfolding voidReasons
-no-void-fault fp B v e = let n : None (voidReasons false B) = first-none (voidReasons false B) tt (sym (fault-void B v fp) ∙ e) in (n .0, n .1 .0)
+no-void-fault fp B v e = let n : None (voidReasons true B) = first-none (voidReasons true B) tt (sym (fault-void B v fp) ∙ e) in n .0
 
-pub void-no-fault : (fp B : ℕ) → isVoid (modeAt B) ≡ true → badVoidExtent B ≡ false → hdrVoidExtent B ≡ false → faultOf false fp B ≡ 0
+pub void-no-fault : (fp B : ℕ) → isVoid (modeAt B) ≡ true → badVoidExtent B ≡ false → faultOf true fp B ≡ 0
 unfolding voidReasons
-void-no-fault fp B v a b = fault-void B v fp ∙ none-first (voidReasons false B) (a, (b, tt))
+void-no-fault fp B v a = fault-void B v fp ∙ none-first (voidReasons true B) (a, (refl, tt))
 
 abbrev pub modeFaults : ℕ → Header → List Reason
-modeFaults fp h = gridReasons fp h (endpointReasons false h [])
+modeFaults fp h = gridReasons fp h (endpointReasons true h [])
 
-pub no-mode-fault : (fp B : ℕ) → isVoid (modeAt B) ≡ false → faultOf false fp B ≡ 0 → (isReserved (modeAt B) ≡ false) × None (modeFaults fp (headerAt B))
+pub no-mode-fault : (fp B : ℕ) → isVoid (modeAt B) ≡ false → faultOf true fp B ≡ 0 → (isReserved (modeAt B) ≡ false) × None (modeFaults fp (headerAt B))
 unfolding modeReasons
-no-mode-fault fp B v e = let n : None (modeReasons false fp B) = first-none (modeReasons false fp B) tt (sym (fault-mode B v fp) ∙ e) in n
+no-mode-fault fp B v e = let n : None (modeReasons true fp B) = first-none (modeReasons true fp B) tt (sym (fault-mode B v fp) ∙ e) in n
 
-pub mode-no-fault : (fp B : ℕ) → isVoid (modeAt B) ≡ false → isReserved (modeAt B) ≡ false → None (modeFaults fp (headerAt B)) → faultOf false fp B ≡ 0
+pub mode-no-fault : (fp B : ℕ) → isVoid (modeAt B) ≡ false → isReserved (modeAt B) ≡ false → None (modeFaults fp (headerAt B)) → faultOf true fp B ≡ 0
 unfolding modeReasons
-mode-no-fault fp B v r n = fault-mode B v fp ∙ none-first (modeReasons false fp B) (r, n)
+mode-no-fault fp B v r n = fault-mode B v fp ∙ none-first (modeReasons true fp B) (r, n)
 
 -- ---- its settings and numbers
 

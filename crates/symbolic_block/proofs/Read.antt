@@ -1,7 +1,7 @@
 -- A block without fault that is no void extent reads as an acceptable symbolic block.
 -- Assumes nothing.
 use mathlib.Core.Path.{_≡_, refl, _∙_}
-use mathlib.Core.Bool.{false, not}
+use mathlib.Core.Bool.{Bool, true, false, not}
 use Prim.Native.Nat.{ℕ, _+_, _-_, _*_, _^_, _≤_, _<_}
 use native.Mathlib.Omega.{arith}
 use lib.Arith.{digits-lt}
@@ -9,7 +9,7 @@ use lib.Dec.{T, ltb, eqb}
 use lib.ListN.{length, getD}
 use lib.Pow.{pow-add}
 use borrow.Author.Tests.{le-ltb, lt-ltb}
-use Rattle.laws.specs.Choice.{pick}
+use Rattle.laws.specs.Choice.{pick, both}
 use Rattle.laws.specs.Table.{tab, padded}
 use Rattle.laws.proofs.Filling.{length-tab, length-padded, padded-here, padded-past}
 use Rattle.bits.specs.Field.{field}
@@ -23,11 +23,12 @@ use Rattle.block_mode.specs.Back2D.{Limits}
 use Rattle.block_mode.proofs.Modes.{mode-limits, mode-found}
 use Rattle.block_header.specs.declared.Header.{Header}
 use Rattle.block_header.specs.Counts.{weightCount, weightBits, componentBits, indexBits, selectorBits, extraBits, endpointCount, endpointRangeOf}
+use Rattle.block_header.specs.Reasons.{someHdr, hdrRefused}
 use Rattle.block_fault.specs.Bits.{modeAt, isVoid, isReserved, gridIn, partitionsAt, indexAt, selectorAt, baseAt, extraAt, componentAt, modeOf, headerWith, headerAt, endpointAt, weightAt}
 use Rattle.block_fault.proofs.Verdicts.{a-grid}
 use Rattle.symbolic_block.specs.declared.SymbolicBlock.{SymbolicBlock}
 use Rattle.symbolic_block.specs.Fields.{numberIn, Sized}
-use Rattle.symbolic_block.specs.Refusals.{within, outside, noBlockMode, modesMisfit, unknownFootprint, badMark, badWidth, badHeight, badRange, badPlanes, badComponent, badPartitions, badIndex, badSelector, badModes, badEndpoints, badWeights, modeRefusals}
+use Rattle.symbolic_block.specs.Refusals.{within, outside, noBlockMode, modesMisfit, unknownFootprint, badMark, badHdr, badWidth, badHeight, badRange, badPlanes, badComponent, badPartitions, badIndex, badSelector, badModes, badEndpoints, badWeights, markedWithout, modeRefusals}
 use Rattle.symbolic_block.specs.Reading.{modeBlock}
 use Rattle.laws.proofs.Reasons.{None, _also_, none-at, none-either}
 use Rattle.symbolic_block.proofs.Lists.{is-within, all-within, stored-at, zeros-unused}
@@ -139,6 +140,19 @@ stored-within N n most f u p =
 inside : (low high x : ℕ) → low ≤ x → x ≤ high → outside low high x ≡ false
 inside low high x h l = none-either (ltb x low) (ltb high x) (le-ltb x low h) (le-ltb high x l)
 
+-- the HDR mark that is read: in its limits, and neither 20 nor 35
+mark-in : (b : Bool) → ltb 1 (pick b 1 0) ≡ false
+mark-in true = refl
+mark-in false = refl
+
+mark-there : (b : Bool) → both (not (eqb (pick b 1 0) 1)) b ≡ false
+mark-there true = refl
+mark-there false = refl
+
+mark-earned : (b : Bool) → both (eqb (pick b 1 0) 1) (not b) ≡ false
+mark-earned true = refl
+mark-earned false = refl
+
 module _ (B : ℕ) (h : Header) where
   abbrev read : SymbolicBlock
   read = modeBlock h (endpointAt B h) (weightAt B h)
@@ -162,11 +176,12 @@ module _ (B : ℕ) (h : Header) where
   }
 
   pub mode-accepted : (fp : ℕ) → fp ≤ 13 → Settled h → None (modeFaults fp h) → None (modeRefusals fp read)
-  unfolding modeRefusals modeBlock unknownFootprint badMark badWidth badHeight badRange badPlanes badComponent badPartitions badIndex badSelector badModes
+  unfolding modeRefusals modeBlock unknownFootprint badMark badHdr badWidth badHeight badRange badPlanes badComponent badPartitions badIndex badSelector badModes hdrRefused markedWithout
   mode-accepted fp low i n =
       let r = none-at (modeFaults fp h) n in
       le-ltb 13 fp low
       also refl
+      also mark-in (someHdr h)
       also inside 2 12 (h .grid .width) (i .limits .width-low) (i .limits .width-most)
       also inside 2 12 (h .grid .height) (i .limits .height-low) (i .limits .height-most)
       also le-ltb 11 (h .grid .range) (i .limits .range-most)
@@ -181,7 +196,8 @@ module _ (B : ℕ) (h : Header) where
       also i .coded
       also r 0 also r 1 also r 2 also r 3
       also i .selected
-      also r 4 also r 5 also r 6
+      also r 4 also r 5 also mark-there (someHdr h)
       also endpoints-in
       also weights-in
+      also mark-earned (someHdr h)
       also tt

@@ -11,6 +11,7 @@ use lib.Seq.{ext-getD}
 use Rattle.laws.specs.Choice.{pick}
 use Rattle.laws.proofs.Filling.{getD-tab, padded-at}
 use Rattle.encoding.specs.declared.Stored.{Stored}
+use Rattle.bits.specs.Field.{field}
 use Rattle.integer_sequence.specs.Reading.{stored}
 use Rattle.block_fault.specs.Bits.{modeAt, isVoid, partitionsAt, modeOf, headerAt, endpointAt, weightAt, extentAt, colourAt}
 use Rattle.symbolic_block.specs.declared.SymbolicBlock.{SymbolicBlock}
@@ -23,10 +24,11 @@ module _ (B : ℕ) where
   -- ---- it does
 
   module _ (v : isVoid (modeAt B) ≡ true) where
-    void-reads : ReadsAs B (voidBlock (colourAt B) (extentAt B))
+    void-reads : ReadsAs B (voidBlock (field B 9 1) (colourAt B) (extentAt B))
     unfolding voidBlock
     void-reads = record {
       mark = rw v;
+      hdr = rw v;
       colours = λ i h. rw v (getD-tab (colourAt B) 4 i 0 h);
       extents = λ i h. rw v (getD-tab (extentAt B) 4 i 0 h);
       width = rw v;
@@ -52,6 +54,7 @@ module _ (B : ℕ) where
     unfolding modeBlock headerAt
     mode-reads = record {
       mark = rw v;
+      hdr = rw v;
       colours = λ i h. rw v (zero-at 4 i h);
       extents = λ i h. rw v (zero-at 4 i h);
       width = rw v;
@@ -85,6 +88,7 @@ module _ (B : ℕ) where
     pub reads-same : s ≡ t
     reads-same =
         let e0 = p .mark ∙ sym (q .mark) in
+        let k = p .hdr ∙ sym (q .hdr) in
         let e1 = list (s .colours) (t .colours) 4 (z .colours-4) (w .colours-4) (λ i h. p .colours i h ∙ sym (q .colours i h)) in
         let e2 = list (s .extents) (t .extents) 4 (z .extents-4) (w .extents-4) (λ i h. p .extents i h ∙ sym (q .extents i h)) in
         let e3 = p .width ∙ sym (q .width) in
@@ -100,6 +104,7 @@ module _ (B : ℕ) where
         let e13 = stored-list (s .weights) (t .weights) 64 (z .weights-64) (w .weights-64) (λ i h. p .weights i h ∙ sym (q .weights i h)) in
         λ i. record {
           mark = e0 i;
+          hdr = k i;
           colours = e1 i;
           extents = e2 i;
           width = e3 i;

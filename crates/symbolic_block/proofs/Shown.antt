@@ -1,9 +1,10 @@
 -- A block without fault shows the picture of the symbolic block that it reads as.
 -- Assumes nothing.
 use mathlib.Core.Path.{_≡_, refl, sym, ap, ap₂, _∙_}
-use mathlib.Core.Bool.{Bool, true, false}
+use mathlib.Core.Bool.{Bool, true, false, not}
 use Prim.Native.Nat.{ℕ, _<_}
 use native.Mathlib.Omega.{arith}
+use lib.Dec.{eqb}
 use lib.ListN.{getD}
 use borrow.Author.Tests.{ltb-false}
 use Rattle.laws.specs.Choice.{pick, both}
@@ -15,20 +16,22 @@ use Rattle.weight_grid.specs.Cell.{level}
 use Rattle.interpolation.specs.declared.Kind.{Kind}
 use Rattle.interpolation.specs.Expansion.{takesHdr}
 use Rattle.half_float.specs.Half.{unormHalf}
+use Rattle.half_pair.specs.Texel.{solidHalf}
+use Rattle.bits.specs.Field.{field}
 use Rattle.block_header.specs.declared.Header.{Header}
 use Rattle.block_header.specs.Counts.{weightCount, endpointCount, endpointRangeOf}
 use Rattle.block_header.specs.Reasons.{tooManyWeights, tooManyEndpoints}
 use Rattle.block_fault.specs.Bits.{modeAt, isVoid, headerAt, endpointAt, weightAt, colourAt, extentAt}
-use Rattle.block_fault.specs.Faults.{faultOf}
+use Rattle.block_fault.specs.Faults.{hdrVoidExtent, faultOf}
 use Rattle.texel.specs.Meaning.{endpointLevels, weightLevels, mixedTexel, texelFrom, solidNumber, solidTexel}
 use Rattle.texel.specs.BlockTexel.{blockTexel}
 use Rattle.symbolic_block.specs.declared.SymbolicBlock.{SymbolicBlock}
-use Rattle.symbolic_block.specs.Fields.{numberIn, colourIn}
+use Rattle.symbolic_block.specs.Fields.{isMarked, numberIn, colourIn}
 use Rattle.symbolic_block.specs.Picture.{solidChannel, solidPicture, pictureOf}
 use Rattle.symbolic_block.specs.Reading.{modeBlock, voidBlock, readBlock}
 use Rattle.laws.proofs.Reasons.{None, none-at}
 use Rattle.symbolic_block.proofs.Lists.{stored-at, within-used}
-use Rattle.symbolic_block.proofs.Opened.{picture-void, picture-mode, read-void, read-mode, texel-void, texel-mode, modeFaults, no-void-fault, no-mode-fault}
+use Rattle.symbolic_block.proofs.Opened.{picture-void, picture-mode, read-void, read-mode, some-kind, texel-void, texel-mode, modeFaults, no-mode-fault}
 use Rattle.symbolic_block.proofs.Read.{Settled, settled}
 use Rattle.symbolic_block.proofs.Agrees.{Counted, agrees}
 
@@ -52,9 +55,9 @@ unfolding texelFrom
 texel-same fp kind h e f v w x y p q =
     ap₂ (λ ends weights. mixedTexel fp kind h ends weights x y) (levels-same (endpointRangeOf h) e f p) (weights-same (h .grid .range) v w q)
 
--- of an LDR solid block
-pub solid-same : (kind : Kind) (s : SymbolicBlock) (g : ℕ → ℕ) → ((i : ℕ) → i < 4 → colourIn s i ≡ g i) → solidPicture kind s ≡ solidTexel kind false g
-unfolding solidPicture solidChannel solidTexel solidNumber
+pub solid-same : (kind : Kind) (s : SymbolicBlock) (g : ℕ → ℕ) → ((i : ℕ) → i < 4 → colourIn s i ≡ g i)
+    → solidPicture kind s ≡ solidTexel kind (isMarked s) g
+unfolding solidPicture solidChannel solidHalf solidTexel solidNumber
 solid-same kind s g h =
     let e0 = each 0 (omega arith) in
     let e1 = each 1 (omega arith) in
@@ -62,21 +65,26 @@ solid-same kind s g h =
     let e3 = each 3 (omega arith) in
     λ i. record { r = e0 i; g = e1 i; b = e2 i; a = e3 i }
   where
-    go : (t : Bool) (n : ℕ) → pick t (unormHalf n) n ≡ pick (both t true) (unormHalf n) n
-    go true n = refl
-    go false n = refl
+    go : (t m : Bool) (n : ℕ) → pick t (pick m n (unormHalf n)) n ≡ pick (both t (not m)) (unormHalf n) n
+    go true true n = refl
+    go true false n = refl
+    go false m n = refl
 
-    each : (i : ℕ) → i < 4 → pick (takesHdr kind) (unormHalf (colourIn s i)) (colourIn s i) ≡ pick (both (takesHdr kind) true) (unormHalf (g i)) (g i)
-    each i l = go (takesHdr kind) (colourIn s i) ∙ ap (λ (n : ℕ). pick (both (takesHdr kind) true) (unormHalf n) n) (h i l)
+    each : (i : ℕ) → i < 4
+        → pick (takesHdr kind) (pick (isMarked s) (colourIn s i) (unormHalf (colourIn s i))) (colourIn s i)
+        ≡ pick (both (takesHdr kind) (not (isMarked s))) (unormHalf (g i)) (g i)
+    each i l =
+        go (takesHdr kind) (isMarked s) (colourIn s i)
+        ∙ ap (λ (n : ℕ). pick (both (takesHdr kind) (not (isMarked s))) (unormHalf n) n) (h i l)
 
 -- ---- what is read
 
 module _ (fp : ℕ) (kind : Kind) (B x y : ℕ) where
-  void-picture : pictureOf fp kind (voidBlock (colourAt B) (extentAt B)) x y ≡ solidTexel kind false (colourAt B)
-  unfolding voidBlock
+  void-picture : pictureOf fp kind (voidBlock (field B 9 1) (colourAt B) (extentAt B)) x y ≡ solidTexel kind (hdrVoidExtent B) (colourAt B)
+  unfolding voidBlock hdrVoidExtent
   void-picture =
-      picture-void (voidBlock (colourAt B) (extentAt B)) refl fp kind x y
-      ∙ solid-same kind (voidBlock (colourAt B) (extentAt B)) (colourAt B) (λ i h. getD-tab (colourAt B) 4 i 0 h)
+      picture-void (voidBlock (field B 9 1) (colourAt B) (extentAt B)) refl fp kind x y
+      ∙ solid-same kind (voidBlock (field B 9 1) (colourAt B) (extentAt B)) (colourAt B) (λ i h. getD-tab (colourAt B) 4 i 0 h)
 
   mode-picture : (h : Header) → Counted (modeBlock h (endpointAt B h) (weightAt B h))
       → pictureOf fp kind (modeBlock h (endpointAt B h) (weightAt B h)) x y ≡ texelFrom fp kind h (endpointAt B h) (weightAt B h) x y
@@ -99,11 +107,10 @@ module _ (fp : ℕ) (kind : Kind) (B x y : ℕ) where
     numbers-most = ltb-false 18 (endpointCount h) (none-at (modeFaults fp h) n 4);
   }
 
-  pub block-shows : faultOf false fp B ≡ 0 → blockTexel fp kind B x y ≡ pictureOf fp kind (readBlock B) x y
+  pub block-shows : faultOf (takesHdr kind) fp B ≡ 0 → blockTexel fp kind B x y ≡ pictureOf fp kind (readBlock B) x y
   block-shows e = go (isVoid (modeAt B)) refl where
     go : (v : Bool) → isVoid (modeAt B) ≡ v → blockTexel fp kind B x y ≡ pictureOf fp kind (readBlock B) x y
-    go true v =
-        texel-void B v fp kind x y e ∙ ap (λ (t : Bool). solidTexel kind t (colourAt B)) (no-void-fault fp B v e .1) ∙ sym (rw (read-void B v) void-picture)
+    go true v = texel-void B v fp kind x y e ∙ sym (rw (read-void B v) void-picture)
     go false v =
-        let n = no-mode-fault fp B v e in
+        let n = no-mode-fault fp B v (some-kind fp B kind e) in
         texel-mode B v fp kind x y e ∙ sym (rw (read-mode B v) (mode-picture (headerAt B) (counted (headerAt B) (settled B v (n .0)) (n .1))))

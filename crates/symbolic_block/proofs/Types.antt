@@ -20,7 +20,7 @@ use Rattle.laws.proofs.Reasons.{None, none-at}
 use Rattle.symbolic_block.proofs.Lists.{not-not, within-used, within-unused}
 use Rattle.symbolic_block.proofs.Room.{pick-le}
 use Rattle.symbolic_block.proofs.Fine.{Fine}
-use Rattle.symbolic_block.proofs.Void.{colours-in, extents-in}
+use Rattle.symbolic_block.proofs.Void.{hdr-in, colours-in, extents-in}
 
 -- numbers within their limits, and 0 past the last
 module _ (N n most : ℕ) (x : ℕ → ℕ) (t : T (within N n most x)) where
@@ -39,6 +39,7 @@ past-stored xs N e i h = ap (λ (s : Stored). s .0) (List·getD-eq-default xs (s
 pub mode-typed : (fp : ℕ) (s : SymbolicBlock) → Fine fp s → Sized s → Typed s
 mode-typed fp s f z = record {
   mark-u8 = omega (arith, f .mark-0);
+  hdr-u8 = omega (arith, f .hdr-most);
   colours-u16 = λ i. omega (arith, bounded 4 0 0 (colourIn s) (f .colours-0) (past-list (s .colours) 4 (z .colours-4)) i);
   extents-u16 = λ i. omega (arith, bounded 4 0 0 (extentIn s) (f .extents-0) (past-list (s .extents) 4 (z .extents-4)) i);
   width-u8 = omega (arith, f .limits .width-most);
@@ -70,19 +71,20 @@ void-typed fp s m n z =
     let r = none-at (voidRefusals fp s) n in
     record {
       mark-u8 = omega (arith, m);
+      hdr-u8 = omega (arith, hdr-in fp s m n z);
       colours-u16 = λ i. omega (arith, bounded 4 4 65535 (colourIn s) (colours-in fp s m n z) (past-list (s .colours) 4 (z .colours-4)) i);
       extents-u16 = λ i. omega (arith, bounded 4 4 8191 (extentIn s) (extents-in fp s m n z) (past-list (s .extents) 4 (z .extents-4)) i);
-      width-u8 = omega (arith, ltb-false 0 (s .width) (r 3));
-      height-u8 = omega (arith, ltb-false 0 (s .height) (r 4));
-      range-u8 = omega (arith, ltb-false 0 (s .range) (r 5));
-      planes-u8 = omega (arith, ltb-false 0 (s .planes) (r 6));
-      component-u8 = omega (arith, ltb-false 0 (s .component) (r 7));
-      partitions-u8 = omega (arith, ltb-false 0 (s .partitions) (r 8));
-      index-u16 = omega (arith, ltb-false 0 (s .index) (r 9));
-      selector-u8 = omega (arith, ltb-false 0 (s .selector) (r 10));
-      modes-u8 = λ i. omega (arith, bounded 4 0 0 (modeIn s) (not-not (within 4 0 0 (modeIn s)) (r 11)) (past-list (s .modes) 4 (z .modes-4)) i);
+      width-u8 = omega (arith, ltb-false 0 (s .width) (r 4));
+      height-u8 = omega (arith, ltb-false 0 (s .height) (r 5));
+      range-u8 = omega (arith, ltb-false 0 (s .range) (r 6));
+      planes-u8 = omega (arith, ltb-false 0 (s .planes) (r 7));
+      component-u8 = omega (arith, ltb-false 0 (s .component) (r 8));
+      partitions-u8 = omega (arith, ltb-false 0 (s .partitions) (r 9));
+      index-u16 = omega (arith, ltb-false 0 (s .index) (r 10));
+      selector-u8 = omega (arith, ltb-false 0 (s .selector) (r 11));
+      modes-u8 = λ i. omega (arith, bounded 4 0 0 (modeIn s) (not-not (within 4 0 0 (modeIn s)) (r 12)) (past-list (s .modes) 4 (z .modes-4)) i);
       endpoints-u8 = λ i.
-          omega (arith, bounded 18 0 0 (endpointIn s) (not-not (within 18 0 0 (endpointIn s)) (r 12)) (past-stored (s .endpoints) 18 (z .endpoints-18)) i);
+          omega (arith, bounded 18 0 0 (endpointIn s) (not-not (within 18 0 0 (endpointIn s)) (r 13)) (past-stored (s .endpoints) 18 (z .endpoints-18)) i);
       weights-u8 = λ i.
-          omega (arith, bounded 64 0 0 (weightIn s) (not-not (within 64 0 0 (weightIn s)) (r 13)) (past-stored (s .weights) 64 (z .weights-64)) i);
+          omega (arith, bounded 64 0 0 (weightIn s) (not-not (within 64 0 0 (weightIn s)) (r 14)) (past-stored (s .weights) 64 (z .weights-64)) i);
     }

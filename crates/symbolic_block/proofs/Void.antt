@@ -1,24 +1,25 @@
 -- Void extents (01: solid sheets and blocks), both ways.
 -- Assumes nothing.
 use mathlib.Core.Path.{_≡_, refl, sym, ap, _∙_}
-use mathlib.Core.Bool.{true, false, not}
+use mathlib.Core.Bool.{Bool, true, false, not}
 use Prim.Native.Nat.{ℕ, zero, suc, _+_, _*_, _^_, _≤_, _<_}
 use native.Mathlib.Omega.{arith}
 use lib.Dec.{T, ltb, eqb}
 use lib.ListN.{length, getD}
-use borrow.Author.Tests.{ltb-false, le-ltb}
+use borrow.Author.Tests.{ltb-false, le-ltb, eq-eqb}
+use Rattle.laws.specs.Choice.{pick}
 use Rattle.laws.specs.Table.{tab}
 use Rattle.laws.proofs.Filling.{getD-tab, length-tab}
 use Rattle.bits.specs.Field.{field}
 use Rattle.bits.proofs.Fields.{field-lt, field-in}
 use Rattle.integer_sequence.specs.Reading.{stored}
 use Rattle.block_mode.specs.declared.BlockMode.the-variants.{VoidExtent}
-use Rattle.block_mode.specs.Mode2D.{blockMode}
+use Rattle.block_mode.specs.Mode2D.{lowForms, highForms, blockMode}
 use Rattle.block_fault.specs.Bits.{modeAt, isVoid, extentAt, colourAt}
-use Rattle.block_fault.specs.Faults.{badExtents, badVoidExtent, hdrVoidExtent, faultOf}
+use Rattle.block_fault.specs.Faults.{badExtents, badVoidExtent, faultOf}
 use Rattle.symbolic_block.specs.declared.SymbolicBlock.{SymbolicBlock}
 use Rattle.symbolic_block.specs.Fields.{colourIn, extentIn, modeIn, endpointIn, weightIn, Sized}
-use Rattle.symbolic_block.specs.Refusals.{within, unknownFootprint, badColours, badExtentFields, someInUse, voidRefusals}
+use Rattle.symbolic_block.specs.Refusals.{within, unknownFootprint, badHdr, badColours, badExtentFields, someInUse, voidRefusals}
 use Rattle.bits.specs.Cells.{cell, laid}
 use Rattle.symbolic_block.specs.Writing.{voidCells}
 use Rattle.symbolic_block.specs.Reading.{voidBlock, readBlock}
@@ -28,18 +29,10 @@ use Rattle.symbolic_block.proofs.Lists.{not-not, is-within, within-used
 use Rattle.bits.proofs.Laid.{Apart, _below_, laid-at, laid-lt}
 use Rattle.symbolic_block.proofs.Opened.{void-no-fault, no-void-fault, read-void}
 
--- the first twelve bits that are written
-start-mode : blockMode (field 0b110111111100 0 11) ≡ VoidExtent
+-- a mode with the nine bits of a void extent
+void-mode : (m : ℕ) → field m 0 9 ≡ 0b111111100 → blockMode m ≡ VoidExtent
 unfolding field blockMode
-start-mode = refl
-
-start-ones : field 0b110111111100 10 2 ≡ 3
-unfolding field
-start-ones = refl
-
-start-hdr : field 0b110111111100 9 1 ≡ 0
-unfolding field
-start-hdr = refl
+void-mode m e = ap (λ (b : Bool). pick b VoidExtent (pick (eqb (field m 0 2) 0) (highForms m) (lowForms m))) (eq-eqb (field m 0 9) 0b111111100 e)
 
 -- extents are good or bad by their four numbers
 same-extents : (d e : ℕ → ℕ) → ((i : ℕ) → i < 4 → d i ≡ e i) → badExtents d ≡ badExtents e
@@ -55,13 +48,17 @@ module _ (fp : ℕ) (s : SymbolicBlock) (m : s .mark ≡ 1) (n : None (voidRefus
   r : (i : ℕ) → reasonAt (voidRefusals fp s) i .holds ≡ false
   r = none-at (voidRefusals fp s) n
 
+  pub hdr-in : s .hdr ≤ 1
+  unfolding voidRefusals badHdr
+  hdr-in = ltb-false 1 (s .hdr) (r 1)
+
   pub colours-in : T (within 4 4 65535 (colourIn s))
   unfolding voidRefusals badColours
-  colours-in = not-not (within 4 4 65535 (colourIn s)) (r 1)
+  colours-in = not-not (within 4 4 65535 (colourIn s)) (r 2)
 
   pub extents-in : T (within 4 4 8191 (extentIn s))
   unfolding voidRefusals badExtentFields
-  extents-in = not-not (within 4 4 8191 (extentIn s)) (r 2)
+  extents-in = not-not (within 4 4 8191 (extentIn s)) (r 3)
 
   colour-lt : (i : ℕ) → i < 4 → colourIn s i < 2 ^ 16
   colour-lt i h = omega (arith, within-used 4 4 65535 (colourIn s) colours-in i h h)
@@ -73,6 +70,8 @@ module _ (fp : ℕ) (s : SymbolicBlock) (m : s .mark ≡ 1) (n : None (voidRefus
   unfolding voidCells
   apart =
       (omega arith, omega arith)
+      below (omega arith, omega (arith, hdr-in))
+      below (omega arith, omega arith)
       below (omega arith, extent-lt 0 (omega arith))
       below (omega arith, extent-lt 1 (omega arith))
       below (omega arith, extent-lt 2 (omega arith))
@@ -90,57 +89,65 @@ module _ (fp : ℕ) (s : SymbolicBlock) (m : s .mark ≡ 1) (n : None (voidRefus
       → field b (getD (voidCells s) i (cell 0 0 0) .place) (getD (voidCells s) i (cell 0 0 0) .width) ≡ getD (voidCells s) i (cell 0 0 0) .value
   at = laid-at 128 (voidCells s) apart
 
-  -- a field of the first twelve bits
-  start : (p w : ℕ) → p + w ≤ 12 → field b p w ≡ field 0b110111111100 p w
+  nine-are : field b 0 9 ≡ 0b111111100
   unfolding voidCells
-  start p w h = ap (λ (q : ℕ). field b q w) (omega arith) ∙ sym (field-in b 0 12 p w h) ∙ ap (λ (x : ℕ). field x p w) (at 0 (omega arith))
+  nine-are = at 0 (omega arith)
+
+  hdr-is : field b 9 1 ≡ s .hdr
+  unfolding voidCells
+  hdr-is = at 1 (omega arith)
+
+  ones-are : field b 10 2 ≡ 3
+  unfolding voidCells
+  ones-are = at 2 (omega arith)
 
   mode-is : modeAt b ≡ VoidExtent
   unfolding modeAt
-  mode-is = ap blockMode (start 0 11 (omega arith)) ∙ start-mode
+  mode-is = void-mode (field b 0 11) (field-in b 0 11 0 9 (omega arith) ∙ nine-are)
 
   is-void : isVoid (modeAt b) ≡ true
   is-void = rw mode-is
 
   extents-are : (i : ℕ) → i < 4 → extentAt b i ≡ extentIn s i
   unfolding extentAt voidCells
-  extents-are zero h = at 1 (omega arith)
-  extents-are (suc zero) h = at 2 (omega arith)
-  extents-are (suc (suc zero)) h = at 3 (omega arith)
-  extents-are (suc (suc (suc zero))) h = at 4 (omega arith)
+  extents-are zero h = at 3 (omega arith)
+  extents-are (suc zero) h = at 4 (omega arith)
+  extents-are (suc (suc zero)) h = at 5 (omega arith)
+  extents-are (suc (suc (suc zero))) h = at 6 (omega arith)
   extents-are (suc (suc (suc (suc i)))) h = omega arith
 
   colours-are : (i : ℕ) → i < 4 → colourAt b i ≡ colourIn s i
   unfolding colourAt voidCells
-  colours-are zero h = at 5 (omega arith)
-  colours-are (suc zero) h = at 6 (omega arith)
-  colours-are (suc (suc zero)) h = at 7 (omega arith)
-  colours-are (suc (suc (suc zero))) h = at 8 (omega arith)
+  colours-are zero h = at 7 (omega arith)
+  colours-are (suc zero) h = at 8 (omega arith)
+  colours-are (suc (suc zero)) h = at 9 (omega arith)
+  colours-are (suc (suc (suc zero))) h = at 10 (omega arith)
   colours-are (suc (suc (suc (suc i)))) h = omega arith
 
   -- an unused field is 0
   unused : (x : ℕ) → ltb 0 x ≡ false → 0 ≡ x
   unused x h = omega (arith, ltb-false 0 x h)
 
-  with-fields : voidBlock (colourAt b) (extentAt b) ≡ s
+  with-fields : voidBlock (field b 9 1) (colourAt b) (extentAt b) ≡ s
   unfolding voidBlock voidRefusals someInUse
   with-fields =
       let e0 : 1 ≡ s .mark = sym m in
       let e1 = tab-back (s .colours) (colourAt b) 0 4 (z .colours-4) (λ i h. sym (colours-are i h)) in
       let e2 = tab-back (s .extents) (extentAt b) 0 4 (z .extents-4) (λ i h. sym (extents-are i h)) in
-      let e3 = unused (s .width) (r 3) in
-      let e4 = unused (s .height) (r 4) in
-      let e5 = unused (s .range) (r 5) in
-      let e6 = unused (s .planes) (r 6) in
-      let e7 = unused (s .component) (r 7) in
-      let e8 = unused (s .partitions) (r 8) in
-      let e9 = unused (s .index) (r 9) in
-      let e10 = unused (s .selector) (r 10) in
-      let e11 = zeros-back (s .modes) 4 (z .modes-4) (not-not (within 4 0 0 (modeIn s)) (r 11)) in
-      let e12 = stored-zeros-back (s .endpoints) 18 (z .endpoints-18) (not-not (within 18 0 0 (endpointIn s)) (r 12)) in
-      let e13 = stored-zeros-back (s .weights) 64 (z .weights-64) (not-not (within 64 0 0 (weightIn s)) (r 13)) in
+      let e3 = unused (s .width) (r 4) in
+      let e4 = unused (s .height) (r 5) in
+      let e5 = unused (s .range) (r 6) in
+      let e6 = unused (s .planes) (r 7) in
+      let e7 = unused (s .component) (r 8) in
+      let e8 = unused (s .partitions) (r 9) in
+      let e9 = unused (s .index) (r 10) in
+      let e10 = unused (s .selector) (r 11) in
+      let e11 = zeros-back (s .modes) 4 (z .modes-4) (not-not (within 4 0 0 (modeIn s)) (r 12)) in
+      let e12 = stored-zeros-back (s .endpoints) 18 (z .endpoints-18) (not-not (within 18 0 0 (endpointIn s)) (r 13)) in
+      let e13 = stored-zeros-back (s .weights) 64 (z .weights-64) (not-not (within 64 0 0 (weightIn s)) (r 14)) in
       λ i. record {
         mark = e0 i;
+        hdr = hdr-is i;
         colours = e1 i;
         extents = e2 i;
         width = e3 i;
@@ -159,19 +166,18 @@ module _ (fp : ℕ) (s : SymbolicBlock) (m : s .mark ≡ 1) (n : None (voidRefus
   pub void-back : readBlock b ≡ s
   void-back = read-void b is-void ∙ with-fields
 
-  pub void-faultless : faultOf false fp b ≡ 0
-  unfolding badVoidExtent hdrVoidExtent voidRefusals
+  pub void-faultless : faultOf true fp b ≡ 0
+  unfolding badVoidExtent voidRefusals
   void-faultless =
       void-no-fault fp b is-void
       (none-either (not (eqb (field b 10 2) 3)) (badExtents (extentAt b))
-      (ap (λ (x : ℕ). not (eqb x 3)) (start 10 2 (omega arith) ∙ start-ones)) (same-extents (extentAt b) (extentIn s) extents-are ∙ r 14))
-      (ap (λ (x : ℕ). eqb x 1) (start 9 1 (omega arith) ∙ start-hdr))
+      (ap (λ (x : ℕ). not (eqb x 3)) ones-are) (same-extents (extentAt b) (extentIn s) extents-are ∙ r 15))
 
 -- ---- read
 
 module _ (B : ℕ) where
   abbrev read : SymbolicBlock
-  read = voidBlock (colourAt B) (extentAt B)
+  read = voidBlock (field B 9 1) (colourAt B) (extentAt B)
 
   pub void-sized : Sized read
   unfolding voidBlock
@@ -193,11 +199,12 @@ module _ (B : ℕ) where
   extents-within =
       all-within 4 4 8191 _ (λ i h l. rw (getD-tab (extentAt B) 4 i 0 h) (omega (arith, field-lt B (12 + 13 * i) 13))) (λ i h l. omega arith)
 
-  pub void-accepted : (fp : ℕ) → fp ≤ 13 → isVoid (modeAt B) ≡ true → faultOf false fp B ≡ 0 → None (voidRefusals fp read)
-  unfolding voidRefusals voidBlock unknownFootprint badColours badExtentFields someInUse badVoidExtent
+  pub void-accepted : (fp : ℕ) → fp ≤ 13 → isVoid (modeAt B) ≡ true → faultOf true fp B ≡ 0 → None (voidRefusals fp read)
+  unfolding voidRefusals voidBlock unknownFootprint badHdr badColours badExtentFields someInUse badVoidExtent
   void-accepted fp low v e =
-      let bad : badExtents (extentAt B) ≡ false = either-none (not (eqb (field B 10 2) 3)) (badExtents (extentAt B)) (no-void-fault fp B v e .0) .1 in
+      let bad : badExtents (extentAt B) ≡ false = either-none (not (eqb (field B 10 2) 3)) (badExtents (extentAt B)) (no-void-fault fp B v e) .1 in
       le-ltb 13 fp low
+      also le-ltb 1 (field B 9 1) (omega (arith, field-lt B 9 1))
       also is-within (within 4 4 65535 (λ i. getD (tab (colourAt B) 4) i 0)) colours-within
       also is-within (within 4 4 8191 (λ i. getD (tab (extentAt B) 4) i 0)) extents-within
       also refl also refl also refl also refl also refl also refl also refl also refl

@@ -1,12 +1,15 @@
 -- An acceptable mode sheet: what is written for it is read back.
 -- Assumes nothing.
 use mathlib.Core.Path.{_≡_, refl, subst, sym, ap, ap₂, _∙_}
-use mathlib.Core.Bool.{false}
-use Prim.Native.Nat.{ℕ, _+_, _-_, _*_, _/_, _%_, _^_, _<_}
+use mathlib.Core.Bool.{Bool, true, false}
+use Prim.Native.Nat.{ℕ, _+_, _-_, _*_, _/_, _%_, _^_, _≤_, _<_}
 use native.Mathlib.Nat.{mod-lt}
 use native.Mathlib.Omega.{arith}
+use lib.Dec.{eqb}
 use lib.ListN.{length, getD}
 use lib.Pow.{pow-pos, split, shr-lt}
+use borrow.Author.Tests.{eqb-true, eqb-false}
+use Rattle.laws.specs.Choice.{pick}
 use Rattle.laws.specs.Table.{padded}
 use Rattle.bits.specs.Field.{field, reverse}
 use Rattle.bits.proofs.Reverse.{reverse-lt, reverse-reverse}
@@ -18,6 +21,7 @@ use Rattle.block_mode.specs.Back2D.{modeBits}
 use Rattle.block_mode.proofs.Modes.{found-mode}
 use Rattle.block_header.specs.declared.Header.{Header}
 use Rattle.block_header.specs.Counts.{weightCount, weightBits, extraBits, endpointCount, endpointRangeOf}
+use Rattle.block_header.specs.Reasons.{someHdr, hdrRefused}
 use Rattle.block_fault.specs.Bits.{modeAt, isVoid, partitionsAt, indexAt, selectorAt, baseAt, extraAt, componentAt, modeOf, headerWith, headerAt, endpointsFrom, endpointAt, weightAt}
 use Rattle.block_fault.specs.Faults.{faultOf}
 use Rattle.symbolic_block.specs.declared.SymbolicBlock.{SymbolicBlock}
@@ -36,6 +40,11 @@ use Rattle.integer_sequence.specs.Writing.{Smallest}
 use Rattle.symbolic_block.proofs.Opened.{modeFaults, mode-no-fault, read-mode, header-is, endpoint-is, weight-is}
 use Rattle.symbolic_block.proofs.Room.{from-is, index-lt, selector-lt, several, alone, component-lt, room, component-from-is}
 use Rattle.symbolic_block.proofs.Fine.{Fine}
+
+-- a mark of 0 or 1 by whether it is 1
+mark-back : (x : ℕ) (b : Bool) → x ≤ 1 → eqb x 1 ≡ b → pick b 1 0 ≡ x
+mark-back x true l e = sym (eqb-true x 1 e)
+mark-back x false l e = let q : 0 ≡ x = omega (arith, eqb-false x 1 e) in q
 
 module _ (fp : ℕ) (s : SymbolicBlock) (f : Fine fp s) (z : Sized s) where
   abbrev h : Header
@@ -194,12 +203,14 @@ module _ (fp : ℕ) (s : SymbolicBlock) (f : Fine fp s) (z : Sized s) where
   unfolding modeBlock
   with-numbers =
       let m : 0 ≡ s .mark = sym (f .mark-0) in
+      let k : pick (someHdr h) 1 0 ≡ s .hdr = mark-back (s .hdr) (someHdr h) (f .hdr-most) (f .marked) in
       let c = zeros-back (s .colours) 4 (z .colours-4) (f .colours-0) in
       let x = zeros-back (s .extents) 4 (z .extents-4) (f .extents-0) in
       let e = stored-back (s .endpoints) (endpointAt b h) 18 (z .endpoints-18) endpoints-are in
       let w = stored-back (s .weights) (weightAt b h) 64 (z .weights-64) weights-are in
       λ i. record {
         mark = m i;
+        hdr = k i;
         colours = c i;
         extents = x i;
         width = s .width;
@@ -218,9 +229,9 @@ module _ (fp : ℕ) (s : SymbolicBlock) (f : Fine fp s) (z : Sized s) where
   pub mode-back : readBlock b ≡ s
   mode-back = read-mode b not-void ∙ rw settings-are with-numbers
 
-  pub mode-faultless : None (modeRefusals fp s) → faultOf false fp b ≡ 0
-  unfolding modeRefusals
+  pub mode-faultless : None (modeRefusals fp s) → faultOf true fp b ≡ 0
+  unfolding modeRefusals hdrRefused
   mode-faultless n =
       let r = none-at (modeRefusals fp s) n in
       mode-no-fault fp b not-void (rw mode-is)
-      (subst (λ (k : Header). None (modeFaults fp k)) (sym settings-are) (r 14, (r 15, (r 16, (r 17, (r 19, (r 20, (r 21, tt))))))))
+      (subst (λ (k : Header). None (modeFaults fp k)) (sym settings-are) (r 15, (r 16, (r 17, (r 18, (r 20, (r 21, (refl, tt))))))))

@@ -1,5 +1,6 @@
 -- DEMAND 3, over the definitions: for all footprints, symbolic blocks (01: sheets) and blocks. Theorem: proofs/Demand.antt, `demand-3`.
--- 01, "Words of demand 3".
+-- 01, "Words of demand 3". 02, i: demand 3 "takes a block without fault by kind 2's list", `faultOf true`, "and speaks of the texels of every
+-- kind in which the block has no fault", `faultOf (takesHdr kind)`.
 -- Assumes nothing.
 use mathlib.Core.Path.{_≡_}
 use mathlib.Core.Logic.{_↔_}
@@ -11,6 +12,8 @@ use Rattle.quantization.specs.Ranges.{encodingAt, bitsAt}
 use Rattle.integer_sequence.specs.Reading.{sequenceAt}
 use Rattle.integer_sequence.specs.Writing.{Smallest}
 use Rattle.interpolation.specs.declared.Kind.{Kind}
+use Rattle.interpolation.specs.declared.Kind.the-variants.{Float16}
+use Rattle.interpolation.specs.Expansion.{takesHdr}
 use Rattle.block_header.specs.Counts.{weightCount, weightBits, componentBits, extraBits, endpointCount, endpointRangeOf}
 use Rattle.block_fault.specs.Bits.{modeAt, isVoid, headerAt, endpointsFrom}
 use Rattle.block_fault.specs.Faults.{faultOf}
@@ -30,30 +33,43 @@ pub record Demand3 : Type 0 where
       → ((j : ℕ) → j < i → reasonAt (refusals fp s) j .holds ≡ false) → refusalOf fp s ≡ reasonAt (refusals fp s) i .told
   -- what is written for an acceptable one is a block without fault
   pub written-fits : (fp : ℕ) (s : SymbolicBlock) → Sized s → Acceptable fp s → blockOf s < 2 ^ 128
-  pub written-no-fault : (fp : ℕ) (s : SymbolicBlock) → Sized s → Acceptable fp s → faultOf false fp (blockOf s) ≡ 0
+  pub written-no-fault : (fp : ℕ) (s : SymbolicBlock) → Sized s → Acceptable fp s → faultOf true fp (blockOf s) ≡ 0
   -- that reads back as the same: all fields are equal
   pub written-reads-back : (fp : ℕ) (s : SymbolicBlock) → Sized s → Acceptable fp s → readBlock (blockOf s) ≡ s
-  -- and shows its picture, in every kind and at every place
-  pub written-shows : (fp : ℕ) (s : SymbolicBlock) → Sized s → Acceptable fp s
-      → (kind : Kind) (x y : ℕ) → blockTexel fp kind (blockOf s) x y ≡ pictureOf fp kind s x y
+  -- and shows its picture, in every kind in which it has no fault and at every place
+  pub written-shows : (fp : ℕ) (s : SymbolicBlock) → Sized s → Acceptable fp s → (kind : Kind) → faultOf (takesHdr kind) fp (blockOf s) ≡ 0
+      → (x y : ℕ) → blockTexel fp kind (blockOf s) x y ≡ pictureOf fp kind s x y
   -- so in the numbers that the one-block calls write
-  pub written-shows-numbers : (fp : ℕ) (s : SymbolicBlock) → Sized s → Acceptable fp s
-      → (kind : Kind) (x y c : ℕ) → blockNumberAt fp kind (blockOf s) x y c ≡ pictureNumber fp kind s x y c
+  pub written-shows-numbers : (fp : ℕ) (s : SymbolicBlock) → Sized s → Acceptable fp s → (kind : Kind) → faultOf (takesHdr kind) fp (blockOf s) ≡ 0
+      → (x y c : ℕ) → blockNumberAt fp kind (blockOf s) x y c ≡ pictureNumber fp kind s x y c
+  -- these kinds are all three where the HDR mark is clear,
+  pub written-kinds-ldr : (fp : ℕ) (s : SymbolicBlock) → Sized s → Acceptable fp s → s .hdr ≡ 0
+      → (kind : Kind) → faultOf (takesHdr kind) fp (blockOf s) ≡ 0
+  -- kind 2 alone where it is set
+  pub written-kinds-hdr : (fp : ℕ) (s : SymbolicBlock) → Sized s → Acceptable fp s → s .hdr ≡ 1
+      → (kind : Kind) → (faultOf (takesHdr kind) fp (blockOf s) ≡ 0) ↔ (kind ≡ Float16)
   -- a block without fault reads as one that is acceptable,
-  pub read-sized : (fp B : ℕ) → faultOf false fp B ≡ 0 → Sized (readBlock B)
-  pub read-typed : (fp B : ℕ) → fp ≤ 13 → faultOf false fp B ≡ 0 → Typed (readBlock B)
-  pub read-acceptable : (fp B : ℕ) → fp ≤ 13 → faultOf false fp B ≡ 0 → Acceptable fp (readBlock B)
-  pub reads-as : (fp B : ℕ) → faultOf false fp B ≡ 0 → ReadsAs B (readBlock B)
+  pub read-sized : (fp B : ℕ) → faultOf true fp B ≡ 0 → Sized (readBlock B)
+  pub read-typed : (fp B : ℕ) → fp ≤ 13 → faultOf true fp B ≡ 0 → Typed (readBlock B)
+  pub read-acceptable : (fp B : ℕ) → fp ≤ 13 → faultOf true fp B ≡ 0 → Acceptable fp (readBlock B)
+  pub reads-as : (fp B : ℕ) → faultOf true fp B ≡ 0 → ReadsAs B (readBlock B)
   -- and as no other
-  pub reads-as-one : (fp B : ℕ) (s : SymbolicBlock) → faultOf false fp B ≡ 0 → Sized s → ReadsAs B s → s ≡ readBlock B
+  pub reads-as-one : (fp B : ℕ) (s : SymbolicBlock) → faultOf true fp B ≡ 0 → Sized s → ReadsAs B s → s ≡ readBlock B
   -- no two parts of such a block share a bit: not the extra mode bits and the low ones either
-  pub parts-apart : (fp B : ℕ) → isVoid (modeAt B) ≡ false → faultOf false fp B ≡ 0 → endpointsEnd (headerAt B)
+  pub parts-apart : (fp B : ℕ) → isVoid (modeAt B) ≡ false → faultOf true fp B ≡ 0 → endpointsEnd (headerAt B)
       + (weightBits (headerAt B .grid) + componentBits (headerAt B .grid .planes) + extraBits (headerAt B .partitions) (headerAt B .selector)) ≤ 128
-  -- what is written for it shows the same
-  pub rewritten-shows : (fp B : ℕ) → fp ≤ 13 → faultOf false fp B ≡ 0
-      → (kind : Kind) (x y : ℕ) → blockTexel fp kind (blockOf (readBlock B)) x y ≡ blockTexel fp kind B x y
-  pub rewritten-shows-numbers : (fp B : ℕ) → fp ≤ 13 → faultOf false fp B ≡ 0
-      → (kind : Kind) (x y c : ℕ) → blockNumberAt fp kind (blockOf (readBlock B)) x y c ≡ blockNumberAt fp kind B x y c
+  -- the kinds in which it has no fault are, by its HDR mark, as above
+  pub read-kinds-ldr : (fp B : ℕ) → faultOf true fp B ≡ 0 → readBlock B .hdr ≡ 0 → (kind : Kind) → faultOf (takesHdr kind) fp B ≡ 0
+  pub read-kinds-hdr : (fp B : ℕ) → faultOf true fp B ≡ 0 → readBlock B .hdr ≡ 1
+      → (kind : Kind) → (faultOf (takesHdr kind) fp B ≡ 0) ↔ (kind ≡ Float16)
+  -- what is written for it has the same fault or none in every kind,
+  pub rewritten-kinds : (fp B : ℕ) → fp ≤ 13 → faultOf true fp B ≡ 0
+      → (kind : Kind) → faultOf (takesHdr kind) fp (blockOf (readBlock B)) ≡ faultOf (takesHdr kind) fp B
+  -- and shows the same where there is none
+  pub rewritten-shows : (fp B : ℕ) → fp ≤ 13 → (kind : Kind) → faultOf (takesHdr kind) fp B ≡ 0
+      → (x y : ℕ) → blockTexel fp kind (blockOf (readBlock B)) x y ≡ blockTexel fp kind B x y
+  pub rewritten-shows-numbers : (fp B : ℕ) → fp ≤ 13 → (kind : Kind) → faultOf (takesHdr kind) fp B ≡ 0
+      → (x y c : ℕ) → blockNumberAt fp kind (blockOf (readBlock B)) x y c ≡ blockNumberAt fp kind B x y c
   -- "The writer takes the smallest code whose present digits are the wanted ones, and leaves spare bits 0."
   pub smallest-endpoint-codes : (fp : ℕ) (s : SymbolicBlock) → Sized s → Acceptable fp s → s .mark ≡ 0
       → Smallest (encodingAt (endpointRangeOf (headerOf s))) (bitsAt (endpointRangeOf (headerOf s))) (endpointCount (headerOf s)) (endpointIn s)

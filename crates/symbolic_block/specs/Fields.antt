@@ -1,8 +1,10 @@
--- 01, "Fields": a symbolic block (01: sheet) and the numbers that it holds.
+-- 01, "Fields": a symbolic block (01: sheet) and the numbers that it holds. 02, i: "Sheets gain an HDR mark".
 -- Assumes nothing.
 use mathlib.Core.Path.{_≡_}
+use mathlib.Core.Bool.{Bool}
 use mathlib.Core.List.{List}
 use Prim.Native.Nat.{ℕ, _<_}
+use lib.Dec.{eqb}
 use lib.ListN.{length, getD}
 use Rattle.encoding.specs.declared.Stored.{Stored}
 use Rattle.integer_sequence.specs.Reading.{stored}
@@ -23,6 +25,10 @@ headerOf s = record {
   selector = s .selector;
   modes = s .modes;
 }
+
+-- 02, i: the HDR mark is set
+abbrev pub isMarked : SymbolicBlock → Bool
+isMarked s = eqb (s .hdr) 1
 
 -- number i of each list, 0 past the last
 abbrev pub colourIn : SymbolicBlock → ℕ → ℕ
@@ -54,6 +60,7 @@ pub record Sized (s : SymbolicBlock) : Type 0 where
 -- the numbers fit the struct's types
 pub record Typed (s : SymbolicBlock) : Type 0 where
   pub mark-u8 : s .mark < 256
+  pub hdr-u8 : s .hdr < 256
   pub colours-u16 : (i : ℕ) → colourIn s i < 65536
   pub extents-u16 : (i : ℕ) → extentIn s i < 65536
   pub width-u8 : s .width < 256

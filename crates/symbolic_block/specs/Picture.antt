@@ -19,17 +19,17 @@ use Rattle.interpolation.specs.declared.Kind.{Kind}
 use Rattle.interpolation.specs.declared.Texel.{Texel}
 use Rattle.interpolation.specs.declared.Kind.the-variants.{Unorm16, Srgb8, Float16}
 use Rattle.interpolation.specs.Expansion.{expandOf, shownOf, takesHdr}
-use Rattle.half_float.specs.Half.{unormHalf, halfOf}
+use Rattle.half_float.specs.Half.{halfOf}
 use Rattle.half_pair.specs.Pair.{halfPairOf}
-use Rattle.half_pair.specs.Texel.{hdrAt}
+use Rattle.half_pair.specs.Texel.{hdrAt, solidHalf}
 use Rattle.interpolation.specs.Texel.{mixOf}
 use Rattle.symbolic_block.specs.declared.SymbolicBlock.{SymbolicBlock}
-use Rattle.symbolic_block.specs.Fields.{colourIn, modeIn, endpointIn, weightIn}
+use Rattle.symbolic_block.specs.Fields.{isMarked, colourIn, modeIn, endpointIn, weightIn}
 
--- "Solid: each texel is the four colours"
--- in kind 2 "the half floats that 000 makes of" them
+-- "Solid: each texel is the four colours". 02, i: in kind 2 "as stored, infinities and NaN too", where the HDR mark is set, else "the half
+-- floats that 000 makes of" them
 unfoldable pub solidChannel : Kind → SymbolicBlock → ℕ → ℕ
-solidChannel kind s c = pick (takesHdr kind) (unormHalf (colourIn s c)) (colourIn s c)
+solidChannel kind s c = pick (takesHdr kind) (solidHalf (isMarked s) (colourIn s) c) (colourIn s c)
 
 unfoldable pub solidPicture : Kind → SymbolicBlock → Texel
 unfolding solidChannel

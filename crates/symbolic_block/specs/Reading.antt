@@ -6,15 +6,22 @@ use lib.Dec.{ltb}
 use Rattle.laws.specs.Choice.{pick}
 use Rattle.laws.specs.Table.{tab}
 use Rattle.integer_sequence.specs.Reading.{stored}
+use Rattle.bits.specs.Field.{field}
 use Rattle.block_header.specs.declared.Header.{Header}
+use Rattle.block_header.specs.Reasons.{someHdr}
 use Rattle.block_fault.specs.Bits.{modeAt, isVoid, gridIn, partitionsAt, indexAt, selectorAt, baseAt, extraAt, componentAt, modeOf, headerAt, endpointAt, weightAt, extentAt, colourAt}
 use Rattle.symbolic_block.specs.declared.SymbolicBlock.{SymbolicBlock}
 use Rattle.symbolic_block.specs.Fields.{colourIn, extentIn, modeIn, endpointIn, weightIn}
+
+-- 02, i: the HDR mark of a mode sheet, "set exactly when some partition's mode is HDR"
+abbrev pub markOf : Header → ℕ
+markOf h = pick (someHdr h) 1 0
 
 -- a mode sheet; colours and extents unused
 unfoldable pub modeBlock : Header → (ℕ → ℕ) → (ℕ → ℕ) → SymbolicBlock
 modeBlock h endpoint weight = record {
   mark = 0;
+  hdr = markOf h;
   colours = tab (λ i. 0) 4;
   extents = tab (λ i. 0) 4;
   width = h .grid .width;
@@ -30,10 +37,11 @@ modeBlock h endpoint weight = record {
   weights = tab (λ i. stored (weight i)) 64;
 }
 
--- a void extent (01: solid sheet); all else unused
-unfoldable pub voidBlock : (ℕ → ℕ) → (ℕ → ℕ) → SymbolicBlock
-voidBlock colour extent = record {
+-- a void extent (01: solid sheet) with its HDR mark; all else unused
+unfoldable pub voidBlock : ℕ → (ℕ → ℕ) → (ℕ → ℕ) → SymbolicBlock
+voidBlock hdr colour extent = record {
   mark = 1;
+  hdr = hdr;
   colours = tab colour 4;
   extents = tab extent 4;
   width = 0;
@@ -54,6 +62,7 @@ unfoldable pub zeroBlock : SymbolicBlock
 unfolding tab
 zeroBlock = record {
   mark = 0;
+  hdr = 0;
   colours = tab (λ i. 0) 4;
   extents = tab (λ i. 0) 4;
   width = 0;
@@ -69,11 +78,11 @@ zeroBlock = record {
   weights = tab (λ i. stored 0) 64;
 }
 
--- what the reader tells of a block without fault
+-- what the reader tells of a block without fault; the HDR mark: 02, i, "In a solid sheet it is bit 9"
 unfoldable pub readBlock : ℕ → SymbolicBlock
-unfolding tab modeBlock voidBlock headerAt endpointAt weightAt extentAt colourAt modeAt
+unfolding tab field modeBlock voidBlock headerAt endpointAt weightAt extentAt colourAt modeAt
 readBlock B =
-    pick (isVoid (modeAt B)) (voidBlock (colourAt B) (extentAt B))
+    pick (isVoid (modeAt B)) (voidBlock (field B 9 1) (colourAt B) (extentAt B))
     (modeBlock (headerAt B) (endpointAt B (headerAt B)) (weightAt B (headerAt B)))
 
 -- a field that only void extents use, and one that only the others use: "each unused one is 0"
@@ -93,6 +102,7 @@ modesCodeIn B = extraAt B (gridIn (modeAt B)) (partitionsAt B) (selectorIn B) * 
 -- "It then reads as a sheet when each used field is what "Bits of a block" and "Packed numbers" make of its bits and each unused one is 0."
 pub record ReadsAs (B : ℕ) (s : SymbolicBlock) : Type 0 where
   pub mark : s .mark ≡ ofVoid B 1
+  pub hdr : s .hdr ≡ pick (isVoid (modeAt B)) (field B 9 1) (markOf (headerAt B))
   pub colours : (i : ℕ) → i < 4 → colourIn s i ≡ ofVoid B (colourAt B i)
   pub extents : (i : ℕ) → i < 4 → extentIn s i ≡ ofVoid B (extentAt B i)
   pub width : s .width ≡ ofMode B (gridIn (modeAt B) .width)

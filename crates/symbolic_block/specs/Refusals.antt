@@ -14,11 +14,11 @@ use Rattle.block_mode.specs.declared.ModeBits.the-variants.{Mode, NoMode}
 use Rattle.block_mode.specs.Back2D.{modeBits}
 use Rattle.block_header.specs.declared.Header.{Header}
 use Rattle.block_header.specs.Counts.{weightCount, endpointCount, endpointRangeOf}
-use Rattle.block_header.specs.Reasons.{gridReasons, endpointReasons}
+use Rattle.block_header.specs.Reasons.{someHdr, gridReasons, endpointReasons}
 use Rattle.laws.specs.Reasons.{Reason, when, firstOf, some}
 use Rattle.block_fault.specs.Faults.{badExtents}
 use Rattle.symbolic_block.specs.declared.SymbolicBlock.{SymbolicBlock}
-use Rattle.symbolic_block.specs.Fields.{gridOf, headerOf, colourIn, extentIn, modeIn, endpointIn, weightIn}
+use Rattle.symbolic_block.specs.Fields.{gridOf, headerOf, isMarked, colourIn, extentIn, modeIn, endpointIn, weightIn}
 
 -- 1: "footprint above 13"
 unfoldable pub unknownFootprint : ℕ → Bool
@@ -41,6 +41,10 @@ within N n most x = all (λ i. leb (x i) (pick (ltb i n) most 0)) N
 -- "solid mark 0 or 1"
 unfoldable pub badMark : SymbolicBlock → Bool
 badMark s = ltb 1 (s .mark)
+
+-- 02, i: "an HDR mark, 0 or 1"
+unfoldable pub badHdr : SymbolicBlock → Bool
+badHdr s = ltb 1 (s .hdr)
 
 -- "grid sides 2..12, range 0..11, planes 1..2"
 unfoldable pub badWidth : SymbolicBlock → Bool
@@ -114,13 +118,20 @@ badEndpoints s = not (within 18 (endpointCount (headerOf s)) (mostAt (endpointRa
 unfoldable pub badWeights : SymbolicBlock → Bool
 badWeights s = not (within 64 (weightCount (gridOf s)) (mostAt (s .range)) (weightIn s))
 
+-- ---- 35, 02, i: the HDR mark "set with none", no partition's mode being HDR
+
+unfoldable pub markedWithout : SymbolicBlock → Bool
+markedWithout s = both (isMarked s) (not (someHdr (headerOf s)))
+
 -- ---- the lists
 
--- "1; 31; 32; 14 to 17; 33; 18; 19; 20; 34", for a mode sheet
+-- "1; 31; 32; 14 to 17; 33; 18; 19; 20; 34", for a mode sheet; 02, i: the HDR mark "clear with such a mode is still 20; set with none is
+-- new refusal 35, last in order"
 unfoldable pub modeRefusals : ℕ → SymbolicBlock → List Reason
 modeRefusals fp s =
     when (unknownFootprint fp) 1
     ∷ when (badMark s) 31
+    ∷ when (badHdr s) 31
     ∷ when (badWidth s) 31
     ∷ when (badHeight s) 31
     ∷ when (badRange s) 31
@@ -135,15 +146,17 @@ modeRefusals fp s =
     ∷ when (noBlockMode (gridOf s)) 32
     ∷ gridReasons fp (headerOf s)
     (when (modesMisfit (headerOf s)) 33
-    ∷ endpointReasons false (headerOf s)
+    ∷ endpointReasons (isMarked s) (headerOf s)
     (when (badEndpoints s) 34
     ∷ when (badWeights s) 34
+    ∷ when (markedWithout s) 35
     ∷ []))
 
--- "A solid sheet is refused by 1, 31, 12 only, 31 also for any unused number."
+-- "A solid sheet is refused by 1, 31, 12 only, 31 also for any unused number." Its HDR mark is a used field.
 unfoldable pub voidRefusals : ℕ → SymbolicBlock → List Reason
 voidRefusals fp s =
     when (unknownFootprint fp) 1
+    ∷ when (badHdr s) 31
     ∷ when (badColours s) 31
     ∷ when (badExtentFields s) 31
     ∷ when (inUse (s .width)) 31
@@ -166,7 +179,7 @@ refusals fp s = pick (eqb (s .mark) 1) (voidRefusals fp s) (modeRefusals fp s)
 
 -- the refusal of a symbolic block at a footprint, 0 for none
 unfoldable pub refusalOf : ℕ → SymbolicBlock → ℕ
-unfolding refusals modeRefusals voidRefusals within unknownFootprint badMark badWidth badHeight badRange badPlanes badComponent badPartitions badIndex badSelector badModes badColours badExtentFields someInUse noBlockMode modesMisfit badEndpoints badWeights badExtents
+unfolding refusals modeRefusals voidRefusals within unknownFootprint badMark badHdr badWidth badHeight badRange badPlanes badComponent badPartitions badIndex badSelector badModes badColours badExtentFields someInUse noBlockMode modesMisfit badEndpoints badWeights markedWithout badExtents
 refusalOf fp s = firstOf (refusals fp s)
 
 -- "A sheet is acceptable at a footprint when none of its refusals holds there."

@@ -80,11 +80,13 @@ modeCells s =
     ∷ cell (128 - W) W (reverse W (weightStream s))
     ∷ []
 
--- "Bits 8..0 = 111111100"; bit 9 (HDR) clear; bits 11..10 both 1; "extents low s, high s, low t, high t of 13 bits from bit 12;
--- colours of 16 bits from bit 64"
+-- "Bits 8..0 = 111111100"; 02, i: "In a solid sheet it is bit 9", the HDR mark; bits 11..10 both 1; "extents low s, high s, low t, high t of
+-- 13 bits from bit 12; colours of 16 bits from bit 64"
 unfoldable pub voidCells : SymbolicBlock → List Cell
 voidCells s =
-    cell 0 12 0b110111111100
+    cell 0 9 0b111111100
+    ∷ cell 9 1 (s .hdr)
+    ∷ cell 10 2 3
     ∷ cell 12 13 (extentIn s 0)
     ∷ cell 25 13 (extentIn s 1)
     ∷ cell 38 13 (extentIn s 2)

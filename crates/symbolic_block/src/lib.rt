@@ -5,6 +5,8 @@ use encoding::Stored;
 pub struct SymbolicBlock {
     // 01: solid mark
     pub mark: u8,
+    // 02, i: HDR mark, which both use
+    pub hdr: u8,
     // R, G, B, A
     pub colours: [u16; 4],
     // low s, high s, low t, high t

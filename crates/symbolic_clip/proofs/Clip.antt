@@ -2,15 +2,15 @@
 -- Assumes nothing.
 use mathlib.Core.Path.{_≡_, refl, sym, ap, _∙_, subst}
 use mathlib.Core.Bool.{Bool, true, false, not}
-use mathlib.Core.List.{[]}
+use mathlib.Core.List.{List, [], _∷_}
 use Prim.Native.Nat.{ℕ, zero, suc, _≤_, _<_, min}
 use native.Mathlib.Decide.{decLt}
 use native.Mathlib.Omega.{arith}
-use lib.Dec.{T, ltb, leb, eqb}
+use lib.Dec.{T, ltb, leb, eqb, ltb→lt}
 use borrow.Author.Tests.{lt-ltb, le-ltb, eq-eqb, ne-eqb, le-leb, lt-leb, ltb-true, ltb-false, eqb-true, eqb-false}
 use Rattle.laws.specs.Choice.{pick, both, either, all}
 use Rattle.laws.specs.Table.{tab}
-use Rattle.laws.proofs.Computed.{each}
+use Rattle.laws.proofs.Computed.{each, both-left, both-right}
 use Rattle.laws.proofs.Filling.{getD-tab}
 use Rattle.quantization.specs.Ranges.{mostAt}
 use Rattle.quantization.proofs.Ranges.{most-le, weight-most-le}
@@ -18,17 +18,17 @@ use Rattle.integer_sequence.specs.Reading.{stored}
 use Rattle.block_mode.specs.declared.WeightGrid.{WeightGrid}
 use Rattle.block_header.specs.declared.Header.{Header}
 use Rattle.block_header.specs.Counts.{weightCount, endpointCount, endpointRangeOf}
-use Rattle.block_header.specs.Reasons.{gridReasons, endpointFault}
-use Rattle.laws.specs.Reasons.{firstOf}
+use Rattle.block_header.specs.Reasons.{someHdr, gridReasons, endpointReasons, endpointFault}
+use Rattle.laws.specs.Reasons.{Reason, when, firstOf}
 use Rattle.symbolic_block.specs.declared.SymbolicBlock.{SymbolicBlock}
-use Rattle.symbolic_block.specs.Fields.{gridOf, headerOf, modeIn, endpointIn, weightIn, Sized}
-use Rattle.symbolic_block.specs.Refusals.{within, unknownFootprint, badMark, badWidth, badHeight, badRange, badPlanes, badComponent, badPartitions, badIndex, badSelector, badModes, badColours, badExtentFields, someInUse, modesMisfit, badEndpoints, badWeights, modeRefusals, voidRefusals, refusals, refusalOf}
+use Rattle.symbolic_block.specs.Fields.{gridOf, headerOf, isMarked, modeIn, endpointIn, weightIn, Sized}
+use Rattle.symbolic_block.specs.Refusals.{within, unknownFootprint, badMark, badHdr, badWidth, badHeight, badRange, badPlanes, badComponent, badPartitions, badIndex, badSelector, badModes, badColours, badExtentFields, someInUse, modesMisfit, badEndpoints, badWeights, markedWithout, modeRefusals, voidRefusals, refusals, refusalOf}
 use Rattle.laws.proofs.Reasons.{none-at, first-none, either-none}
 use Rattle.symbolic_block.proofs.Lists.{not-not, stored-at, tab-back, stored-back, within-used, within-unused}
 use Rattle.symbolic_block.proofs.Room.{pick-le}
 use Rattle.symbolic_block.proofs.Opened.{refusal-is, refusals-void, refusals-mode}
 use Rattle.symbolic_block.proofs.Demand.{typed}
-use Rattle.symbolic_refusal.specs.inner.Stages.{orElse, badGrid, badPartitioning, badLists, badFields, fieldReasons}
+use Rattle.symbolic_refusal.specs.inner.Stages.{orElse, or34, badGrid, badPartitioning, badLists, badFields, fieldReasons, numberReasons}
 use Rattle.symbolic_refusal.proofs.Laws.{mode-stages}
 use Rattle.symbolic_calls.specs.Writing.{wroteNothing, writingOf}
 use Rattle.symbolic_calls.proofs.Laws.{refused, told}
@@ -133,51 +133,85 @@ not-both : (a b : Bool) → not (both a b) ≡ either (not a) (not b)
 not-both true b = refl
 not-both false b = refl
 
-or-none : (n : ℕ) → orElse n 0 ≡ n
-or-none n = go (eqb n 0) refl where
-  go : (b : Bool) → eqb n 0 ≡ b → pick (eqb n 0) 0 n ≡ n
-  go true e = rw e (sym (eqb-true n 0 e))
-  go false e = rw e
+-- the number of the clipped one, f telling whether no endpoint number is above 255
+abbrev pub with34 : Bool → ℕ → ℕ
+with34 f n = pick f n (or34 n)
 
-or-else : (a b c : ℕ) → orElse a (orElse b c) ≡ orElse (orElse a b) c
-or-else a b c = go (eqb a 0) refl where
-  go : (t : Bool) → eqb a 0 ≡ t → orElse a (orElse b c) ≡ orElse (orElse a b) c
-  go true e = rw e
-  go false e = rw (e, e)
+-- one that comes before 34 stays
+or-before : (n : ℕ) → (n ≡ 0 → ⊥) → n < 35 → n ≡ or34 n
+or-before n h l = rw (ne-eqb n 0 h, ne-eqb n 35 (λ q. omega (arith, q)))
 
 -- a number that is 0 only where f holds
-unless : (n : ℕ) (f : Bool) → (n ≡ 0 → f ≡ true) → n ≡ orElse n (pick f 0 34)
-unless n f h = go (eqb n 0) refl where
-  go : (b : Bool) → eqb n 0 ≡ b → n ≡ pick (eqb n 0) (pick f 0 34) n
-  go true e = let q : n ≡ 0 = eqb-true n 0 e in rw (e, h q) q
-  go false e = rw e
+unless : (n : ℕ) (f : Bool) → (n ≡ 0 → f ≡ true) → n < 35 → n ≡ with34 f n
+unless n true h l = refl
+unless n false h l = or-before n (λ q. subst T (sym (h q)) tt) l
 
 -- 1 or 31 is told at once
 tells : (b : Bool) (n : ℕ) → pick b 1 31 ≡ orElse (pick b 1 31) n
 tells true n = refl
 tells false n = refl
 
--- the stages of a mode sheet's refusals, the first and the last given
-abbrev stages : ℕ → ℕ → Header → Bool → ℕ
-stages fp n h b =
-    orElse n (orElse (firstOf (gridReasons fp h [])) (orElse (pick (modesMisfit h) 33 0) (orElse (endpointFault false h) (pick b 34 0))))
+tells-34 : (b f : Bool) → pick b 1 31 ≡ with34 f (pick b 1 31)
+tells-34 true true = refl
+tells-34 true false = refl
+tells-34 false true = refl
+tells-34 false false = refl
+
+-- the numbers of all reasons are below k, and so is the first
+abbrev below-all : ℕ → List Reason → Bool
+below-all k [] = true
+below-all k (r ∷ rs) = both (ltb (r .told) k) (below-all k rs)
+
+first-below : (k : ℕ) (rs : List Reason) → 0 < k → T (below-all k rs) → firstOf rs < k
+first-below k [] h t = h
+first-below k (r ∷ rs) h t = go (r .holds) (first-below k rs h (both-right (ltb (r .told) k) (below-all k rs) t)) where
+  go : (b : Bool) → firstOf rs < k → pick b (r .told) (firstOf rs) < k
+  go true l = ltb→lt (r .told) k (both-left (ltb (r .told) k) (below-all k rs) t)
+  go false l = l
+
+-- the last stage of a mode sheet's refusals
+abbrev last : Bool → Bool → ℕ
+last b k = pick b 34 (pick k 35 0)
+
+-- all stages, the HDR mark, the first and the last given
+abbrev stages : ℕ → ℕ → Bool → Header → Bool → Bool → ℕ
+stages fp n hdr h b k =
+    orElse n (orElse (firstOf (gridReasons fp h [])) (orElse (pick (modesMisfit h) 33 0) (orElse (endpointFault hdr h) (last b k))))
+
+-- a stage before 34
+passes : (f : Bool) (n m : ℕ) → n < 35 → orElse n (with34 f m) ≡ with34 f (orElse n m)
+passes true n m l = refl
+passes false n m l = go (eqb n 0) refl where
+  go : (b : Bool) → eqb n 0 ≡ b → pick b (or34 m) n ≡ or34 (pick b m n)
+  go true e = refl
+  go false e = or-before n (eqb-false n 0 e) l
+
+last-is : (a w f k : Bool) → last (either (either a (not f)) w) k ≡ with34 f (last (either a w) k)
+last-is true w true k = refl
+last-is true w false k = refl
+last-is false true true k = refl
+last-is false true false k = refl
+last-is false false true k = refl
+last-is false false false true = refl
+last-is false false false false = refl
 
 -- the last stage of five tells more
-in-stages : (f g m e : ℕ) (a w n : Bool) → orElse f (orElse g (orElse m (orElse e (pick (either (either a (not n)) w) 34 0))))
-    ≡ orElse (orElse f (orElse g (orElse m (orElse e (pick (either a w) 34 0))))) (pick n 0 34)
-in-stages f g m e a w n = rw (← or-else f _ (pick n 0 34), ← or-else g _ (pick n 0 34), ← or-else m _ (pick n 0 34), ← or-else e _ (pick n 0 34), last a w n) where
-  last : (a w n : Bool) → orElse (pick (either a w) 34 0) (pick n 0 34) ≡ pick (either (either a (not n)) w) 34 0
-  last true w n = refl
-  last false true true = refl
-  last false true false = refl
-  last false false true = refl
-  last false false false = refl
+in-stages : (f g m e : ℕ) (a w n k : Bool) → f < 35 → g < 35 → m < 35 → e < 35
+    → orElse f (orElse g (orElse m (orElse e (last (either (either a (not n)) w) k)))) ≡ with34 n (orElse f (orElse g (orElse m (orElse e (last (either a w) k)))))
+in-stages f g m e a w n k hf hg hm he =
+    let z = last (either a w) k in
+    ap (λ (x : ℕ). orElse f (orElse g (orElse m (orElse e x)))) (last-is a w n k)
+    ∙ ap (λ (x : ℕ). orElse f (orElse g (orElse m x))) (passes n e z he)
+    ∙ ap (λ (x : ℕ). orElse f (orElse g x)) (passes n m (orElse e z) hm)
+    ∙ ap (orElse f) (passes n g (orElse m (orElse e z)) hg)
+    ∙ passes n f (orElse g (orElse m (orElse e z))) hf
 
 -- ---- the clipped symbolic block
 
 abbrev pub clip : SymbolicBlock → SymbolicBlock
 clip s = record {
   mark = min (s .mark) 255;
+  hdr = min (s .hdr) 255;
   colours = s .colours;
   extents = s .extents;
   width = min (s .width) 255;
@@ -196,6 +230,14 @@ clip s = record {
 -- no endpoint number is above 255
 unfoldable pub fits : SymbolicBlock → Bool
 fits s = all (λ i. leb (endpointIn s i) 255) 18
+
+field-below : (s : SymbolicBlock) (fp : ℕ) → firstOf (fieldReasons fp s) < 35
+unfolding fieldReasons
+field-below s fp = first-below 35 (fieldReasons fp s) (omega arith) tt
+
+endpoint-below : (hdr : Bool) (h : Header) → endpointFault hdr h < 35
+unfolding endpointFault
+endpoint-below hdr h = first-below 35 (endpointReasons hdr h []) (omega arith) tt
 
 module _ (s : SymbolicBlock) where
   mode-at : (i : ℕ) → i < 4 → modeIn (clip s) i ≡ min (modeIn s i) 255
@@ -222,9 +264,10 @@ module _ (s : SymbolicBlock) where
   -- ---- a void extent
 
   void-same : (fp : ℕ) → firstOf (voidRefusals fp (clip s)) ≡ firstOf (voidRefusals fp s)
-  unfolding voidRefusals badColours badExtentFields
+  unfolding voidRefusals badHdr badColours badExtentFields
   void-same fp =
       rw (
+        above 1 (s .hdr) (omega arith),
         above 0 (s .width) (omega arith),
         above 0 (s .height) (omega arith),
         above 0 (s .range) (omega arith),
@@ -241,8 +284,12 @@ module _ (s : SymbolicBlock) where
   void-fits : (fp : ℕ) → firstOf (voidRefusals fp s) ≡ 0 → fits s ≡ true
   unfolding fits voidRefusals someInUse
   void-fits fp e =
-      let t = not-not (within 18 0 0 (endpointIn s)) (none-at (voidRefusals fp s) (first-none (voidRefusals fp s) tt e) 12) in
+      let t = not-not (within 18 0 0 (endpointIn s)) (none-at (voidRefusals fp s) (first-none (voidRefusals fp s) tt e) 13) in
       all-true (λ i. leb (endpointIn s i) 255) 18 (λ i h. le-leb (endpointIn s i) 255 (omega (arith, within-unused 18 0 0 (endpointIn s) t i h (omega arith))))
+
+  void-below : (fp : ℕ) → firstOf (voidRefusals fp s) < 35
+  unfolding voidRefusals
+  void-below fp = first-below 35 (voidRefusals fp s) (omega arith) tt
 
   -- ---- a mode sheet
 
@@ -265,13 +312,14 @@ module _ (s : SymbolicBlock) where
       (above (pick (eqb (s .partitions) 1) 0 3) (s .selector) (omega (arith, pick-le (eqb (s .partitions) 1) 0 3 3 (omega arith) (omega arith))))
 
   fields-same : badFields (clip s) ≡ badFields s
-  unfolding badFields badGrid badPartitioning badLists badMark badWidth badHeight badRange badPlanes badPartitions badIndex
+  unfolding badFields badGrid badPartitioning badLists badMark badHdr badWidth badHeight badRange badPlanes badPartitions badIndex
   fields-same =
       rw (
         component-same,
         selector-same,
         modes-same,
         above 1 (s .mark) (omega arith),
+        above 1 (s .hdr) (omega arith),
         below 2 (s .width) (omega arith),
         above 12 (s .width) (omega arith),
         below 2 (s .height) (omega arith),
@@ -289,11 +337,11 @@ module _ (s : SymbolicBlock) where
     -- the tests one by one
     grid-none : badGrid s ≡ false
     unfolding badFields
-    grid-none = either-none (badGrid s) _ (either-none (badMark s) _ n .1) .0
+    grid-none = either-none (badGrid s) _ (either-none (badHdr s) _ (either-none (badMark s) _ n .1) .1) .0
 
     rest-none : either (badPartitioning s) (badLists s) ≡ false
     unfolding badFields
-    rest-none = either-none (badGrid s) _ (either-none (badMark s) _ n .1) .1
+    rest-none = either-none (badGrid s) _ (either-none (badHdr s) _ (either-none (badMark s) _ n .1) .1) .1
 
     partitioning-none : badPartitioning s ≡ false
     partitioning-none = either-none (badPartitioning s) (badLists s) rest-none .0
@@ -351,44 +399,59 @@ module _ (s : SymbolicBlock) where
         ∙ not-both (within 18 (endpointCount (headerOf s)) (mostAt (endpointRangeOf (headerOf s))) (endpointIn (clip s))) (fits s)
         ∙ ap (λ (h : Header). either (not (within 18 (endpointCount h) (mostAt (endpointRangeOf h)) (endpointIn (clip s)))) (not (fits s))) (sym header-is)
 
+    -- 35
+    mark-same : isMarked (clip s) ≡ isMarked s
+    mark-same = equal 1 (s .hdr) (omega arith)
+
+    without-same : markedWithout (clip s) ≡ markedWithout s
+    unfolding markedWithout
+    without-same =
+        ap (λ (b : Bool). both b (not (someHdr (headerOf (clip s))))) mark-same ∙ ap (λ (h : Header). both (isMarked s) (not (someHdr h))) header-is
+
     fields-of : (fp : ℕ) → fieldReasons fp (clip s) ≡ fieldReasons fp s
     unfolding fieldReasons
     fields-of fp = rw (fields-same, grid-is)
 
     -- all stages
-    mode-fits : (fp : ℕ) → firstOf (modeRefusals fp s) ≡ orElse (firstOf (modeRefusals fp (clip s))) (pick (fits s) 0 34)
+    mode-fits : (fp : ℕ) → firstOf (modeRefusals fp s) ≡ with34 (fits s) (firstOf (modeRefusals fp (clip s)))
+    unfolding numberReasons
     mode-fits fp =
         let h = headerOf (clip s) in
+        let m = isMarked (clip s) in
         let f = firstOf (fieldReasons fp (clip s)) in
         sym (mode-stages fp s)
-        ∙ ap (λ (n : ℕ). stages fp n (headerOf s) (either (badEndpoints s) (badWeights s))) (ap firstOf (sym (fields-of fp)))
-        ∙ ap (λ (k : Header). stages fp f k (either (badEndpoints s) (badWeights s))) (sym header-is)
-        ∙ ap (λ (b : Bool). stages fp f h (either b (badWeights s))) endpoints-fit
-        ∙ ap (λ (b : Bool). stages fp f h (either (either (badEndpoints (clip s)) (not (fits s))) b)) (sym weights-same)
-        ∙ in-stages f (firstOf (gridReasons fp h [])) (pick (modesMisfit h) 33 0) (endpointFault false h) (badEndpoints (clip s)) (badWeights (clip s)) (fits s)
-        ∙ ap (λ (n : ℕ). orElse n (pick (fits s) 0 34)) (mode-stages fp (clip s))
+        ∙ ap (λ (n : ℕ). stages fp n (isMarked s) (headerOf s) (either (badEndpoints s) (badWeights s)) (markedWithout s)) (ap firstOf (sym (fields-of fp)))
+        ∙ ap (λ (b : Bool). stages fp f b (headerOf s) (either (badEndpoints s) (badWeights s)) (markedWithout s)) (sym mark-same)
+        ∙ ap (λ (k : Header). stages fp f m k (either (badEndpoints s) (badWeights s)) (markedWithout s)) (sym header-is)
+        ∙ ap (λ (b : Bool). stages fp f m h (either b (badWeights s)) (markedWithout s)) endpoints-fit
+        ∙ ap (λ (b : Bool). stages fp f m h (either (either (badEndpoints (clip s)) (not (fits s))) b) (markedWithout s)) (sym weights-same)
+        ∙ ap (λ (b : Bool). stages fp f m h (either (either (badEndpoints (clip s)) (not (fits s))) (badWeights (clip s))) b) (sym without-same)
+        ∙ in-stages f (firstOf (gridReasons fp h [])) (pick (modesMisfit h) 33 0) (endpointFault m h) (badEndpoints (clip s)) (badWeights (clip s)) (fits s)
+        (markedWithout (clip s)) (field-below (clip s) fp) (first-below 35 (gridReasons fp h []) (omega arith) tt)
+        (first-below 35 (when (modesMisfit h) 33 ∷ []) (omega arith) tt) (endpoint-below m h)
+        ∙ ap (with34 (fits s)) (mode-stages fp (clip s))
 
   -- where one is, it is told before all that differs
   mode-31 : (t : SymbolicBlock) (fp : ℕ) → badFields t ≡ true → firstOf (modeRefusals fp t) ≡ pick (unknownFootprint fp) 1 31
   unfolding fieldReasons
   mode-31 t fp e = sym (mode-stages fp t) ∙ rw e (sym (tells (unknownFootprint fp) _))
 
-  mode-clip : Sized s → (fp : ℕ) → firstOf (modeRefusals fp s) ≡ orElse (firstOf (modeRefusals fp (clip s))) (pick (fits s) 0 34)
+  mode-clip : Sized s → (fp : ℕ) → firstOf (modeRefusals fp s) ≡ with34 (fits s) (firstOf (modeRefusals fp (clip s)))
   mode-clip z fp = go (badFields s) refl where
-    go : (b : Bool) → badFields s ≡ b → firstOf (modeRefusals fp s) ≡ orElse (firstOf (modeRefusals fp (clip s))) (pick (fits s) 0 34)
-    go true e = rw (mode-31 s fp e, mode-31 (clip s) fp (fields-same ∙ e)) (tells (unknownFootprint fp) (pick (fits s) 0 34))
+    go : (b : Bool) → badFields s ≡ b → firstOf (modeRefusals fp s) ≡ with34 (fits s) (firstOf (modeRefusals fp (clip s)))
+    go true e = rw (mode-31 s fp e, mode-31 (clip s) fp (fields-same ∙ e)) (tells-34 (unknownFootprint fp) (fits s))
     go false e = mode-fits z e fp
 
   -- ---- both
 
-  -- the clipped one's refusal; where it has none, 34 for an endpoint number above 255
-  pub refusal-clip : Sized s → (fp : ℕ) → refusalOf fp s ≡ orElse (refusalOf fp (clip s)) (pick (fits s) 0 34)
+  -- the clipped one's refusal; where it has none or 35, 34 for an endpoint number above 255
+  pub refusal-clip : Sized s → (fp : ℕ) → refusalOf fp s ≡ with34 (fits s) (refusalOf fp (clip s))
   refusal-clip z fp = go (eqb (s .mark) 1) refl where
-    go : (b : Bool) → eqb (s .mark) 1 ≡ b → refusalOf fp s ≡ orElse (refusalOf fp (clip s)) (pick (fits s) 0 34)
+    go : (b : Bool) → eqb (s .mark) 1 ≡ b → refusalOf fp s ≡ with34 (fits s) (refusalOf fp (clip s))
     go true e =
         let m : s .mark ≡ 1 = eqb-true (s .mark) 1 e in
         rw (refusal-is fp s, refusal-is fp (clip s), refusals-void s m fp, refusals-void (clip s) (omega arith) fp, void-same fp)
-        (unless (firstOf (voidRefusals fp s)) (fits s) (void-fits fp))
+        (unless (firstOf (voidRefusals fp s)) (fits s) (void-fits fp) (void-below fp))
     go false e =
         let m : s .mark ≡ 1 → ⊥ = eqb-false (s .mark) 1 e in
         rw (refusal-is fp s, refusal-is fp (clip s), refusals-mode s m fp, refusals-mode (clip s) (λ q. m (omega arith)) fp)
@@ -400,6 +463,7 @@ module _ (s : SymbolicBlock) where
       let t = typed fp s z e in
       rw (
         byte (s .mark) (t .mark-u8),
+        byte (s .hdr) (t .hdr-u8),
         byte (s .width) (t .width-u8),
         byte (s .height) (t .height-u8),
         byte (s .range) (t .range-u8),
@@ -426,7 +490,7 @@ module _ (fp : ℕ) (s : SymbolicBlock) (z : Sized s) where
   pub written-clipped : fits s ≡ true → writingOf fp (clip s) ≡ writingOf fp s
   written-clipped f = go (eqb (refusalOf fp s) 0) refl where
     same : refusalOf fp s ≡ refusalOf fp (clip s)
-    same = refusal-clip s z fp ∙ rw f (or-none (refusalOf fp (clip s)))
+    same = refusal-clip s z fp ∙ ap (λ (b : Bool). with34 b (refusalOf fp (clip s))) f
 
     go : (b : Bool) → eqb (refusalOf fp s) 0 ≡ b → writingOf fp (clip s) ≡ writingOf fp s
     go true e = ap (writingOf fp) (clip-same s fp z (eqb-true (refusalOf fp s) 0 e))
@@ -434,10 +498,13 @@ module _ (fp : ℕ) (s : SymbolicBlock) (z : Sized s) where
         let h : refusalOf fp s ≡ 0 → ⊥ = eqb-false (refusalOf fp s) 0 e in
         sym (refused fp (clip s) (λ q. h (same ∙ q))) ∙ ap wroteNothing (sym same) ∙ refused fp s h
 
-  pub refused-clipped : fits s ≡ false → wroteNothing (orElse (refusalOf fp (clip s)) 34) ≡ writingOf fp s
-  refused-clipped f = told fp s (orElse (refusalOf fp (clip s)) 34) (sym (refusal-clip s z fp ∙ rw f refl)) (some (refusalOf fp (clip s))) where
-    some : (n : ℕ) → orElse n 34 ≡ 0 → ⊥
-    some n = go (eqb n 0) refl where
-      go : (b : Bool) → eqb n 0 ≡ b → pick (eqb n 0) 34 n ≡ 0 → ⊥
-      go true e q = let w : _≡_ {A = ℕ} 34 0 = rw e at q in omega arith
-      go false e q = eqb-false n 0 e (rw e at q)
+  pub refused-clipped : fits s ≡ false → wroteNothing (or34 (refusalOf fp (clip s))) ≡ writingOf fp s
+  refused-clipped f =
+      told fp s (or34 (refusalOf fp (clip s))) (sym (refusal-clip s z fp ∙ ap (λ (b : Bool). with34 b (refusalOf fp (clip s))) f)) (some (refusalOf fp (clip s)))
+    where
+      some : (n : ℕ) → or34 n ≡ 0 → ⊥
+      some n = go (eqb n 0) (eqb n 35) refl where
+        go : (a b : Bool) → eqb n 0 ≡ a → pick (either a b) 34 n ≡ 0 → ⊥
+        go true b e q = omega (arith, q)
+        go false true e q = omega (arith, q)
+        go false false e q = eqb-false n 0 e q

@@ -16,18 +16,18 @@ use Rattle.symbolic_numbers.specs.Numbers.{flatOf, blockOver, blockFrom}
 use Rattle.symbolic_numbers.specs.Calls.{readNumber, readNumbers, writeNumber, writeBlock}
 use Rattle.symbolic_numbers.proofs.Laws.{from-sized, number-read, numbers-read, write-told, block-written}
 
-module _ (numbers : List ℕ) (l : length numbers ≡ 103) where
-  by-place : flatOf (blockFrom numbers) ≡ tab (λ i. getD numbers i 0) 103
+module _ (numbers : List ℕ) (l : length numbers ≡ 104) where
+  by-place : flatOf (blockFrom numbers) ≡ tab (λ i. getD numbers i 0) 104
   unfolding flatOf blockOver tab tabFrom
   by-place = refl
 
   -- a list's symbolic block has that list
   pub flat-from : flatOf (blockFrom numbers) ≡ numbers
   unfolding Filled
-  flat-from = by-place ∙ sym (filled-all (λ i. getD numbers i 0) 0 numbers 103 l (λ i h. refl))
+  flat-from = by-place ∙ sym (filled-all (λ i. getD numbers i 0) 0 numbers 104 l (λ i h. refl))
 
   -- written without a refusal, it is told again, number for number
-  module _ (fp : ℕ) (old told : List ℕ) (sixteen : length old ≡ 16) (room : length told ≡ 103) (taken : writeNumber fp numbers (length old) ≡ 0) where
+  module _ (fp : ℕ) (old told : List ℕ) (sixteen : length old ≡ 16) (room : length told ≡ 104) (taken : writeNumber fp numbers (length old) ≡ 0) where
     acceptable : Acceptable fp (blockFrom numbers)
     acceptable = sym (told-number fp (blockFrom numbers)) ∙ write-told fp numbers old sixteen l ∙ taken
 

@@ -1,4 +1,4 @@
--- Numbers laid in a part of a list: the list of a symbolic block is laid in three parts.
+-- Numbers laid in a part of a list: the list of a symbolic block is laid in four parts.
 -- Assumes nothing.
 use mathlib.Core.Path.{_≡_, refl, sym, ap, _∙_, subst}
 use mathlib.Core.List.{List}
@@ -35,18 +35,23 @@ laid-more p n q v old new {x} z h l e = rw z (record {
   before = λ k q. getD-set-other new (p + n) k x 0 (λ r. omega (arith, r)) ∙ l .before k q;
 })
 
--- settings, endpoint numbers and weights, one after the other
-pub all-laid : (settings : List ℕ) (endpoints weights : List Stored) {l₀ l₁ l₂ l₃ : List ℕ} {i j n : ℕ} → length l₀ ≡ 103 → i ≡ 21 → j ≡ 18 → n ≡ 64
-    → Laid 0 i (λ k. getD settings k 0) l₀ l₁ → Laid 21 j (numberIn endpoints) l₁ l₂ → Laid 39 n (numberIn weights) l₂ l₃ → l₃ ≡ tab (flatAt settings endpoints weights) 103
+-- settings, endpoint numbers, weights and the HDR mark, one after the other
+pub all-laid : (settings : List ℕ) (endpoints weights : List Stored) (hdr : ℕ) {l₀ l₁ l₂ l₃ l₄ : List ℕ} {i j n : ℕ}
+    → length l₀ ≡ 104 → i ≡ 21 → j ≡ 18 → n ≡ 64
+    → Laid 0 i (λ k. getD settings k 0) l₀ l₁ → Laid 21 j (numberIn endpoints) l₁ l₂ → Laid 39 n (numberIn weights) l₂ l₃ → Laid 103 1 (λ k. hdr) l₃ l₄
+    → l₄ ≡ tab (flatAt settings endpoints weights hdr) 104
 unfolding Filled
-all-laid settings endpoints weights {l₀} {l₁} {l₂} {l₃} e x y z a b c =
-    filled-all (flatAt settings endpoints weights) 0 l₃ 103 (c .size ∙ b .size ∙ a .size ∙ e) at
+all-laid settings endpoints weights hdr {l₀} {l₁} {l₂} {l₃} {l₄} e x y z a b c d =
+    filled-all (flatAt settings endpoints weights hdr) 0 l₄ 104 (d .size ∙ c .size ∙ b .size ∙ a .size ∙ e) at
   where
-    at : (k : ℕ) → k < 103 → getD l₃ k 0 ≡ flatAt settings endpoints weights k
+    at : (k : ℕ) → k < 104 → getD l₄ k 0 ≡ flatAt settings endpoints weights hdr k
     at k h = elim (decLt k 21) [
-      | yes m ↦ c .before k (omega arith) ∙ b .before k m ∙ ap (λ (j : ℕ). getD l₁ j 0) (sym (zero-add k)) ∙ a .here k (omega arith) ∙ rw (lt-ltb k 21 m)
+      | yes m ↦ d .before k (omega arith) ∙ c .before k (omega arith) ∙ b .before k m ∙ ap (λ (j : ℕ). getD l₁ j 0) (sym (zero-add k)) ∙ a .here k (omega arith) ∙ rw (lt-ltb k 21 m)
       | no m ↦ elim (decLt k 39) [
-        | yes q ↦ c .before k q ∙ ap (λ (j : ℕ). getD l₂ j 0) (let q : k ≡ 21 + (k - 21) = omega arith in q) ∙ b .here (k - 21) (omega arith) ∙ rw (le-ltb k 21 (omega arith), lt-ltb k 39 q)
-        | no q ↦ ap (λ (j : ℕ). getD l₃ j 0) (let q : k ≡ 39 + (k - 39) = omega arith in q) ∙ c .here (k - 39) (omega arith) ∙ rw (le-ltb k 21 (omega arith), le-ltb k 39 (omega arith))
+        | yes q ↦ d .before k (omega arith) ∙ c .before k q ∙ ap (λ (j : ℕ). getD l₂ j 0) (let q : k ≡ 21 + (k - 21) = omega arith in q) ∙ b .here (k - 21) (omega arith) ∙ rw (le-ltb k 21 (omega arith), lt-ltb k 39 q)
+        | no q ↦ elim (decLt k 103) [
+          | yes r ↦ d .before k r ∙ ap (λ (j : ℕ). getD l₃ j 0) (let q : k ≡ 39 + (k - 39) = omega arith in q) ∙ c .here (k - 39) (omega arith) ∙ rw (le-ltb k 21 (omega arith), le-ltb k 39 (omega arith), lt-ltb k 103 r)
+          | no r ↦ ap (λ (j : ℕ). getD l₄ j 0) (let q : k ≡ 103 + 0 = omega arith in q) ∙ d .here 0 (omega arith) ∙ rw (le-ltb k 21 (omega arith), le-ltb k 39 (omega arith), le-ltb k 103 (omega arith))
+        ]
       ]
     ]

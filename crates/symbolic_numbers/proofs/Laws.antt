@@ -36,12 +36,12 @@ settings-same s a b c d p q r t =
     ∙ ap (λ (x : ℕ). settingsWith s (modeIn s 0) (modeIn s 1) x d) r
     ∙ ap (λ (x : ℕ). settingsWith s (modeIn s 0) (modeIn s 1) (modeIn s 2) x) t
 
-pub flat-by-position : (s : SymbolicBlock) → tab (flatAt (settingsOf s) (s .endpoints) (s .weights)) 103 ≡ flatOf s
+pub flat-by-position : (s : SymbolicBlock) → tab (flatAt (settingsOf s) (s .endpoints) (s .weights) (s .hdr)) 104 ≡ flatOf s
 unfolding flatOf tab tabFrom
 flat-by-position s = refl
 
 module _ (fp : ℕ) (s old : List ℕ) where
-  module _ (h : length old ≡ 103 → ⊥) where
+  module _ (h : length old ≡ 104 → ⊥) where
     pub number-5 : refusedOr5 (readingOf fp s .answer) ≡ readNumber fp s (length old)
     unfolding readNumber
     number-5 = rw (ne-eqb _ _ h)
@@ -50,7 +50,7 @@ module _ (fp : ℕ) (s old : List ℕ) where
     unfolding readNumbers
     numbers-kept = rw (ne-eqb _ _ h)
 
-  module _ (e : length old ≡ 103) where
+  module _ (e : length old ≡ 104) where
     pub number-read : numberTold (readingOf fp s .answer) ≡ readNumber fp s (length old)
     unfolding readNumber
     number-read = rw (eq-eqb _ _ e)
@@ -78,6 +78,7 @@ module _ (numbers : List ℕ) where
 abbrev tabled : SymbolicBlock → SymbolicBlock
 tabled s = record {
   mark = s .mark;
+  hdr = s .hdr;
   colours = tab (colourIn s) 4;
   extents = tab (extentIn s) 4;
   width = s .width;
@@ -126,7 +127,7 @@ module _ (fp : ℕ) (numbers old : List ℕ) where
     kept-4 = rw (ne-eqb _ _ h)
 
   module _ (e : length old ≡ 16) where
-    module _ (h : length numbers ≡ 103 → ⊥) where
+    module _ (h : length numbers ≡ 104 → ⊥) where
       pub write-5 : pick (unknownFootprint fp) 1 5 ≡ writeNumber fp numbers (length old)
       unfolding writeNumber lentRefusal
       write-5 = rw (eq-eqb _ _ e, ne-eqb _ _ h) (after-1 (unknownFootprint fp) 5 _ (λ q. absurd (omega (arith, q))))
@@ -135,7 +136,7 @@ module _ (fp : ℕ) (numbers old : List ℕ) where
       unfolding writeBlock
       zeros-5 = rw (eq-eqb _ _ e, ne-eqb _ _ h)
 
-    module _ (l : length numbers ≡ 103) where
+    module _ (l : length numbers ≡ 104) where
       pub write-told : numberTold (writingOf fp (blockFrom numbers) .answer) ≡ writeNumber fp numbers (length old)
       unfolding writeNumber lentRefusal
       write-told = rw (eq-eqb _ _ e, eq-eqb _ _ l) (go (unknownFootprint fp) refl) where

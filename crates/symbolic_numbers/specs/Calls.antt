@@ -1,4 +1,4 @@
--- What the calls that read and write a symbolic block (01: sheet) as a list of 103 numbers answer, and what they leave.
+-- What the calls that read and write a symbolic block (01: sheet) as a list of 104 numbers answer, and what they leave.
 -- Assumes nothing.
 use Prim.Native.Nat.{ℕ}
 use mathlib.Core.Bool.{not}
@@ -18,7 +18,7 @@ use Rattle.symbolic_numbers.specs.Numbers.{flatOf, blockOver, blockFrom}
 
 -- ---- the reader
 
--- the number told where the list lent is not of 103 numbers: 5, after the refusals 1 and 4
+-- the number told where the list lent is not of 104 numbers: 5, after the refusals 1 and 4
 abbrev pub refusedOr5 : Answer → ℕ
 refusedOr5 (Refused n) = n
 refusedOr5 (Faulty n) = 5
@@ -27,12 +27,12 @@ refusedOr5 Done = 5
 -- what the call answers for the bytes s and a list of so many numbers
 unfoldable pub readNumber : ℕ → List ℕ → ℕ → ℕ
 unfolding readingOf
-readNumber fp s n = pick (eqb n 103) (numberTold (readingOf fp s .answer)) (refusedOr5 (readingOf fp s .answer))
+readNumber fp s n = pick (eqb n 104) (numberTold (readingOf fp s .answer)) (refusedOr5 (readingOf fp s .answer))
 
--- what the list holds then: the symbolic block, zeros on a fault and on the refusals 1 and 4; what it held where it is not of 103 numbers
+-- what the list holds then: the symbolic block, zeros on a fault and on the refusals 1 and 4; what it held where it is not of 104 numbers
 unfoldable pub readNumbers : ℕ → List ℕ → List ℕ → List ℕ
 unfolding flatOf readingOf
-readNumbers fp s old = pick (eqb (length old) 103) (flatOf (readingOf fp s .block)) old
+readNumbers fp s old = pick (eqb (length old) 104) (flatOf (readingOf fp s .block)) old
 
 -- ---- the writer
 
@@ -40,7 +40,7 @@ readNumbers fp s old = pick (eqb (length old) 103) (flatOf (readingOf fp s .bloc
 unfoldable pub lentRefusal : ℕ → ℕ → ℕ → ℕ
 unfolding unknownFootprint
 lentRefusal fp numbers block =
-    firstOf (when (unknownFootprint fp) 1 ∷ when (not (eqb block 16)) 4 ∷ when (not (eqb numbers 103)) 5 ∷ [])
+    firstOf (when (unknownFootprint fp) 1 ∷ when (not (eqb block 16)) 4 ∷ when (not (eqb numbers 104)) 5 ∷ [])
 
 -- what the call answers with a block of so many bytes: these, else the refusal of the list's symbolic block, 0 for none
 unfoldable pub writeNumber : ℕ → List ℕ → ℕ → ℕ
@@ -49,9 +49,9 @@ writeNumber fp numbers n =
     let e = lentRefusal fp (length numbers) n in
     pick (eqb e 0) (numberTold (writingOf fp (blockFrom numbers) .answer)) e
 
--- what the block holds then: the bytes written, "all 0 on a refusal", also of a list that is not of 103 numbers; what it held where it is not
+-- what the block holds then: the bytes written, "all 0 on a refusal", also of a list that is not of 104 numbers; what it held where it is not
 -- of 16 bytes
 unfoldable pub writeBlock : ℕ → List ℕ → List ℕ → List ℕ
 unfolding blockOver writingOf
 writeBlock fp numbers old =
-    pick (eqb (length old) 16) (pick (eqb (length numbers) 103) (writingOf fp (blockFrom numbers) .bytes) (tab (λ k. 0) 16)) old
+    pick (eqb (length old) 16) (pick (eqb (length numbers) 104) (writingOf fp (blockFrom numbers) .bytes) (tab (λ k. 0) 16)) old

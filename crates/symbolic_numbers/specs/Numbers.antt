@@ -1,4 +1,4 @@
--- A symbolic block (01: sheet) as one list of 103 numbers, both ways.
+-- A symbolic block (01: sheet) as one list of 104 numbers, both ways: 01's fields in its order, and the HDR mark of 02, i, as the last.
 -- Assumes nothing.
 use Prim.Native.Nat.{ℕ, _+_, _-_, min}
 use mathlib.Core.Bool.{Bool}
@@ -28,15 +28,15 @@ settingsWith s mode0 mode1 mode2 mode3 =
 abbrev pub settingsOf : SymbolicBlock → List ℕ
 settingsOf s = settingsWith s (modeIn s 0) (modeIn s 1) (modeIn s 2) (modeIn s 3)
 
--- then the endpoint numbers, then the weights
+-- then the endpoint numbers, then the weights, then the HDR mark
 unfoldable pub flatOf : SymbolicBlock → List ℕ
 unfolding tab
-flatOf s = settingsOf s ++ (tab (endpointIn s) 18 ++ tab (weightIn s) 64)
+flatOf s = settingsOf s ++ (tab (endpointIn s) 18 ++ (tab (weightIn s) 64 ++ (s .hdr ∷ [])))
 
 -- its number i, by position
-abbrev pub flatAt : List ℕ → List Stored → List Stored → ℕ → ℕ
-flatAt settings endpoints weights i =
-    pick (ltb i 21) (getD settings i 0) (pick (ltb i 39) (numberIn endpoints (i - 21)) (numberIn weights (i - 39)))
+abbrev pub flatAt : List ℕ → List Stored → List Stored → ℕ → ℕ → ℕ
+flatAt settings endpoints weights hdr i =
+    pick (ltb i 21) (getD settings i 0) (pick (ltb i 39) (numberIn endpoints (i - 21)) (pick (ltb i 103) (numberIn weights (i - 39)) hdr))
 
 -- ---- a list's symbolic block
 
@@ -46,6 +46,7 @@ unfoldable pub blockOver : List ℕ → List ℕ → SymbolicBlock
 unfolding tab
 blockOver words bytes = record {
   mark = getD bytes 0 0;
+  hdr = getD bytes 103 0;
   colours = tab (λ i. getD words (1 + i) 0) 4;
   extents = tab (λ i. getD words (5 + i) 0) 4;
   width = getD bytes 9 0;
@@ -70,7 +71,7 @@ blockFrom numbers = blockOver numbers numbers
 -- the list with 255 for each number above it
 unfoldable pub clippedNumbers : List ℕ → List ℕ
 unfolding tab
-clippedNumbers numbers = tab (λ i. min (getD numbers i 0) 255) 103
+clippedNumbers numbers = tab (λ i. min (getD numbers i 0) 255) 104
 
 -- no endpoint number is above 255
 unfoldable pub endpointsFit : List ℕ → Bool

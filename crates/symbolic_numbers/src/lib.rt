@@ -1,4 +1,5 @@
-// The reader and the writer of symbolic blocks (01: sheets) over one list of 103 numbers, in the order of 01, "Fields".
+// The reader and the writer of symbolic blocks (01: sheets) over one list of 104 numbers: the fields of 01 in its order, and the HDR mark
+// of 02, i, as the last.
 use block_answer::Answer;
 use encoding::Stored;
 use symbolic_block::SymbolicBlock;
@@ -11,7 +12,7 @@ ghost use Rattle.laws.specs.Choice.{pick, both};
 ghost use Rattle.laws.specs.Table.{tab};
 ghost use Rattle.integer_sequence.specs.Reading.{stored};
 ghost use Rattle.symbolic_block.specs.Refusals.{unknownFootprint};
-ghost use Rattle.symbolic_refusal.specs.inner.Stages.{orElse};
+ghost use Rattle.symbolic_refusal.specs.inner.Stages.{or34};
 ghost use Rattle.symbolic_calls.specs.Writing.{writingOf};
 ghost use Rattle.symbolic_numbers.specs.Numbers.{settingsOf, flatOf, blockOver, blockFrom, clippedNumbers, endpointsFit};
 ghost use Rattle.symbolic_numbers.specs.Calls.{refusedOr5, readNumber, readNumbers, writeNumber, writeBlock};
@@ -56,14 +57,15 @@ fn settings_of(s: SymbolicBlock) -> [u16; 21]
     ]
 }
 
-// The settings, the endpoint numbers and the weights, each list in a loop of its own.
+// The settings, the endpoint numbers and the weights, each list in a loop of its own, and the HDR mark.
 fn put(s: SymbolicBlock, numbers: &mut [u16])
-    requires { ⌜ length (now numbers) ≡ 103 ⌝ }
+    requires { ⌜ length (now numbers) ≡ 104 ⌝ }
     ensures { λ r. ⌜ now (numbers .exit) ≡ flatOf s ⌝ }
 {
     let settings = settings_of(s);
     let endpoints = s.endpoints;
     let weights = s.weights;
+    let hdr = s.hdr;
     let mut i: usize = 0;
     while i < 21 {
         numbers[i] = settings[i];
@@ -81,6 +83,7 @@ fn put(s: SymbolicBlock, numbers: &mut [u16])
         numbers[39 + k] = wide(w.0);
         k += 1;
     }
+    numbers[103] = wide(hdr);
 }
 
 fn refused_or_5(a: Answer) -> u8
@@ -100,7 +103,7 @@ pub fn read_numbers(footprint: u8, block: &[u8], numbers: &mut [u16]) -> u8
 {
     let reading = symbolic_reader::read_symbolic(footprint, block);
     let answer = reading.answer;
-    if numbers.len() != 103 {
+    if numbers.len() != 104 {
         return refused_or_5(answer);
     }
     put(reading.block, numbers);
@@ -115,11 +118,11 @@ fn clipped(x: u16) -> u8
     if x < 256 { x as u8 } else { 255 }
 }
 
-fn clipped_numbers(numbers: &[u16]) -> [u8; 103]
-    requires { ⌜ length (now numbers) ≡ 103 ⌝ }
+fn clipped_numbers(numbers: &[u16]) -> [u8; 104]
+    requires { ⌜ length (now numbers) ≡ 104 ⌝ }
     ensures { λ r. ⌜ r ≡ clippedNumbers (now (numbers .entry)) ⌝ }
 {
-    let mut out = [0u8; 103];
+    let mut out = [0u8; 104];
     let mut i: usize = 0;
     while i < numbers.len() {
         out[i] = clipped(numbers[i]);
@@ -128,7 +131,7 @@ fn clipped_numbers(numbers: &[u16]) -> [u8; 103]
     out
 }
 
-fn endpoints_from(bytes: [u8; 103]) -> [Stored; 18]
+fn endpoints_from(bytes: [u8; 104]) -> [Stored; 18]
     ensures { λ r. ⌜ r ≡ tab (λ i. stored (getD bytes (21 + i) 0)) 18 ⌝ }
 {
     let mut out = [Stored(0); 18];
@@ -140,7 +143,7 @@ fn endpoints_from(bytes: [u8; 103]) -> [Stored; 18]
     out
 }
 
-fn weights_from(bytes: [u8; 103]) -> [Stored; 64]
+fn weights_from(bytes: [u8; 104]) -> [Stored; 64]
     ensures { λ r. ⌜ r ≡ tab (λ i. stored (getD bytes (39 + i) 0)) 64 ⌝ }
 {
     let mut out = [Stored(0); 64];
@@ -153,7 +156,7 @@ fn weights_from(bytes: [u8; 103]) -> [Stored; 64]
 }
 
 fn block_from(numbers: &[u16]) -> SymbolicBlock
-    requires { ⌜ length (now numbers) ≡ 103 ⌝ }
+    requires { ⌜ length (now numbers) ≡ 104 ⌝ }
     ensures { λ r. ⌜ r ≡ blockOver (now (numbers .entry)) (clippedNumbers (now (numbers .entry))) ⌝ }
 {
     let bytes = clipped_numbers(numbers);
@@ -161,6 +164,7 @@ fn block_from(numbers: &[u16]) -> SymbolicBlock
     let weights = weights_from(bytes);
     SymbolicBlock {
         mark: bytes[0],
+        hdr: bytes[103],
         colours: [numbers[1], numbers[2], numbers[3], numbers[4]],
         extents: [numbers[5], numbers[6], numbers[7], numbers[8]],
         width: bytes[9],
@@ -186,7 +190,7 @@ fn fits(x: u16, before: bool) -> bool
 
 // Whether no endpoint number is above 255.
 fn endpoints_fit(numbers: &[u16]) -> bool
-    requires { ⌜ length (now numbers) ≡ 103 ⌝ }
+    requires { ⌜ length (now numbers) ≡ 104 ⌝ }
     ensures { λ r. ⌜ r ≡ endpointsFit (now (numbers .entry)) ⌝ }
 {
     let mut ok = true;
@@ -198,16 +202,20 @@ fn endpoints_fit(numbers: &[u16]) -> bool
     ok
 }
 
+// 34 beside what is told: it comes before 35 and after all others.
 fn or_34(n: u8) -> u8
-    ensures { λ r. ⌜ r ≡ orElse n 34 ⌝ }
+    ensures { λ r. ⌜ r ≡ or34 n ⌝ }
 {
-    if n == 0 { 34 } else { n }
+    if n == 0 {
+        return 34;
+    }
+    if n == 35 { 34 } else { n }
 }
 
 // The block of a list. Every limit of a byte field is below 255, but that of an endpoint number may be 255: so 255 in place of a
 // number above it is refused for the same reason, except where it would be an endpoint number within its range.
 fn writing_of(footprint: u8, numbers: &[u16]) -> Writing
-    requires { ⌜ length (now numbers) ≡ 103 ⌝ }
+    requires { ⌜ length (now numbers) ≡ 104 ⌝ }
     ensures { λ r. ⌜ r ≡ writingOf footprint (blockFrom (now (numbers .entry))) ⌝ }
 {
     let written = symbolic_calls::write_symbolic(footprint, block_from(numbers));
@@ -247,7 +255,7 @@ pub fn write_numbers(footprint: u8, numbers: &[u16], block: &mut [u8]) -> u8
     if block.len() != 16 {
         return after_1(footprint, 4);
     }
-    if numbers.len() != 103 {
+    if numbers.len() != 104 {
         put_block([0u8; 16], block);
         return after_1(footprint, 5);
     }

@@ -17,6 +17,7 @@ use Rattle.integer_sequence.specs.Reading.{number, numbers, stored}
 use Rattle.block_header.specs.declared.Stage.{Stage}
 use Rattle.block_header.specs.declared.Stage.the-variants.{Passed, Stopped}
 use Rattle.block_header.specs.Stages.{stageOf}
+use Rattle.bits.specs.Field.{field}
 use Rattle.bits.specs.Block.{numberOf}
 use Rattle.block_fault.specs.declared.Verdict.{Verdict}
 use Rattle.block_fault.specs.declared.Verdict.the-variants as verdict
@@ -68,23 +69,23 @@ first-numbers e b v n = tab-ext _ _ (stored 0) 18 (λ i h. number-at e b v n i (
 -- ---- the reading of bytes that are not refused, stage by stage
 
 module _ (fp B : ℕ) where
-  pub fault-reading : (n : ℕ) → verdictOf false fp B ≡ verdict.Fault n → nothing (Faulty n) ≡ readingIn fp B
+  pub fault-reading : (n : ℕ) → verdictOf true fp B ≡ verdict.Fault n → nothing (Faulty n) ≡ readingIn fp B
   unfolding readingIn
   fault-reading n e =
-      let k = told-fault false fp B n e in
-      rw (ne-eqb (faultOf false fp B) 0 (k .1), k .0)
+      let k = told-fault true fp B n e in
+      rw (ne-eqb (faultOf true fp B) 0 (k .1), k .0)
 
-  pub void-reading : verdictOf false fp B ≡ verdict.VoidExtent → done (voidBlock (colourAt B) (extentAt B)) ≡ readingIn fp B
+  pub void-reading : verdictOf true fp B ≡ verdict.VoidExtent → done (voidBlock (field B 9 1) (colourAt B) (extentAt B)) ≡ readingIn fp B
   unfolding readingIn
   void-reading e =
-      let k = told-void false fp B e in
-      rw (eq-eqb (faultOf false fp B) 0 (k .0), read-void B (k .1))
+      let k = told-void true fp B e in
+      rw (eq-eqb (faultOf true fp B) 0 (k .0), read-void B (k .1))
 
-  pub coded-reading : verdictOf false fp B ≡ verdict.Coded → done (modeBlock (headerAt B) (endpointAt B (headerAt B)) (weightAt B (headerAt B))) ≡ readingIn fp B
+  pub coded-reading : verdictOf true fp B ≡ verdict.Coded → done (modeBlock (headerAt B) (endpointAt B (headerAt B)) (weightAt B (headerAt B))) ≡ readingIn fp B
   unfolding readingIn
   coded-reading e =
-      let k = told-coded false fp B e in
-      rw (eq-eqb (faultOf false fp B) 0 (k .0), read-mode B (k .1))
+      let k = told-coded true fp B e in
+      rw (eq-eqb (faultOf true fp B) 0 (k .0), read-mode B (k .1))
 
 module _ (fp : ℕ) (s : List ℕ) where
   -- a refusal at once with its number
@@ -110,11 +111,11 @@ module _ (fp : ℕ) (s : List ℕ) where
   -- 01's number of the answer
   number-told : numberTold (readingOf fp s .answer) ≡ readTold fp s
   unfolding readingOf readingIn readTold
-  number-told = go (eqb (readRefusal fp (length s)) 0) (eqb (faultOf false fp (numberOf s)) 0) refl where
-    go : (a b : Bool) → eqb (faultOf false fp (numberOf s)) 0 ≡ b
-        → numberTold ((pick a (pick b (done (readBlock (numberOf s))) (nothing (Faulty (faultOf false fp (numberOf s))))) (nothing (Refused (readRefusal fp (length s))))) .answer)
-        ≡ pick a (faultOf false fp (numberOf s)) (readRefusal fp (length s))
-    go true true e = sym (eqb-true (faultOf false fp (numberOf s)) 0 e)
+  number-told = go (eqb (readRefusal fp (length s)) 0) (eqb (faultOf true fp (numberOf s)) 0) refl where
+    go : (a b : Bool) → eqb (faultOf true fp (numberOf s)) 0 ≡ b
+        → numberTold ((pick a (pick b (done (readBlock (numberOf s))) (nothing (Faulty (faultOf true fp (numberOf s))))) (nothing (Refused (readRefusal fp (length s))))) .answer)
+        ≡ pick a (faultOf true fp (numberOf s)) (readRefusal fp (length s))
+    go true true e = sym (eqb-true (faultOf true fp (numberOf s)) 0 e)
     go true false e = refl
     go false b e = refl
 

@@ -1,7 +1,7 @@
--- 01, "Numbers told to the caller": what the reader of symbolic blocks (01: sheets) answers.
+-- 01, "Numbers told to the caller": what the reader of symbolic blocks (01: sheets) answers. 02, i: it "uses kind 2's list", `faultOf true`.
 -- Assumes nothing.
 use Prim.Native.Nat.{ℕ}
-use mathlib.Core.Bool.{not, false}
+use mathlib.Core.Bool.{not, true}
 use mathlib.Core.List.{List, [], _∷_}
 use lib.Dec.{eqb, ltb}
 use lib.ListN.{length}
@@ -30,7 +30,7 @@ done s = record { answer = Done; block = s }
 -- of 128 bits: "else tells the block's fault, with a sheet of zeros in both events", else the symbolic block
 unfoldable pub readingIn : ℕ → ℕ → Reading
 unfolding answerFor readBlock zeroBlock
-readingIn fp B = pick (eqb (faultOf false fp B) 0) (done (readBlock B)) (nothing (Faulty (faultOf false fp B)))
+readingIn fp B = pick (eqb (faultOf true fp B) 0) (done (readBlock B)) (nothing (Faulty (faultOf true fp B)))
 
 -- what the reader answers for the bytes s
 unfoldable pub readingOf : ℕ → List ℕ → Reading
@@ -40,4 +40,4 @@ readingOf fp s = pick (eqb (readRefusal fp (length s)) 0) (readingIn fp (numberO
 -- 01's number of the answer: the refusal, else the block's fault, 0 for neither
 unfoldable pub readTold : ℕ → List ℕ → ℕ
 unfolding readRefusal
-readTold fp s = pick (eqb (readRefusal fp (length s)) 0) (faultOf false fp (numberOf s)) (readRefusal fp (length s))
+readTold fp s = pick (eqb (readRefusal fp (length s)) 0) (faultOf true fp (numberOf s)) (readRefusal fp (length s))

@@ -17,7 +17,7 @@ ghost use Rattle.block_header.specs.Counts.{weightCount, endpointCount, endpoin
 ghost use Rattle.block_header.specs.Stages.{stageOf};
 ghost use Rattle.block_answer.specs.Told.{numberTold};
 ghost use Rattle.block_fault.specs.Bits.{endpointAt, weightAt, colourAt, extentAt, endpointsFrom};
-ghost use Rattle.symbolic_block.specs.Reading.{modeBlock, voidBlock, zeroBlock};
+ghost use Rattle.symbolic_block.specs.Reading.{markOf, modeBlock, voidBlock, zeroBlock};
 ghost use Rattle.symbolic_reader.specs.Answers.{readRefusal, readingOf, readTold, nothing, done};
 ghost use Rattle.symbolic_reader.specs.inner.Stages.{refusedAt, faultyAt};
 
@@ -32,6 +32,7 @@ fn zero_block() -> SymbolicBlock
 {
     SymbolicBlock {
         mark: 0,
+        hdr: 0,
         colours: [0u16; 4],
         extents: [0u16; 4],
         width: 0,
@@ -111,11 +112,19 @@ fn extent(b: PhysicalBlock, i: u32) -> u16
     bits::field_at(b, 12 + 13 * i, 13) as u16
 }
 
+// The HDR mark of a void extent.
+fn hdr_bit(b: PhysicalBlock) -> u8
+    ensures { λ r. ⌜ r ≡ field (blockNumber b) 9 1 ⌝ }
+{
+    bits::field_at(b, 9, 1) as u8
+}
+
 fn void_block(b: PhysicalBlock) -> SymbolicBlock
-    ensures { λ r. ⌜ r ≡ voidBlock (colourAt (blockNumber b)) (extentAt (blockNumber b)) ⌝ }
+    ensures { λ r. ⌜ r ≡ voidBlock (field (blockNumber b) 9 1) (colourAt (blockNumber b)) (extentAt (blockNumber b)) ⌝ }
 {
     SymbolicBlock {
         mark: 1,
+        hdr: hdr_bit(b),
         colours: [colour(b, 0), colour(b, 1), colour(b, 2), colour(b, 3)],
         extents: [extent(b, 0), extent(b, 1), extent(b, 2), extent(b, 3)],
         width: 0,
@@ -165,6 +174,13 @@ fn weights(b: PhysicalBlock, h: Header) -> [Stored; 64]
     integer_sequence::read_sequence(bits::reversed(b), 0, g.range, n)
 }
 
+// The HDR mark of any other block.
+fn mark_of(h: Header) -> u8
+    ensures { λ r. ⌜ r ≡ markOf h ⌝ }
+{
+    if block_header::some_hdr(h) { 1 } else { 0 }
+}
+
 fn mode_block(b: PhysicalBlock, h: Header, numbers: u8, range: u8) -> SymbolicBlock
     requires { ⌜ (weightCount (h .grid) ≤ 64) × (endpointCount h ≤ 18) × (numbers ≡ endpointCount h) × (range ≡ endpointRangeOf h) ⌝ }
     ensures { λ r. ⌜ r ≡ modeBlock h (endpointAt (blockNumber b) h) (weightAt (blockNumber b) h) ⌝ }
@@ -173,8 +189,10 @@ fn mode_block(b: PhysicalBlock, h: Header, numbers: u8, range: u8) -> SymbolicBl
     let modes = h.modes;
     let endpoints = endpoints(b, h, numbers, range);
     let weights = weights(b, h);
+    let hdr = mark_of(h);
     SymbolicBlock {
         mark: 0,
+        hdr,
         colours: [0u16; 4],
         extents: [0u16; 4],
         width: g.width,
@@ -201,7 +219,7 @@ pub fn read_symbolic(fp: u8, block: &[u8]) -> Reading
         return told(refused(stage));
     };
     let b = bits::load(block);
-    let s = block_fault::read_settings(false, b, fp);
+    let s = block_fault::read_settings(true, b, fp);
     let v = s.verdict;
     let sound = block_fault::stage_in(v);
     let Stage::Passed = sound else {

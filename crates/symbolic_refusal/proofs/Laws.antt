@@ -13,10 +13,10 @@ use Rattle.block_header.specs.declared.Header.{Header}
 use Rattle.block_header.specs.Reasons.{gridFault, endpointFault, gridReasons, endpointReasons, gridTooLarge, tooManyWeights, weightBitsOutside, fourWithTwoPlanes}
 use Rattle.laws.specs.Reasons.{Reason, when, firstOf}
 use Rattle.symbolic_block.specs.declared.SymbolicBlock.{SymbolicBlock}
-use Rattle.symbolic_block.specs.Fields.{gridOf, headerOf, colourIn, extentIn}
-use Rattle.symbolic_block.specs.Refusals.{unknownFootprint, badMark, badWidth, badHeight, badRange, badPlanes, badComponent, badPartitions, badIndex, badSelector, badModes, someInUse, noBlockMode, modesMisfit, badEndpoints, badWeights, modeRefusals, voidRefusals}
+use Rattle.symbolic_block.specs.Fields.{gridOf, headerOf, isMarked, colourIn, extentIn}
+use Rattle.symbolic_block.specs.Refusals.{unknownFootprint, badMark, badHdr, badWidth, badHeight, badRange, badPlanes, badComponent, badPartitions, badIndex, badSelector, badModes, someInUse, noBlockMode, modesMisfit, badEndpoints, badWeights, markedWithout, modeRefusals, voidRefusals}
 use Rattle.laws.proofs.Reasons.{numbered}
-use Rattle.symbolic_refusal.specs.inner.Stages.{orElse, badGrid, badPartitioning, badLists, badFields, badShown, gridInUse, partitioningInUse, numbersInUse, badVoidFields, fieldReasons, voidStages}
+use Rattle.symbolic_refusal.specs.inner.Stages.{orElse, badGrid, badPartitioning, badLists, badFields, badShown, gridInUse, partitioningInUse, numbersInUse, badVoidFields, fieldReasons, numberReasons, voidStages}
 
 -- a reason in front
 pub or-pick : (b : Bool) (n m : ℕ) → T (ltb 0 n) → orElse (pick b n 0) m ≡ pick b n m
@@ -55,6 +55,7 @@ abbrev eachField : ℕ → SymbolicBlock → List Reason
 eachField fp s =
     when (unknownFootprint fp) 1
     ∷ when (badMark s) 31
+    ∷ when (badHdr s) 31
     ∷ when (badWidth s) 31
     ∷ when (badHeight s) 31
     ∷ when (badRange s) 31
@@ -73,14 +74,18 @@ field-stage : (fp : ℕ) (s : SymbolicBlock) → firstOf (fieldReasons fp s) ≡
 unfolding fieldReasons badFields badGrid badPartitioning badLists
 field-stage fp s = simp joined
 
+number-stage : (s : SymbolicBlock) → firstOf (numberReasons s) ≡ firstOf (when (badEndpoints s) 34 ∷ when (badWeights s) 34 ∷ when (markedWithout s) 35 ∷ [])
+unfolding numberReasons
+number-stage s = joined (badEndpoints s) (badWeights s) 34 (pick (markedWithout s) 35 0)
+
 pub mode-stages : (fp : ℕ) (s : SymbolicBlock) → orElse (firstOf (fieldReasons fp s)) (orElse (firstOf (gridReasons fp (headerOf s) []))
-    (orElse (pick (modesMisfit (headerOf s)) 33 0) (orElse (endpointFault false (headerOf s)) (pick (either (badEndpoints s) (badWeights s)) 34 0))))
+    (orElse (pick (modesMisfit (headerOf s)) 33 0) (orElse (endpointFault (isMarked s) (headerOf s)) (firstOf (numberReasons s)))))
     ≡ firstOf (modeRefusals fp s)
 unfolding modeRefusals endpointFault
 mode-stages fp s =
-    rw (field-stage fp s, joined (badEndpoints s) (badWeights s) 34 0)
-    (five (eachField fp s) (gridReasons fp (headerOf s) []) (when (modesMisfit (headerOf s)) 33 ∷ []) (endpointReasons false (headerOf s) [])
-    (when (badEndpoints s) 34 ∷ when (badWeights s) 34 ∷ []) tt tt tt tt)
+    rw (field-stage fp s, number-stage s)
+    (five (eachField fp s) (gridReasons fp (headerOf s) []) (when (modesMisfit (headerOf s)) 33 ∷ []) (endpointReasons (isMarked s) (headerOf s) [])
+    (when (badEndpoints s) 34 ∷ when (badWeights s) 34 ∷ when (markedWithout s) 35 ∷ []) tt tt tt tt)
 
 -- 1, 31 and 12 of a void extent, each field by itself
 pub void-stages : (fp : ℕ) (s : SymbolicBlock) → firstOf (voidStages fp s) ≡ firstOf (voidRefusals fp s)

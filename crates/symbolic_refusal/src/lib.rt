@@ -12,8 +12,8 @@ ghost use Rattle.block_header.specs.Reasons.{gridReasons};
 ghost use Rattle.laws.specs.Reasons.{firstOf};
 ghost use Rattle.block_fault.specs.Faults.{badExtents};
 ghost use Rattle.symbolic_block.specs.Fields.{gridOf, headerOf, numberIn};
-ghost use Rattle.symbolic_block.specs.Refusals.{unknownFootprint, outside, within, noBlockMode, misfit, modesMisfit, badComponent, badIndex, badSelector, badEndpoints, badWeights, modeRefusals, voidRefusals, refusalOf};
-ghost use Rattle.symbolic_refusal.specs.inner.Stages.{orElse, badGrid, badPartitioning, badLists, badFields, badShown, gridInUse, partitioningInUse, numbersInUse, badVoidFields, fieldReasons};
+ghost use Rattle.symbolic_block.specs.Refusals.{unknownFootprint, outside, within, noBlockMode, misfit, modesMisfit, badComponent, badIndex, badSelector, badEndpoints, badWeights, markedWithout, modeRefusals, voidRefusals, refusalOf};
+ghost use Rattle.symbolic_refusal.specs.inner.Stages.{orElse, badGrid, badPartitioning, badLists, badFields, badShown, gridInUse, partitioningInUse, numbersInUse, badVoidFields, fieldReasons, numberReasons};
 
 fn both(a: bool, b: bool) -> bool
     ensures { λ r. ⌜ r ≡ both a b ⌝ }
@@ -176,7 +176,10 @@ fn bad_fields(s: SymbolicBlock) -> bool
     let grid = bad_grid(s);
     let partitioning = bad_partitioning(s);
     let lists = bad_lists(s);
-    either(1 < s.mark, either(grid, either(partitioning, lists)))
+    either(
+        1 < s.mark,
+        either(1 < s.hdr, either(grid, either(partitioning, lists))),
+    )
 }
 
 // ---- the settings
@@ -295,7 +298,25 @@ fn bad_weights(s: SymbolicBlock) -> bool
     !weights_within(w, count, most)
 }
 
-// "1; 31; 32; 14 to 17; 33; 18; 19; 20; 34"
+// ---- 35
+
+fn marked_without(s: SymbolicBlock) -> bool
+    ensures { λ r. ⌜ r ≡ markedWithout s ⌝ }
+{
+    let hdr = block_header::some_hdr(header_of(s));
+    both(s.hdr == 1, !hdr)
+}
+
+// 34, then 35
+fn number_refusal(s: SymbolicBlock) -> u8
+    ensures { λ r. ⌜ r ≡ firstOf (numberReasons s) ⌝ }
+{
+    let numbers = told(either(bad_endpoints(s), bad_weights(s)), 34);
+    let mark = told(marked_without(s), 35);
+    first(numbers, mark)
+}
+
+// "1; 31; 32; 14 to 17; 33; 18; 19; 20; 34", and 35 of 02, i
 fn mode_refusal(fp: u8, s: SymbolicBlock) -> u8
     ensures { λ r. ⌜ r ≡ firstOf (modeRefusals fp s) ⌝ }
 {
@@ -303,8 +324,8 @@ fn mode_refusal(fp: u8, s: SymbolicBlock) -> u8
     let fields = field_refusal(fp, s);
     let grid = grid_refusal(fp, h);
     let modes = told(modes_misfit(h), 33);
-    let ends = block_header::endpoint_fault(false, h);
-    let numbers = told(either(bad_endpoints(s), bad_weights(s)), 34);
+    let ends = block_header::endpoint_fault(s.hdr == 1, h);
+    let numbers = number_refusal(s);
     first(fields, first(grid, first(modes, first(ends, numbers))))
 }
 
@@ -317,7 +338,7 @@ fn bad_shown(s: SymbolicBlock) -> bool
     let e = s.extents;
     let colours = four_within(c, 4, 65535);
     let extents = four_within(e, 4, 8191);
-    either(!colours, !extents)
+    either(1 < s.hdr, either(!colours, !extents))
 }
 
 fn grid_in_use(s: SymbolicBlock) -> bool

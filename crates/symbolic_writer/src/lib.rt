@@ -257,13 +257,15 @@ fn with_colours(b: PhysicalBlock, c: [u16; 4]) -> PhysicalBlock
     bits::append(b, 112, wide16(c[3]))
 }
 
-// A void extent (01: solid sheet): bits 8..0 are 111111100, bit 9 is clear, bits 11..10 are both 1.
+// A void extent (01: solid sheet): bits 8..0 are 111111100, bit 9 is the HDR mark, bits 11..10 are both 1.
 fn void_block(s: SymbolicBlock) -> PhysicalBlock
     ensures { λ r. ⌜ blockNumber r ≡ piled 0 (voidCells s) ⌝ }
 {
     let extents = s.extents;
     let colours = s.colours;
-    let b = bits::append(no_bits(), 0, 0b110111111100);
+    let b = bits::append(no_bits(), 0, 0b111111100);
+    let b = bits::append(b, 9, wide(s.hdr));
+    let b = bits::append(b, 10, 3);
     with_colours(with_extents(b, extents), colours)
 }
 

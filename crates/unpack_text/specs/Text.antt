@@ -10,15 +10,16 @@ use Rattle.laws.specs.Reasons.{when, firstOf}
 use Rattle.bits.specs.Block.{numberOf}
 use Rattle.footprint.specs.Footprint.{widthOf, texelsOf}
 use Rattle.interpolation.specs.declared.Kind.{Kind}
-use Rattle.interpolation.specs.declared.Kind.the-variants.{Unorm16, Srgb8}
+use Rattle.interpolation.specs.declared.Kind.the-variants.{Unorm16, Srgb8, Float16}
 use Rattle.interpolation.specs.Expansion.{takesHdr}
 use Rattle.block_fault.specs.Faults.{faultOf}
 use Rattle.texel.specs.BlockTexel.{blockNumbers}
 use Rattle.line_text.specs.Lines.{spaced, texelLine, linesOf}
 
--- 01's kinds by their numbers: "Kind 0, plain", "Kind 1, sRGB"; the program refuses a number above 1
+-- the kinds by their numbers: 01, "Kind 0, plain", "Kind 1, sRGB"; 02, i, "kind 2: four 16-bit patterns of half floats"; the program refuses
+-- a number above 2
 unfoldable pub kindOf : ℕ → Kind
-kindOf n = pick (eqb n 0) Unorm16 Srgb8
+kindOf n = pick (eqb n 0) Unorm16 (pick (eqb n 1) Srgb8 Float16)
 
 -- "fault N" and "refused N"
 unfoldable pub faultLine : ℕ → List ℕ
@@ -32,9 +33,10 @@ unfoldable pub blockText : ℕ → Kind → ℕ → List ℕ
 blockText fp kind B =
     faultLine (faultOf (takesHdr kind) fp B) ++ linesOf (texelLine (widthOf fp) (λ k. getD (blockNumbers fp kind B) k 0)) (texelsOf fp)
 
--- "It reads 18 bytes: footprint, kind, block. Any other length prints "refused 4"; then 1, then 2." 0 where it does not refuse.
+-- "It reads 18 bytes: footprint, kind, block. Any other length prints "refused 4"; then 1, then 2"; 02, i: "Refusal 2 moves to kinds above
+-- 2". 0 where it does not refuse.
 unfoldable pub programRefusal : ℕ → ℕ → ℕ → ℕ
-programRefusal bytes fp kind = firstOf (when (not (eqb bytes 18)) 4 ∷ when (ltb 13 fp) 1 ∷ when (ltb 1 kind) 2 ∷ [])
+programRefusal bytes fp kind = firstOf (when (not (eqb bytes 18)) 4 ∷ when (ltb 13 fp) 1 ∷ when (ltb 2 kind) 2 ∷ [])
 
 -- what the program writes for the bytes that it was given
 unfoldable pub programText : List ℕ → List ℕ

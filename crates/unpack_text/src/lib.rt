@@ -22,17 +22,23 @@ pub fn refusal(bytes: usize, fp: u8, kind: u8) -> u8
     if 13 < fp {
         return 1;
     }
-    if 1 < kind {
+    if 2 < kind {
         return 2;
     }
     0
 }
 
-// 01's kind of a number, which is 0 or 1.
+// The kind of a number, which is at most 2.
 pub fn kind_of(n: u8) -> Kind
     ensures { λ r. ⌜ r ≡ kindOf n ⌝ }
 {
-    if n == 0 { Kind::Unorm16 } else { Kind::Srgb8 }
+    if n == 0 {
+        return Kind::Unorm16;
+    }
+    if n == 1 {
+        return Kind::Srgb8;
+    }
+    Kind::Float16
 }
 
 // The texels' lines, behind a text that ends at `from`.

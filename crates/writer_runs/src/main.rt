@@ -1,6 +1,6 @@
 // Runs of the writer. Each record of standard input is a footprint and a symbolic block: 01's fields in order, two bytes (the low one
-// first) for a colour, an extent and the partition index, one byte for any other. For each a line "refused N", or "block" and the
-// sixteen bytes.
+// first) for a colour, an extent and the partition index, one byte for any other, and the HDR mark of 02, i, as the last. For each a line
+// "refused N", or "block" and the sixteen bytes.
 use block_answer::Answer;
 use encoding::Stored;
 use libc::STDIN_FILENO;
@@ -14,13 +14,13 @@ fn wide(x: u8) -> u16
     x as u16
 }
 
-fn word_at(r: &[u8; 113], i: usize) -> u16
-    requires { ⌜ i < 112 ⌝ }
+fn word_at(r: &[u8; 114], i: usize) -> u16
+    requires { ⌜ i < 113 ⌝ }
 {
     wide(r[i + 1]) * 256 + wide(r[i])
 }
 
-fn endpoints_at(r: &[u8; 113]) -> [Stored; 18] {
+fn endpoints_at(r: &[u8; 114]) -> [Stored; 18] {
     let mut out = [Stored(0); 18];
     let mut i: usize = 0;
     while i < 18 {
@@ -30,7 +30,7 @@ fn endpoints_at(r: &[u8; 113]) -> [Stored; 18] {
     out
 }
 
-fn weights_at(r: &[u8; 113]) -> [Stored; 64] {
+fn weights_at(r: &[u8; 114]) -> [Stored; 64] {
     let mut out = [Stored(0); 64];
     let mut i: usize = 0;
     while i < 64 {
@@ -40,7 +40,7 @@ fn weights_at(r: &[u8; 113]) -> [Stored; 64] {
     out
 }
 
-fn block_at(r: &[u8; 113]) -> SymbolicBlock {
+fn block_at(r: &[u8; 114]) -> SymbolicBlock {
     let endpoints = endpoints_at(r);
     let weights = weights_at(r);
     let colours = [word_at(r, 2), word_at(r, 4), word_at(r, 6), word_at(r, 8)];
@@ -53,6 +53,7 @@ fn block_at(r: &[u8; 113]) -> SymbolicBlock {
     let modes = [r[27], r[28], r[29], r[30]];
     SymbolicBlock {
         mark: r[1],
+        hdr: r[113],
         colours,
         extents,
         width: r[18],
@@ -107,9 +108,9 @@ fn write(fp: u8, s: SymbolicBlock) {
 
 // One record, and whether there was one.
 fn record() -> bool {
-    let mut r = [0u8; 113];
+    let mut r = [0u8; 114];
     let n = io::read_full(STDIN_FILENO, &mut r);
-    if n != 113 {
+    if n != 114 {
         return false;
     }
     write(r[0], block_at(&r));

@@ -1,7 +1,7 @@
 //! Time of the library's image calls against the reference's: bench [ROUNDS]
 //!
-//! 1,024 by 1,024 texels at 6x6 and 12x12, both kinds. The blocks are LDR mode blocks of all sorts, random settings and
-//! numbers that the library's writer wrote. Library and reference take turns in one process, both at opt-level 3; thread
+//! 1,024 by 1,024 texels at 6x6 and 12x12, all kinds. The blocks are LDR mode blocks of all sorts, in kind 2 LDR and HDR ones in turn, random
+//! settings and numbers that the library's writer wrote. Library and reference take turns in one process, both at opt-level 3; thread
 //! CPU time, median of the rounds; where the processor changes its pace between rounds, the median of the rounds' own ratios
 //! is steadier. Buffers are filled once before the first round and not cleared between calls.
 
@@ -11,8 +11,8 @@ mod pvrtc;
 mod clip;
 mod symbolic;
 
-use reference::random::{Random, mode_block};
-use reference::{FOOTPRINTS, decode_image_u8, decode_image_u16};
+use reference::random::{Random, hdr_mode_block, mode_block};
+use reference::{FOOTPRINTS, SymbolicBlock, decode_image_f16, decode_image_u8, decode_image_u16};
 
 const SIDE: usize = 1024;
 const SEED: u64 = 1;
@@ -51,13 +51,23 @@ fn largest(a: [f64; 2], b: [f64; 2]) -> [f64; 2] {
     [a[0].max(b[0]), a[1].max(b[1])]
 }
 
-/// Mode blocks for a whole image, each written by the library.
+/// LDR mode blocks for a whole image, each written by the library.
 fn blocks(footprint: usize) -> Vec<u8> {
+    blocks_by(footprint, |r, _| mode_block(r, footprint))
+}
+
+/// LDR and HDR mode blocks in turn.
+fn mixed_blocks(footprint: usize) -> Vec<u8> {
+    let draw = |r: &mut Random, index| if index % 2 == 0 { mode_block(r, footprint) } else { hdr_mode_block(r, footprint) };
+    blocks_by(footprint, draw)
+}
+
+fn blocks_by(footprint: usize, draw: impl Fn(&mut Random, usize) -> SymbolicBlock) -> Vec<u8> {
     let (w, h) = FOOTPRINTS[footprint];
     let mut r = Random(SEED);
     let mut blocks = vec![0; 16 * SIDE.div_ceil(w) * SIDE.div_ceil(h)];
-    for block in blocks.chunks_mut(16) {
-        let numbers = mode_block(&mut r, footprint).to_numbers();
+    for (index, block) in blocks.chunks_mut(16).enumerate() {
+        let numbers = draw(&mut r, index).to_numbers();
         assert_eq!(library::raw::write_symbolic(footprint as u8, &numbers, block), 0);
     }
     blocks
@@ -84,6 +94,26 @@ fn measure(name: &str, rounds: usize, mut ours: impl FnMut(), mut theirs: impl F
         "{name}: library {library:.2} ms, reference {reference:.2} ms, ratio {ratio:.2} (by rounds {by_round:.2})"
     );
     [ratio, by_round]
+}
+
+/// Kind 2 over LDR and HDR mode blocks.
+fn float16(footprint: usize, rounds: usize) -> [f64; 2] {
+    let (w, h) = FOOTPRINTS[footprint];
+    let (blocks, side, mut tally) = (mixed_blocks(footprint), SIDE as u32, [0; 3]);
+    let (mut ours, mut theirs) = (vec![1u16; 4 * SIDE * SIDE], vec![2u16; 4 * SIDE * SIDE]);
+    let answer = library::raw::decode_image_float16(footprint as u8, side, side, &blocks, &mut ours, &mut tally);
+    decode_image_f16(footprint, SIDE, SIDE, &blocks, &mut theirs);
+    assert!(answer == 0 && tally == [0; 3] && ours == theirs, "{w}x{h} kind 2: not the same texels");
+    measure(
+        &format!("{w}x{h} kind 2, LDR and HDR blocks"),
+        rounds,
+        || {
+            library::raw::decode_image_float16(footprint as u8, side, side, &blocks, &mut ours, &mut tally);
+        },
+        || {
+            decode_image_f16(footprint, SIDE, SIDE, &blocks, &mut theirs);
+        },
+    )
 }
 
 const HELP: &str = "bench [ROUNDS]
@@ -147,6 +177,9 @@ fn main() {
                 },
             ),
         );
+    }
+    for footprint in [4, 13] {
+        worst = largest(worst, float16(footprint, rounds));
     }
     worst = largest(worst, pvrtc::ratios(rounds));
     worst = largest(worst, bc7::run(rounds));

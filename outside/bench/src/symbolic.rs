@@ -1,4 +1,4 @@
-//! Symbolic blocks: writing and reading them as lists of 103 numbers, against the reference's writer and reader over the same lists.
+//! Symbolic blocks: writing and reading them as lists of 104 numbers, against the reference's writer and reader over the same lists.
 //!
 //! Mixed LDR mode blocks at 6x6 and 12x12, and the worst case of the packed numbers: trit weights and eighteen trit endpoint numbers, all
 //! groups with the digits 2, 1, 2, 1, 2.

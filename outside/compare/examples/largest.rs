@@ -1,10 +1,10 @@
-//! The largest image of 12x12 blocks, 16,384 by 16,384, in both kinds: the texels of its edges and a million drawn at random are
+//! The largest image of 12x12 blocks, 16,384 by 16,384, in kinds 0 and 1: the texels of its edges and a million drawn at random are
 //! held to the reference, and the tally to a count. Prints each call's time and the most memory taken. It takes 3 GB; the gate does not
 //! run it: cargo run --release --example largest
 use std::time::Instant;
 
 use reference::random::{Random, symbolic_block};
-use reference::{FOOTPRINTS, decode_u8, decode_u16, fault, write};
+use reference::{FOOTPRINTS, Kind, decode_u8, decode_u16, fault, write};
 
 const SIDE: usize = 16384;
 const ACROSS: usize = SIDE.div_ceil(12);
@@ -17,7 +17,7 @@ fn main() {
         .map(|i| if i % 64 == 0 { r.bytes() } else { write(f, &symbolic_block(&mut r, f)).unwrap() })
         .collect();
     let blocks: Vec<[u8; 16]> = (0..ACROSS * ACROSS).map(|_| r.pick(&drawn)).collect();
-    let faults: Vec<u8> = blocks.iter().map(|b| fault(f, b)).collect();
+    let faults: Vec<u8> = blocks.iter().map(|b| fault(f, Kind::Unorm16, b)).collect();
     let first = faults.iter().position(|&e| e != 0).unwrap();
     let tally = (faults.iter().filter(|&&e| e != 0).count() as u64, first as u64, faults[first] as u64);
     let places = places(&mut r);

@@ -3,8 +3,8 @@
 use std::fmt;
 
 use reference::{
-    FOOTPRINTS, NUMBERS, SymbolicBlock, Tally, block_refusal, decode_image_u8, decode_image_u16, decode_u8, decode_u16,
-    image_refusal, read, read_refusal, write,
+    FOOTPRINTS, Kind, NUMBERS, SymbolicBlock, Tally, block_refusal, decode_f16, decode_image_f16, decode_image_u8,
+    decode_image_u16, decode_u8, decode_u16, image_refusal, read, read_refusal, write,
 };
 
 /// A case that can be run, printed and made smaller.
@@ -148,6 +148,11 @@ impl BlockCase {
                 lend(self.out_len, None, None, "decode_block_srgb8", refusal, |out| {
                     library::raw::decode_block_srgb8(self.footprint, &self.block, out)
                 })
+            })
+            .or_else(|| {
+                lend(self.out_len, None, None, "decode_block_float16", refusal, |out| {
+                    library::raw::decode_block_float16(self.footprint, &self.block, out)
+                })
             });
         };
         let row = Some(FOOTPRINTS[f].0);
@@ -155,6 +160,8 @@ impl BlockCase {
         let fault = decode_u16(f, block, &mut numbers);
         let mut bytes = vec![0; self.out_len];
         decode_u8(f, block, &mut bytes);
+        let mut halves = vec![0; self.out_len];
+        let half_fault = decode_f16(f, block, &mut halves);
         lend(self.out_len, Some(&numbers), row, "decode_block_unorm16", fault, |out| {
             library::raw::decode_block_unorm16(self.footprint, &self.block, out)
         })
@@ -163,9 +170,14 @@ impl BlockCase {
                 library::raw::decode_block_srgb8(self.footprint, &self.block, out)
             })
         })
+        .or_else(|| {
+            lend(self.out_len, Some(&halves), row, "decode_block_float16", half_fault, |out| {
+                library::raw::decode_block_float16(self.footprint, &self.block, out)
+            })
+        })
     }
 
-    /// The reader's refusal: 1, 4, and 5 where its list is not of 103 numbers.
+    /// The reader's refusal: 1, 4, and 5 where its list is not of 104 numbers.
     pub fn read_refusal(&self) -> u8 {
         match read_refusal(self.footprint as usize, self.block.len()) {
             0 if self.numbers_len != NUMBERS => 5,
@@ -351,6 +363,12 @@ impl ImageCase {
         decode_image_u8(f, w, h, &self.blocks, &mut out)
     }
 
+    pub fn float16_tally(&self) -> Tally {
+        let mut out = vec![0; self.out_len];
+        let (f, w, h) = (self.footprint as usize, self.width as usize, self.height as usize);
+        decode_image_f16(f, w, h, &self.blocks, &mut out)
+    }
+
     /// The part of an accepted image from block column and row `left`, `top` on, so many texels large.
     fn part(&self, left: usize, top: usize, width: u32, height: u32) -> ImageCase {
         let (w, h) = FOOTPRINTS[self.footprint as usize];
@@ -368,16 +386,19 @@ impl Case for ImageCase {
     fn difference(&self) -> Option<String> {
         let refusal = self.refusal();
         let (f, w, h) = (self.footprint as usize, self.width as usize, self.height as usize);
-        let (mut numbers, mut bytes, mut expected) = (Vec::new(), Vec::new(), [0; 3]);
+        let (mut numbers, mut bytes, mut halves) = (Vec::new(), Vec::new(), Vec::new());
+        let (mut ldr, mut hdr) = ([0; 3], [0; 3]);
         if refusal == 0 {
             numbers.resize(self.out_len, 0);
             bytes.resize(self.out_len, 0);
-            let tally = decode_image_u16(f, w, h, &self.blocks, &mut numbers);
-            assert_eq!(tally, decode_image_u8(f, w, h, &self.blocks, &mut bytes));
-            expected = [tally.faulty, tally.first_index, tally.first_fault as u64];
+            halves.resize(self.out_len, 0);
+            let told = |tally: Tally| [tally.faulty, tally.first_index, tally.first_fault as u64];
+            ldr = told(decode_image_u16(f, w, h, &self.blocks, &mut numbers));
+            assert_eq!(ldr, told(decode_image_u8(f, w, h, &self.blocks, &mut bytes)));
+            hdr = told(decode_image_f16(f, w, h, &self.blocks, &mut halves));
         }
         // Lends the tally to a call, which tells its own differences.
-        let with_tally = |what: &str, call: &dyn Fn(&mut [u64]) -> Option<String>| {
+        let with_tally = |what: &str, expected: [u64; 3], call: &dyn Fn(&mut [u64]) -> Option<String>| {
             let mut found = None;
             let wanted = (self.tally_len == 3).then_some(expected.as_slice());
             let told = lend(self.tally_len, wanted, None, &format!("tally of {what}"), 0, |tally| {
@@ -387,17 +408,26 @@ impl Case for ImageCase {
             found.or(told)
         };
         let row = Some(w.max(1));
-        with_tally("decode_image_unorm16", &|tally| {
+        with_tally("decode_image_unorm16", ldr, &|tally| {
             let wanted = (refusal == 0).then_some(numbers.as_slice());
             lend(self.out_len, wanted, row, "decode_image_unorm16", refusal, |out| {
                 library::raw::decode_image_unorm16(self.footprint, self.width, self.height, &self.blocks, out, tally)
             })
         })
         .or_else(|| {
-            with_tally("decode_image_srgb8", &|tally| {
+            with_tally("decode_image_srgb8", ldr, &|tally| {
                 let wanted = (refusal == 0).then_some(bytes.as_slice());
                 lend(self.out_len, wanted, row, "decode_image_srgb8", refusal, |out| {
                     library::raw::decode_image_srgb8(self.footprint, self.width, self.height, &self.blocks, out, tally)
+                })
+            })
+        })
+        .or_else(|| {
+            with_tally("decode_image_float16", hdr, &|tally| {
+                let wanted = (refusal == 0).then_some(halves.as_slice());
+                lend(self.out_len, wanted, row, "decode_image_float16", refusal, |out| {
+                    let ImageCase { footprint, width, height, .. } = *self;
+                    library::raw::decode_image_float16(footprint, width, height, &self.blocks, out, tally)
                 })
             })
         })
@@ -466,10 +496,12 @@ impl fmt::Display for ImageCase {
         )?;
         for (index, block) in self.blocks.chunks(16).enumerate().take(64) {
             let fault = match block.try_into() {
-                Ok(block) if self.footprint < 14 => reference::fault(self.footprint as usize, block),
-                _ => 0,
+                Ok(block) if self.footprint < 14 => {
+                    [Kind::Unorm16, Kind::Float16].map(|kind| reference::fault(self.footprint as usize, kind, block))
+                }
+                _ => [0, 0],
             };
-            writeln!(f, "block {index}: {} fault {fault}", hex(block))?;
+            writeln!(f, "block {index}: {} fault {}, in kind 2 {}", hex(block), fault[0], fault[1])?;
         }
         if len > 64 * 16 {
             writeln!(f, "and {} blocks more", len / 16 - 64)?;

@@ -22,7 +22,11 @@ pub const SORTS: &[(&str, &[u32])] = &[
     ("clip, header byte damaged", &[0, 1, 2, 3, 4, 5, 6, 7, 8, 9, 10]),
     ("clip, bytes of a block that came before a cut", &[0, 1, 2, 3, 4, 5, 6, 7, 8, 9, 10, 11, 12, 13, 14, 15]),
     ("clip, bytes of a header that came before a cut", &[0, 1, 2, 3, 4, 5, 6, 7, 8, 9]),
+    ("clip, kind of a frame that is taken", &[0, 1, 2]),
+    ("clip, kind 3, refusal", &[2]),
     ("clip frame call, refusal", &[0, 1, 2, 3, 4, 5]),
+    ("clip frame call, kind that is taken", &[0, 1, 2]),
+    ("clip frame call, kind 3, refusal", &[1, 2]),
     ("clip call, list of another length", &[5]),
 ];
 
@@ -245,7 +249,7 @@ fn blocks_of(frame: &ClipFrame) -> usize {
 /// A frame that is not refused, and its blocks.
 fn shot(r: &mut Random) -> (ClipFrame, Vec<u8>) {
     let side = |r: &mut Random| 1 + r.below(24) as u32;
-    let mut frame = ClipFrame { footprint: r.below(14) as u8, kind: r.below(2) as u8, width: side(r), height: side(r) };
+    let mut frame = ClipFrame { footprint: r.below(14) as u8, kind: r.below(3) as u8, width: side(r), height: side(r) };
     if r.once_in(40) {
         frame = ClipFrame { footprint: 13, width: 16384, height: 1, ..frame };
     }
@@ -348,6 +352,15 @@ fn edges(run: &mut Run, r: &mut Random) {
         }
     }
     lengths(run);
+    for kind in 0..=3 {
+        for (footprint, width) in [(0, 1), (0, 0), (14, 1)] {
+            let frame = ClipFrame { footprint, kind, width, height: 1 };
+            run.frame(FrameCase { frame, room: 26, blocks: vec![9; 16] });
+            let mut bytes = vec![1, 0, 0, 0, 22, footprint, kind, 0, width as u8, 0, 1];
+            bytes.extend([7; 16]);
+            run.clip(ClipCase { bytes, cuts: Vec::new() });
+        }
+    }
     for (width, height) in [(16384, 1), (16385, 1), (65536 + 5, 4), (1, u32::MAX), (0, 1)] {
         let frame = ClipFrame { footprint: 13, kind: 1, width, height };
         let blocks = vec![9; 16 * 1366];
@@ -381,7 +394,7 @@ fn frame(run: &mut Run, r: &mut Random) {
     let mut room = 10 + blocks.len();
     match r.below(8) {
         0 => frame.footprint = 14 + r.below(242) as u8,
-        1 => frame.kind = 2 + r.below(254) as u8,
+        1 => frame.kind = if r.once_in(2) { 3 } else { 3 + r.below(253) as u8 },
         2 => frame.width = r.pick(&[0, 16385, 65536, 65537, u32::MAX]),
         3 => frame.height = r.pick(&[0, 16385, 65536, 65537, u32::MAX]),
         4 => blocks.resize(r.pick(&[0, blocks.len() - 1, blocks.len() + 1, blocks.len() + 16]), 0),
@@ -415,6 +428,12 @@ impl Run {
         let parsed = parse_clip(&case.bytes);
         self.seen.count("clip, refusal", parsed.refusal.map_or(0, |r| r.0 as u32));
         self.seen.count("clip, end", parsed.end as u32);
+        for b in parsed.blocks.iter().filter(|b| b.index == 0) {
+            self.seen.count("clip, kind of a frame that is taken", b.frame.kind as u32);
+        }
+        if let (Some((refusal, 11)), [1, _, _, _, _, 0..=13, 3, ..]) = (parsed.refusal, case.bytes.as_slice()) {
+            self.seen.count("clip, kind 3, refusal", refusal as u32);
+        }
         let begun = parsed.blocks.last().map_or(0, |b| b.frame_index + 1);
         self.seen.count("clip, frames begun", begun);
         let long = parsed.blocks.iter().any(|b| b.frame.width == 16384 || b.frame.height == 16384);
@@ -436,6 +455,12 @@ impl Run {
     fn frame(&mut self, case: FrameCase) {
         let refusal = clip_frame(&case.frame, &case.blocks, case.room).err().unwrap_or(0);
         self.seen.count("clip frame call, refusal", refusal as u32);
+        if refusal == 0 {
+            self.seen.count("clip frame call, kind that is taken", case.frame.kind as u32);
+        }
+        if case.frame.kind == 3 {
+            self.seen.count("clip frame call, kind 3, refusal", refusal as u32);
+        }
         self.case(case);
     }
 }

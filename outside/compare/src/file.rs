@@ -3,7 +3,9 @@
 use std::fmt;
 
 use reference::random::Random;
-use reference::{FOOTPRINTS, FileHeader, decode_image_u8, decode_image_u16, file_header, read_file};
+use reference::{
+    FOOTPRINTS, FileHeader, Kind, Tally, decode_image_f16, decode_image_u8, decode_image_u16, file_header, read_file,
+};
 
 use crate::Run;
 use crate::cases::{Case, lend};
@@ -22,6 +24,7 @@ pub const SORTS: &[(&str, &[u32])] = &[
     ("file, decoding call, refusal", &[0, 3, 4, 5, 41, 42, 43]),
     ("file, tally not of 3 numbers, refusal", &[3, 4, 5, 41, 42, 43]),
     ("file, blocks with a fault", &[0, 1]),
+    ("file, HDR blocks", &[0, 1]),
     ("file, both wrong", &[41, 42, 43, 3, 4]),
     ("file, list not of 3 numbers", &[3, 4, 5, 41, 42, 43]),
     ("header call, refusal", &[0, 1, 3, 5]),
@@ -80,13 +83,17 @@ impl Case for FileCase {
 
         let number = self.number();
         let (f, w, h) = (header.footprint as usize, header.width as usize, header.height as usize);
-        let (mut numbers, mut bytes, mut faults) = (vec![0; self.out_len], vec![0; self.out_len], [0; 3]);
+        let (mut numbers, mut bytes, mut halves) =
+            (vec![0; self.out_len], vec![0; self.out_len], vec![0; self.out_len]);
+        let (mut faults, mut half_faults) = ([0; 3], [0; 3]);
         if number == 0 {
-            let tally = decode_image_u16(f, w, h, &self.bytes[16..], &mut numbers);
+            let told = |tally: Tally| [tally.faulty, tally.first_index, tally.first_fault as u64];
+            faults = told(decode_image_u16(f, w, h, &self.bytes[16..], &mut numbers));
             decode_image_u8(f, w, h, &self.bytes[16..], &mut bytes);
-            faults = [tally.faulty, tally.first_index, tally.first_fault as u64];
+            half_faults = told(decode_image_f16(f, w, h, &self.bytes[16..], &mut halves));
         }
-        let tally = if self.tally_len == 3 { faults.to_vec() } else { vec![0xA75C; self.tally_len] };
+        let lent = |faults: [u64; 3]| if self.tally_len == 3 { faults.to_vec() } else { vec![0xA75C; self.tally_len] };
+        let tally = lent(faults);
         let mut given = vec![0xA75C; self.tally_len];
         let row = Some(w.max(1));
         let wide =
@@ -100,7 +107,16 @@ impl Case for FileCase {
         let small = lend(self.out_len, (number == 0).then_some(&bytes[..]), row, "decode_file_srgb8", number, |out| {
             library::file::raw::decode_file_srgb8(&self.bytes, out, &mut given)
         });
-        small.or((given != tally).then(|| format!("decode_file_srgb8, tally {given:?}, expected {tally:?}")))
+        if small.is_some() || given != tally {
+            return small.or(Some(format!("decode_file_srgb8, tally {given:?}, expected {tally:?}")));
+        }
+        let tally = lent(half_faults);
+        let mut given = vec![0xA75C; self.tally_len];
+        let half =
+            lend(self.out_len, (number == 0).then_some(&halves[..]), row, "decode_file_float16", number, |out| {
+                library::file::raw::decode_file_float16(&self.bytes, out, &mut given)
+            });
+        half.or((given != tally).then(|| format!("decode_file_float16, tally {given:?}, expected {tally:?}")))
     }
 
     fn smaller(&self) -> Vec<FileCase> {
@@ -176,8 +192,12 @@ impl Run {
         }
         if let Ok((h, blocks)) = read_file(&case.bytes) {
             self.seen.count("file, footprint", h.footprint as u32);
-            let faulty = blocks.as_chunks::<16>().0.iter().any(|b| reference::fault(h.footprint as usize, b) != 0);
+            let fault = |kind: Kind, b| reference::fault(h.footprint as usize, kind, b);
+            let blocks = blocks.as_chunks::<16>().0;
+            let faulty = blocks.iter().any(|b| fault(Kind::Float16, b) != 0);
             self.seen.count("file, blocks with a fault", faulty as u32);
+            let hdr = blocks.iter().any(|b| fault(Kind::Float16, b) == 0 && fault(Kind::Unorm16, b) != 0);
+            self.seen.count("file, HDR blocks", hdr as u32);
         }
         self.case(case);
     }
@@ -201,7 +221,7 @@ fn file(r: &mut Random, footprint: u8, width: u32, height: u32) -> Vec<u8> {
     let mut bytes = file_header(footprint, width, height).unwrap().to_vec();
     let sound = r.once_in(2);
     for _ in 0..count {
-        let block = reference::write(f, &reference::random::symbolic_block(r, f)).unwrap();
+        let block = reference::write(f, &reference::random::any_symbolic_block(r, f)).unwrap();
         bytes.extend(if sound || r.once_in(2) { block } else { r.bytes() });
     }
     bytes
@@ -214,12 +234,14 @@ fn vectors(run: &mut Run) {
         let file = library::file::AstcFile::read(stored.bytes);
         let said = file.map(|f| (f.footprint, f.width, f.height));
         let (mut numbers, mut bytes) = (vec![0; stored.numbers()], vec![0; stored.numbers()]);
+        let mut halves = vec![0; stored.numbers()];
         let wide = library::file::decode_unorm16(stored.bytes, &mut numbers);
         let small = library::file::decode_srgb8(stored.bytes, &mut bytes);
+        let half = library::file::decode_float16(stored.bytes, &mut halves);
         let sound = Ok(library::Tally::default());
         let agrees = said == Ok((stored.footprint, stored.width, stored.height))
-            && (wide, small) == (sound, sound)
-            && stored.shows(&numbers, &bytes)
+            && [wide, small, half] == [sound; 3]
+            && stored.shows(&numbers, &bytes, &halves)
             && library::file::write_header(stored.footprint, stored.width, stored.height).unwrap()
                 == stored.bytes[..16];
         if agrees {

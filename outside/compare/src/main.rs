@@ -74,6 +74,7 @@ impl Run {
             let tally = case.tally();
             self.seen.count("image, footprint", case.footprint as u32);
             self.seen.count("image, first fault", tally.first_fault as u32);
+            self.seen.count("image, first fault in kind 2", case.float16_tally().first_fault as u32);
             self.seen.count("image, first faulty block not the first block", (tally.first_index > 0) as u32);
             self.seen.count("image, several faulty blocks", (tally.faulty > 1) as u32);
             self.seen.count("image, 11000 wide", (case.width == 11_000) as u32);
@@ -89,11 +90,13 @@ fn vectors(run: &mut Run) {
         &vectors::Decoder {
             unorm16: &|footprint, block, out| library::raw::decode_block_unorm16(footprint as u8, block, out),
             srgb8: &|footprint, block, out| library::raw::decode_block_srgb8(footprint as u8, block, out),
+            float16: &|footprint, block, out| library::raw::decode_block_float16(footprint as u8, block, out),
         },
         &vectors::STORED,
     );
-    let [texels, digests, illegal, hdr] = outcome.passed;
+    let [texels, digests, illegal, hdr, float16, float16_digests] = outcome.passed;
     println!("vectors agree: texels {texels}, digests {digests}, illegal {illegal}, HDR {hdr}");
+    println!("vectors agree in kind 2, HDR blocks: texels {float16}, digests {float16_digests}");
     for line in outcome.failed.iter().take(PRINTED as usize) {
         println!("FAILED: vector, {line}");
     }
@@ -140,8 +143,11 @@ fn main() {
     let mut r = Random(seed);
     let mut run = Run { seen: Seen::new(), passed: 0, failed: 0, printed: 0, blocks: 0 };
     vectors(&mut run);
-    for case in make::every_mode(&mut r) {
+    for case in make::every_mode(&mut r).into_iter().chain(make::hdr_edges(&mut r)) {
         run.block(case);
+    }
+    for case in make::hdr_marks(&mut r) {
+        run.symbolic(case);
     }
     for case in make::edges(&mut r) {
         run.image(case);

@@ -12,13 +12,13 @@ fn any_block(r: &mut Random, footprint: usize) -> [u8; 16] {
         0..4 => r.bytes(),
         4..7 => block_of_any_mode(r),
         7 => void_extent_block(r),
-        8..13 => write(footprint, &symbolic_block(r, footprint)).unwrap(),
+        8..13 => write(footprint, &any_symbolic_block(r, footprint)).unwrap(),
         13..16 => {
-            let s = symbolic_block(r, footprint);
+            let s = any_symbolic_block(r, footprint);
             loose_block(r, footprint, &s)
         }
         _ => {
-            let block = write(footprint, &symbolic_block(r, footprint)).unwrap();
+            let block = write(footprint, &any_symbolic_block(r, footprint)).unwrap();
             flip_bits(r, block)
         }
     }
@@ -41,6 +41,67 @@ pub fn every_mode(r: &mut Random) -> Vec<BlockCase> {
                 let loose = loose_block(r, f, &s);
                 cases.push(BlockCase::new(f, loose));
             }
+        }
+    }
+    cases
+}
+
+/// HDR: every endpoint mode with every submode and every block mode, at every footprint; ends and weights all least and all greatest; void
+/// extents with infinities and NaN, and LDR ones with the least and greatest colours.
+pub fn hdr_edges(r: &mut Random) -> Vec<BlockCase> {
+    let mut cases = Vec::new();
+    for f in 0..FOOTPRINTS.len() {
+        for s in every_submode(r) {
+            cases.push(BlockCase::new(f, write(f, &s).unwrap()));
+        }
+        for mode in 0..2048 {
+            let Some(s) = hdr_block_of_mode(r, f, mode) else { continue };
+            let loose = loose_block(r, f, &s);
+            cases.push(BlockCase::new(f, loose));
+        }
+        for mode in HDR_MODES {
+            for (n, weight) in [(0, 0), (0, 3), (255, 0), (255, 3), (127, 1), (128, 2)] {
+                let mut s = block_of_submode(r, mode, 0);
+                s.endpoints[..2 * (mode as usize / 4 + 1)].fill(n);
+                s.weights[..16].fill(weight);
+                cases.push(BlockCase::new(f, write(f, &s).unwrap()));
+            }
+        }
+        for (hdr, colours) in [
+            (0, [0, 1, 2, 3]),
+            (0, [4, 5, 2047, 2049]),
+            (0, [0x8000, 0xFFFD, 0xFFFE, 0xFFFF]),
+            (1, [0, 0x8000, 0x7BFF, 0xFBFF]),
+            (1, [0x7C00, 0xFC00, 0x7C01, 0xFC01]),
+            (1, [0x7DFF, 0x7E00, 0x7FFF, 0xFFFF]),
+        ] {
+            let s = SymbolicBlock { hdr, colours, ..void_extent(r) };
+            cases.push(BlockCase::new(f, write(f, &s).unwrap()));
+        }
+    }
+    cases
+}
+
+/// The HDR mark against the modes, at every footprint: each mode with marks 0 to 3, alone, and with a number besides that 34 refuses.
+pub fn hdr_marks(r: &mut Random) -> Vec<SymbolicCase> {
+    let mut cases = Vec::new();
+    for f in 0..FOOTPRINTS.len() {
+        for mode in 0..16 {
+            let mut s = block_of_submode(r, 2, 0);
+            s.modes[0] = mode;
+            s.endpoints = [0; 18];
+            for hdr in [0, 1, 2, 3, 255, 256, 257, 65535] {
+                for (first, last, weight) in [(0, 0, 0), (0, 1, 0), (0, 0, 1), (256, 0, 0), (65535, 0, 0)] {
+                    (s.hdr, s.endpoints[0], s.endpoints[17], s.weights[63]) = (hdr, first, last, weight);
+                    cases.push(SymbolicCase::new(f as u8, &s.to_numbers()));
+                }
+            }
+        }
+        for hdr in [0, 1, 2, 3, 255, 256, 257, 65535] {
+            cases.push(SymbolicCase::new(f as u8, &SymbolicBlock { hdr, ..void_extent(r) }.to_numbers()));
+            // 31 comes before 12
+            let s = SymbolicBlock { hdr, extents: [1, 1, 0, 1], ..void_extent(r) };
+            cases.push(SymbolicCase::new(f as u8, &s.to_numbers()));
         }
     }
     cases
@@ -94,9 +155,9 @@ pub fn symbolic(r: &mut Random) -> SymbolicCase {
     let f = footprint(r);
     let sort = r.below(16);
     let s = match sort {
-        0..3 => symbolic_block(r, f),
+        0..3 => any_symbolic_block(r, f),
         3..11 => {
-            let mut s = symbolic_block(r, f);
+            let mut s = any_symbolic_block(r, f);
             let used = Used::new(&s);
             for _ in 0..1 + r.below(2) {
                 spoil(r, &mut s, &used);
@@ -105,13 +166,14 @@ pub fn symbolic(r: &mut Random) -> SymbolicCase {
         }
         11..13 => {
             // Settings that no block of this footprint may have; numbers where they are acceptable.
-            let mut s = settings(r, true);
+            let mut s = SymbolicBlock { hdr: r.below(2) as u16, ..settings(r, true) };
             if refusal(f, &s) == 0 {
                 fill_numbers(r, &mut s);
             }
             s
         }
-        13 => hdr_block(r, f),
+        13 if r.once_in(2) => unmarked_block(r, f),
+        13 => SymbolicBlock { hdr: 1, ..mode_block(r, f) },
         14 => {
             let mut numbers = [0; NUMBERS];
             for number in &mut numbers {
@@ -139,7 +201,7 @@ pub fn above_255(r: &mut Random) -> Vec<SymbolicCase> {
     let mut cases = Vec::new();
     for f in 0..FOOTPRINTS.len() {
         for place in 0..NUMBERS {
-            for s in [mode_block(r, f), mode_block(r, f), mode_block(r, f), void_extent(r)] {
+            for s in [mode_block(r, f), mode_block(r, f), hdr_mode_block(r, f), void_extent(r)] {
                 for above in [256 * (1 + r.below(255)), 256, 1024, 8192, 256 + r.below(65280), 65535] {
                     let mut numbers = s.to_numbers();
                     numbers[place] = if above % 256 == 0 { numbers[place] % 256 + above as u16 } else { above as u16 };
@@ -168,8 +230,8 @@ pub fn refused_lists(r: &mut Random) -> SymbolicCase {
     case
 }
 
-/// A symbolic block that is refused by 20 alone.
-fn hdr_block(r: &mut Random, footprint: usize) -> SymbolicBlock {
+/// A symbolic block that is refused by 20 alone: HDR, without its mark.
+fn unmarked_block(r: &mut Random, footprint: usize) -> SymbolicBlock {
     loop {
         let s = settings(r, true);
         if refusal(footprint, &s) == 20 {
@@ -204,7 +266,7 @@ impl Used {
 /// Changes one field or number.
 fn spoil(r: &mut Random, s: &mut SymbolicBlock, used: &Used) {
     let limit = r.pick(&LIMITS);
-    match r.below(24) {
+    match r.below(25) {
         0 => s.mark = limit,
         1 => s.colours[r.below(4)] = limit,
         2 => s.extents[r.below(4)] = limit,
@@ -229,6 +291,7 @@ fn spoil(r: &mut Random, s: &mut SymbolicBlock, used: &Used) {
         19 => s.weights[used.weights.min(63)] = 1,
         20 => s.endpoints[r.below(used.endpoints.max(1))] = used.endpoint_most + 1,
         21 => s.weights[r.below(used.weights.max(1))] = used.weight_most + 1,
+        22 => s.hdr = r.pick(&[0, 1, 1 - s.hdr.min(1), limit]),
         _ => {
             let mut numbers = s.to_numbers();
             numbers[r.below(NUMBERS)] = limit;
@@ -247,8 +310,9 @@ pub fn image(r: &mut Random) -> ImageCase {
     image_of(r, f, width, height, many)
 }
 
-/// One block in `many` is of any sort (0: none), the others are without fault.
+/// One block in `many` is of any sort (0: none), the others are without fault; in every other image these may be HDR.
 fn image_of(r: &mut Random, f: usize, width: u32, height: u32, many: usize) -> ImageCase {
+    let hdr = r.once_in(2);
     let (w, h) = FOOTPRINTS[f];
     let count = (width as usize).div_ceil(w) * (height as usize).div_ceil(h);
     let mut blocks = Vec::new();
@@ -256,7 +320,7 @@ fn image_of(r: &mut Random, f: usize, width: u32, height: u32, many: usize) -> I
         blocks.extend(if many > 0 && r.once_in(many) {
             any_block(r, f)
         } else {
-            write(f, &symbolic_block(r, f)).unwrap()
+            write(f, &if hdr { any_symbolic_block(r, f) } else { symbolic_block(r, f) }).unwrap()
         });
     }
     ImageCase { footprint: f as u8, width, height, blocks, out_len: 4 * (width * height) as usize, tally_len: 3 }

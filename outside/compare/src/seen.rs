@@ -2,12 +2,19 @@
 
 use std::collections::BTreeMap;
 
+use reference::hdr::submodes;
+use reference::random::HDR_MODES;
 use reference::tables::{BLOCK_MODES, BlockMode, ENDPOINT_RANGES};
-use reference::{NUMBERS, SymbolicBlock, fault, read, write};
+use reference::{Kind, NUMBERS, SymbolicBlock, fault, read, write};
 
 const FAULTS: [u32; 10] = [11, 12, 13, 14, 15, 16, 17, 18, 19, 20];
-const LDR_MODES: [u32; 10] = [0, 1, 4, 5, 6, 8, 9, 10, 12, 13];
-const HDR_MODES: [u32; 6] = [2, 3, 7, 11, 14, 15];
+/// Those of kind 2.
+const HDR_FAULTS: [u32; 8] = [11, 12, 14, 15, 16, 17, 18, 19];
+
+/// A submode of an HDR endpoint mode as one number.
+fn submode_number(mode: u8, submode: usize) -> u32 {
+    1000 * mode as u32 + submode as u32
+}
 
 /// Counts by sort and number. What must occur is there from the start, with count 0.
 pub struct Seen(BTreeMap<(&'static str, u32), u64>);
@@ -17,25 +24,51 @@ impl Seen {
         let mut seen = Seen(BTreeMap::new());
         seen.require("block, footprint", 0..14);
         seen.require("block, fault", [0].into_iter().chain(FAULTS));
+        seen.require("block, fault in kind 2", [0].into_iter().chain(HDR_FAULTS));
+        seen.require("block without fault in kind 2, fault in kinds 0 and 1", [0, 13, 20]);
         seen.require("block call, refusal", [0, 1, 4, 5]);
         seen.require("read call, refusal", [0, 1, 4, 5]);
         seen.require("image call, refusal", [0, 1, 3, 4, 5]);
         seen.require("image call, tally not of 3 numbers, refusal", [1, 3, 4, 5]);
         seen.require("image, footprint", 0..14);
         seen.require("image, first fault", [0].into_iter().chain(FAULTS));
+        seen.require("image, first fault in kind 2", [0].into_iter().chain(HDR_FAULTS));
         seen.require("image, first faulty block not the first block", [1]);
         seen.require("image, several faulty blocks", [1]);
         seen.require("image, 11000 wide", [1]);
         seen.require("image, side of 16384", [1]);
-        seen.require("write call, refusal", [0, 1, 4, 5, 12, 14, 15, 16, 17, 18, 19, 20, 31, 32, 33, 34]);
+        seen.require("write call, refusal", [0, 1, 4, 5, 12, 14, 15, 16, 17, 18, 19, 20, 31, 32, 33, 34, 35]);
+        seen.require(
+            "symbolic block, HDR mark and some HDR mode: 0 neither, 1 the mode, 2 the mark, 3 both; refusal",
+            [0, 120, 235, 300],
+        );
+        seen.require("symbolic block, mark without HDR mode, also 34", [34]);
+        seen.require("symbolic block, HDR mode without mark, also 34", [20]);
+        seen.require(
+            "symbolic block, mark without HDR mode, an endpoint number above 255 whose range reaches 255",
+            [34],
+        );
+        seen.require("symbolic block, HDR mark of a void extent; refusal", [0, 100, 12, 112, 231]);
+        seen.require("symbolic block, HDR mark above 1", [31]);
         seen.require("written block, footprint", 0..14);
         seen.require("place of a number above 255", 0..NUMBERS as u32);
         // At most eight endpoint numbers have eight bits each.
         seen.require("place of an endpoint number above 255 whose range reaches 255", 21..29);
         seen.require("any block mode", 0..2048);
         seen.require("block mode without fault", (0..2048).filter(|&m| possible(m)));
-        seen.require("colour endpoint mode", LDR_MODES);
-        seen.require("colour endpoint mode of a refused symbolic block", HDR_MODES);
+        seen.require("colour endpoint mode", 0..16);
+        seen.require("colour endpoint mode of a refused symbolic block", HDR_MODES.map(u32::from));
+        for mode in HDR_MODES {
+            seen.require(
+                "1000 times HDR endpoint mode, and submode",
+                (0..submodes(mode)).map(|n| submode_number(mode, n)),
+            );
+        }
+        seen.require("LDR partitions beside HDR ones, partitions", 2..5);
+        seen.require("HDR block, plane channel", 0..4);
+        seen.require("HDR block mode without fault", (0..2048).filter(|&m| possible(m)));
+        seen.require("void extent, HDR mark", 0..2);
+        seen.require("HDR void extent, colour: 0 finite, 1 infinite, 2 a quiet NaN, 3 another NaN, 4 negative", 0..5);
         seen.require("partitions", 1..5);
         seen.require("planes", 1..3);
         seen.require("plane channel", 0..4);
@@ -66,15 +99,37 @@ impl Seen {
     /// A block that the one-block calls got.
     pub fn block(&mut self, footprint: usize, block: &[u8; 16]) {
         self.count("block, footprint", footprint as u32);
-        let number = fault(footprint, block);
-        self.count("block, fault", number as u32);
+        let number = fault(footprint, Kind::Unorm16, block) as u32;
+        self.count("block, fault", number);
+        let hdr_number = fault(footprint, Kind::Float16, block) as u32;
+        self.count("block, fault in kind 2", hdr_number);
+        if hdr_number == 0 {
+            self.count("block without fault in kind 2, fault in kinds 0 and 1", number);
+        }
         let mode = block[0] as u32 | (block[1] as u32 & 7) << 8;
         self.count("any block mode", mode);
         let Ok(s) = read(footprint, block) else { return };
         self.count("block is what the writer makes", (write(footprint, &s) == Ok(*block)) as u32);
         self.count("void extent", s.mark as u32);
         if s.mark == 1 {
+            self.count("void extent, HDR mark", s.hdr as u32);
+            if s.hdr == 1 {
+                self.solid(s.colours);
+            }
             return;
+        }
+        if s.hdr == 1 {
+            self.count("HDR block mode without fault", mode);
+            let found = s.hdr_submodes();
+            for &(mode, submode) in &found {
+                self.count("1000 times HDR endpoint mode, and submode", submode_number(mode, submode));
+            }
+            if found.len() < s.partitions as usize {
+                self.count("LDR partitions beside HDR ones, partitions", s.partitions as u32);
+            }
+            if s.planes == 2 {
+                self.count("HDR block, plane channel", s.plane_channel as u32);
+            }
         }
         self.count("block mode without fault", mode);
         for &mode in &s.modes[..s.partitions as usize] {
@@ -93,12 +148,62 @@ impl Seen {
         self.count("endpoint range", s.endpoint_most() as u32);
     }
 
+    /// The colours of an HDR void extent.
+    fn solid(&mut self, colours: [u16; 4]) {
+        for c in colours {
+            let sort = match c & 0x7FFF {
+                0x7C00 => 1,
+                0x7E00.. => 2,
+                0x7C01.. => 3,
+                _ => {
+                    if c > 0x8000 {
+                        4
+                    } else {
+                        0
+                    }
+                }
+            };
+            self.count("HDR void extent, colour: 0 finite, 1 infinite, 2 a quiet NaN, 3 another NaN, 4 negative", sort);
+        }
+    }
+
+    /// The HDR mark of numbers that the writer got, and whether it is their only fault.
+    fn hdr_mark(&mut self, footprint: usize, s: &SymbolicBlock, refusal: u8) {
+        if s.hdr > 1 {
+            self.count("symbolic block, HDR mark above 1", refusal as u32);
+        }
+        if s.mark == 1 {
+            let mark = 100 * s.hdr.min(2) as u32;
+            self.count("symbolic block, HDR mark of a void extent; refusal", mark + refusal as u32);
+        }
+        if s.mark != 0 || s.hdr > 1 || !(1..=4).contains(&s.partitions) {
+            return;
+        }
+        let state = s.some_hdr() as u32 + 2 * s.hdr as u32;
+        let right = SymbolicBlock { hdr: s.some_hdr() as u16, ..*s };
+        match (state, reference::refusal(footprint, &right)) {
+            (_, 0) => self.count(
+                "symbolic block, HDR mark and some HDR mode: 0 neither, 1 the mode, 2 the mark, 3 both; refusal",
+                100 * state + refusal as u32,
+            ),
+            (1, 34) => self.count("symbolic block, HDR mode without mark, also 34", refusal as u32),
+            (2, 34) => self.count("symbolic block, mark without HDR mode, also 34", refusal as u32),
+            _ => {}
+        }
+        let clipped = SymbolicBlock { endpoints: s.endpoints.map(|n| n.min(255)), ..right };
+        if state == 2 && clipped != right && reference::refusal(footprint, &clipped) == 0 {
+            let sort = "symbolic block, mark without HDR mode, an endpoint number above 255 whose range reaches 255";
+            self.count(sort, refusal as u32);
+        }
+    }
+
     /// Numbers that the writer got, and its refusal of them.
     pub fn symbolic(&mut self, footprint: u8, s: &SymbolicBlock, refusal: u8) {
         let large = |n: &u16| *n > 255;
         for (place, _) in s.to_numbers().iter().enumerate().filter(|(_, n)| large(n)) {
             self.count("place of a number above 255", place as u32);
         }
+        self.hdr_mark(footprint as usize, s, refusal);
         if refusal == 34 {
             // With 255 for each, it is acceptable: nothing but the numbers above 255 is wrong.
             let clipped = SymbolicBlock { endpoints: s.endpoints.map(|n| n.min(255)), ..*s };
@@ -113,7 +218,7 @@ impl Seen {
         }
         if refusal == 20 {
             for &mode in &s.modes {
-                if HDR_MODES.contains(&(mode as u32)) {
+                if HDR_MODES.contains(&(mode as u8)) {
                     self.count("colour endpoint mode of a refused symbolic block", mode as u32);
                 }
             }

@@ -1,12 +1,15 @@
 //! The C interface as the archive exports it. A slice crosses as pointer and length.
 
 unsafe extern "C" {
-    /// 0 (no fault), 11..20 (the block's fault), or 1, 4, 5 (refused, nothing written).
+    /// 0 (no fault), 11..20 (the block's fault; not 13 or 20 in float16), or 1, 4, 5 (refused, nothing written).
     pub fn stallbrook_astc_decode_block_unorm16(
         footprint: u8, block: *const u8, block_len: usize, out: *mut u16, out_len: usize,
     ) -> u8;
     pub fn stallbrook_astc_decode_block_srgb8(
         footprint: u8, block: *const u8, block_len: usize, out: *mut u8, out_len: usize,
+    ) -> u8;
+    pub fn stallbrook_astc_decode_block_float16(
+        footprint: u8, block: *const u8, block_len: usize, out: *mut u16, out_len: usize,
     ) -> u8;
 
     /// 0 or 1, 3, 4, 5. Tally, of 3 numbers: count of faulty blocks, raster index and fault of the first; zeros on a refusal. A tally of
@@ -19,13 +22,17 @@ unsafe extern "C" {
         footprint: u8, width: u32, height: u32, blocks: *const u8, blocks_len: usize, out: *mut u8, out_len: usize,
         tally: *mut u64, tally_len: usize,
     ) -> u8;
+    pub fn stallbrook_astc_decode_image_float16(
+        footprint: u8, width: u32, height: u32, blocks: *const u8, blocks_len: usize, out: *mut u16, out_len: usize,
+        tally: *mut u64, tally_len: usize,
+    ) -> u8;
 
-    /// 0, a fault, or 1, 4; the 103 numbers are all 0 unless it answers 0. 5 where there are not 103, nothing written.
+    /// 0, a fault of float16, or 1, 4; the 104 numbers are all 0 unless it answers 0. 5 where there are not 104, nothing written.
     pub fn stallbrook_astc_read_symbolic(
         footprint: u8, block: *const u8, block_len: usize, numbers: *mut u16, numbers_len: usize,
     ) -> u8;
 
-    /// 0 or the first refusal; the 16 bytes are all 0 unless it answers 0. Where there are not 16 bytes or not 103 numbers, 1, 4 or 5,
+    /// 0 or the first refusal; the 16 bytes are all 0 unless it answers 0. Where there are not 16 bytes or not 104 numbers, 1, 4 or 5,
     /// nothing written.
     pub fn stallbrook_astc_write_symbolic(
         footprint: u8, numbers: *const u16, numbers_len: usize, block: *mut u8, block_len: usize,

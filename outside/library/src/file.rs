@@ -36,6 +36,9 @@ pub mod raw {
         fn stallbrook_astc_decode_file_srgb8(
             file: *const u8, file_len: usize, out: *mut u8, out_len: usize, tally: *mut u64, tally_len: usize,
         ) -> u8;
+        fn stallbrook_astc_decode_file_float16(
+            file: *const u8, file_len: usize, out: *mut u16, out_len: usize, tally: *mut u64, tally_len: usize,
+        ) -> u8;
     }
 
     /// 0, the refusal 41, 42, 43, 3, 4 (zeros), or 5, last (nothing written), where there are not 3 numbers.
@@ -58,6 +61,12 @@ pub mod raw {
     pub fn decode_file_srgb8(file: &[u8], out: &mut [u8], tally: &mut [u64]) -> u8 {
         let (n, m, k) = (file.len(), out.len(), tally.len());
         unsafe { stallbrook_astc_decode_file_srgb8(file.as_ptr(), n, out.as_mut_ptr(), m, tally.as_mut_ptr(), k) }
+    }
+
+    /// The same in kind 2.
+    pub fn decode_file_float16(file: &[u8], out: &mut [u16], tally: &mut [u64]) -> u8 {
+        let (n, m, k) = (file.len(), out.len(), tally.len());
+        unsafe { stallbrook_astc_decode_file_float16(file.as_ptr(), n, out.as_mut_ptr(), m, tally.as_mut_ptr(), k) }
     }
 }
 
@@ -103,5 +112,22 @@ pub fn decode_unorm16(file: &[u8], out: &mut [u16]) -> Result<Tally, Error> {
 pub fn decode_srgb8(file: &[u8], out: &mut [u8]) -> Result<Tally, Error> {
     let mut tally = [0; 3];
     let number = raw::decode_file_srgb8(file, out, &mut tally);
+    tally_of(number, tally)
+}
+
+/// A whole file's texels as four half floats each, as 16-bit patterns; HDR blocks too.
+///
+/// ```
+/// // two texels of an HDR void extent: 1.0, 2.0, 0.5, 1.0
+/// let mut bytes = stallbrook::file::write_header(0, 2, 1)?.to_vec();
+/// bytes.extend([0xFC, 0xFF, 0xFF, 0xFF, 0xFF, 0xFF, 0xFF, 0xFF, 0, 0x3C, 0, 0x40, 0, 0x38, 0, 0x3C]);
+/// let mut texels = [0u16; 8];
+/// assert_eq!(stallbrook::file::decode_float16(&bytes, &mut texels)?.faulty, 0);
+/// assert_eq!(texels, [0x3C00, 0x4000, 0x3800, 0x3C00, 0x3C00, 0x4000, 0x3800, 0x3C00]);
+/// # Ok::<(), stallbrook::Error>(())
+/// ```
+pub fn decode_float16(file: &[u8], out: &mut [u16]) -> Result<Tally, Error> {
+    let mut tally = [0; 3];
+    let number = raw::decode_file_float16(file, out, &mut tally);
     tally_of(number, tally)
 }

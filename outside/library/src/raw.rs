@@ -10,6 +10,10 @@ pub fn decode_block_srgb8(footprint: u8, block: &[u8], out: &mut [u8]) -> u8 {
     unsafe { ffi::stallbrook_astc_decode_block_srgb8(footprint, block.as_ptr(), block.len(), out.as_mut_ptr(), out.len()) }
 }
 
+pub fn decode_block_float16(footprint: u8, block: &[u8], out: &mut [u16]) -> u8 {
+    unsafe { ffi::stallbrook_astc_decode_block_float16(footprint, block.as_ptr(), block.len(), out.as_mut_ptr(), out.len()) }
+}
+
 pub fn decode_image_unorm16(
     footprint: u8, width: u32, height: u32, blocks: &[u8], out: &mut [u16], tally: &mut [u64],
 ) -> u8 {
@@ -33,6 +37,24 @@ pub fn decode_image_srgb8(
 ) -> u8 {
     unsafe {
         ffi::stallbrook_astc_decode_image_srgb8(
+            footprint,
+            width,
+            height,
+            blocks.as_ptr(),
+            blocks.len(),
+            out.as_mut_ptr(),
+            out.len(),
+            tally.as_mut_ptr(),
+            tally.len(),
+        )
+    }
+}
+
+pub fn decode_image_float16(
+    footprint: u8, width: u32, height: u32, blocks: &[u8], out: &mut [u16], tally: &mut [u64],
+) -> u8 {
+    unsafe {
+        ffi::stallbrook_astc_decode_image_float16(
             footprint,
             width,
             height,

@@ -80,7 +80,7 @@ fn frame(r: &mut Random, f: ClipFrame) -> Vec<u8> {
 fn clips(r: &mut Random) -> Vec<Vec<u8>> {
     let first = ClipFrame { footprint: 0, kind: 1, width: 5, height: 4 };
     let second = ClipFrame { footprint: 13, kind: 0, width: 12, height: 13 };
-    let third = ClipFrame { footprint: 4, kind: 1, width: 1, height: 1 };
+    let third = ClipFrame { footprint: 4, kind: 2, width: 1, height: 1 };
     let sound = [vec![1], frame(r, first), frame(r, second), frame(r, third)].concat();
     let mut clips = vec![Vec::new(), vec![0], vec![2, 1, 1], sound.clone()];
     for end in [1, 2, 10, 11, 26, 27, 42, 43, 44, 53, 84, 85, 95, sound.len() - 1] {
@@ -101,7 +101,8 @@ fn clips(r: &mut Random) -> Vec<Vec<u8>> {
         (13, 1, 16384, 1, 6 + 16 * 1366),
         (13, 1, 1, 16384, 6 + 16 * 1366),
         (13, 1, 16384, 1, 10 + 16 * 1366),
-        (14, 2, 0, 0, 0),
+        (14, 3, 0, 0, 0),
+        (13, 3, 0, 0, 0),
         (13, 2, 0, 0, 0),
         (13, 1, 0, 0, 0),
         (0, 0, 1, 1, 0),
@@ -124,11 +125,12 @@ fn frames(r: &mut Random) -> Vec<(ClipFrame, Vec<u8>, u8)> {
     let good = ClipFrame { footprint: 6, kind: 1, width: 300, height: 5 };
     let mut frames = Vec::new();
     for footprint in 0..14 {
-        let f = ClipFrame { footprint, kind: footprint % 2, width: 13, height: 7 };
+        let f = ClipFrame { footprint, kind: footprint % 3, width: 13, height: 7 };
         frames.push((f, blocks(r, &f), 1));
     }
     for f in [
-        ClipFrame { footprint: 14, kind: 2, width: 0, height: 0 },
+        ClipFrame { footprint: 14, kind: 3, width: 0, height: 0 },
+        ClipFrame { kind: 3, width: 0, ..good },
         ClipFrame { kind: 2, width: 0, ..good },
         ClipFrame { width: 0, ..good },
         ClipFrame { height: 0, ..good },

@@ -4,10 +4,10 @@ use std::fs::write as store;
 use std::path::Path;
 
 use reference::random::*;
-use reference::{FOOTPRINTS, NUMBERS, SymbolicBlock, fault, read, refusal, write};
+use reference::{FOOTPRINTS, Kind, NUMBERS, SymbolicBlock, fault, read, refusal, write};
 
 /// 01's numbers of a writer's refusals.
-const REFUSALS: [u8; 14] = [0, 1, 12, 14, 15, 16, 17, 18, 19, 20, 31, 32, 33, 34];
+const REFUSALS: [u8; 15] = [0, 1, 12, 14, 15, 16, 17, 18, 19, 20, 31, 32, 33, 34, 35];
 /// Cases of each sort.
 const EACH: usize = 6;
 
@@ -32,6 +32,10 @@ fn writer_runs(r: &mut Random, dir: &Path) {
             put(footprint, &mode_block(r, footprint));
         }
         put(footprint, &void_extent(r));
+        for _ in 0..2 {
+            put(footprint, &hdr_mode_block(r, footprint));
+        }
+        put(footprint, &hdr_void_extent(r));
     }
     for wanted in REFUSALS {
         let mut found = 0;
@@ -50,9 +54,11 @@ fn writer_runs(r: &mut Random, dir: &Path) {
 
 /// Acceptable, with a number changed, or with any settings.
 fn candidate(r: &mut Random, footprint: usize) -> SymbolicBlock {
-    let mut s = match r.below(4) {
+    let mut s = match r.below(6) {
         0 => settings(r, true),
         1 => void_extent(r),
+        2 => hdr_symbolic_block(r, footprint),
+        3 => SymbolicBlock { hdr: 1, ..mode_block(r, footprint) },
         _ => mode_block(r, footprint),
     };
     for _ in 0..r.below(3) {
@@ -95,15 +101,20 @@ fn reader_runs(r: &mut Random, dir: &Path) {
             put(footprint, block_of_any_mode(r));
             put(footprint, void_extent_block(r));
         }
-        put(footprint, fault20_block(r, footprint).0);
+        for _ in 0..2 {
+            let s = hdr_mode_block(r, footprint);
+            put(footprint, loose_block(r, footprint, &s));
+        }
+        put(footprint, write(footprint, &hdr_void_extent(r)).expect("an acceptable symbolic block"));
     }
+    // 13 and 20 are of kinds 0 and 1: the reader takes these blocks
     for wanted in 11..=20 {
         let mut found = 0;
         while found < EACH {
             let footprint = reference::random::footprint(r);
             let block = block_of_any_mode(r);
             let block = if r.once_in(2) { void_extent_block(r) } else { block };
-            if fault(footprint, &block) == wanted {
+            if fault(footprint, Kind::Unorm16, &block) == wanted {
                 put(footprint, block);
                 found += 1;
             }

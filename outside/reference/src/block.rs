@@ -1,12 +1,12 @@
 //! Bits of a block: its settings, read once, and its fault.
 
-use crate::FOOTPRINTS;
 use crate::sequence::bit_count;
 use crate::tables::{BLOCK_MODES, BlockMode, ENDPOINT_RANGES, Grid, WEIGHT_RANGES};
+use crate::{FOOTPRINTS, Kind};
 
 /// A block without fault, its fields found.
 pub enum Settings {
-    VoidExtent { colours: [u16; 4], extents: [u16; 4] },
+    VoidExtent { hdr: bool, colours: [u16; 4], extents: [u16; 4] },
     Mode(ModeSettings),
 }
 
@@ -53,8 +53,8 @@ pub fn bad_extents(extents: [u16; 4]) -> bool {
     extents != [8191; 4] && !(low_s < high_s && low_t < high_t)
 }
 
-/// The first fault of a block, or its settings.
-pub fn parse(footprint: usize, block: u128) -> Result<Settings, u8> {
+/// The first fault of a block, or its settings; 13 and 20 only where HDR is not taken.
+pub fn parse(footprint: usize, takes_hdr: bool, block: u128) -> Result<Settings, u8> {
     let grid = match BLOCK_MODES[bits(block, 0, 11) as usize] {
         BlockMode::Reserved => return Err(11),
         BlockMode::VoidExtent => {
@@ -62,11 +62,12 @@ pub fn parse(footprint: usize, block: u128) -> Result<Settings, u8> {
             if bits(block, 10, 2) != 3 || bad_extents(extents) {
                 return Err(12);
             }
-            if bits(block, 9, 1) == 1 {
+            let hdr = bits(block, 9, 1) == 1;
+            if hdr && !takes_hdr {
                 return Err(13);
             }
             let colours = [0, 1, 2, 3].map(|i| bits(block, 64 + 16 * i, 16) as u16);
-            return Ok(Settings::VoidExtent { colours, extents });
+            return Ok(Settings::VoidExtent { hdr, colours, extents });
         }
         BlockMode::Grid(grid) => grid,
     };
@@ -126,7 +127,7 @@ pub fn parse(footprint: usize, block: u128) -> Result<Settings, u8> {
     if left < (13 * endpoint_count as i32 + 4) / 5 {
         return Err(19);
     }
-    if modes[..partitions].iter().any(|&m| is_hdr(m)) {
+    if !takes_hdr && modes[..partitions].iter().any(|&m| is_hdr(m)) {
         return Err(20);
     }
     // 0..5 always fits: it takes ceil(13C/5) bits.
@@ -146,7 +147,7 @@ pub fn parse(footprint: usize, block: u128) -> Result<Settings, u8> {
     }))
 }
 
-/// The first fault (11 to 20) of a block at a footprint, 0 where there is none.
-pub fn fault(footprint: usize, block: &[u8; 16]) -> u8 {
-    parse(footprint, u128::from_le_bytes(*block)).err().unwrap_or(0)
+/// The first fault (11 to 20) of a block at a footprint in a kind, 0 where there is none.
+pub fn fault(footprint: usize, kind: Kind, block: &[u8; 16]) -> u8 {
+    parse(footprint, kind.takes_hdr(), u128::from_le_bytes(*block)).err().unwrap_or(0)
 }

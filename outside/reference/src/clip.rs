@@ -17,7 +17,7 @@ impl ClipFrame {
     fn refusal(&self) -> u8 {
         if self.footprint > 13 {
             1
-        } else if self.kind > 1 {
+        } else if self.kind > 2 {
             2
         } else if !SIDES.contains(&self.width) || !SIDES.contains(&self.height) {
             3

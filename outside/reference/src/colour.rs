@@ -40,7 +40,7 @@ fn base_offset(v: &[u8], alpha: (i32, i32)) -> Pair {
 }
 
 /// 003, "LDR Endpoint Decoding": the pair that a mode makes of its unquantised numbers.
-/// An HDR mode makes none here (fault 20); its pair counts as 0.
+/// An HDR mode makes none here; `hdr` has its.
 pub fn endpoint_pair(mode: u8, v: &[u8]) -> Pair {
     let scaled = |i: usize| ((v[i] as u32 * v[3] as u32) >> 8) as u8;
     match mode {
@@ -143,7 +143,7 @@ pub fn grid_factors(fs: u32, ft: u32) -> [u32; 4] {
     [16 + w11 - fs - ft, fs - w11, ft - w11, w11]
 }
 
-/// An endpoint's channel expanded to 16 bits; alpha as the colours (02, request d).
+/// An LDR endpoint's channel expanded to 16 bits; alpha as the colours (02, request d).
 #[inline]
 pub fn expand(kind: Kind, c: u8) -> u32 {
     if kind == Kind::Srgb8 { 256 * c as u32 + 128 } else { 257 * c as u32 }

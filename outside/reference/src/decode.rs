@@ -2,69 +2,94 @@
 
 use crate::block::{ModeSettings, Settings, numbers_of_mode, parse};
 use crate::colour::{Pattern, endpoint_pair, expand, grid_factors, grid_place};
+use crate::hdr::{expanded_pair, half, hdr_channels};
 use crate::sequence::unpack;
 use crate::tables::{ENDPOINT_RANGES, ENDPOINTS, WEIGHT_RANGES, WEIGHTS};
 use crate::{FOOTPRINTS, Kind, Tally};
 
-/// A number of an output texel: u16 for kind 0, u8 for kind 1.
-pub trait Sample: Copy {
+/// How a kind shows its numbers.
+trait Show {
+    type Number: Copy;
     const KIND: Kind;
-    const ERROR: [Self; 4];
-    /// From the interpolation's sum, before its division by 64.
-    fn from_sum(sum: i32) -> Self;
-    fn from_unorm16(c: u16) -> Self;
+    const ERROR: [Self::Number; 4];
+    /// From the interpolation's sum, before its division by 64; `hdr` where the channel is HDR.
+    fn from_sum(hdr: bool, sum: i32) -> Self::Number;
+    /// A void extent's colour.
+    fn from_solid(hdr: bool, c: u16) -> Self::Number;
 }
 
-impl Sample for u16 {
+struct Unorm16;
+
+impl Show for Unorm16 {
+    type Number = u16;
     const KIND: Kind = Kind::Unorm16;
     const ERROR: [u16; 4] = [65535, 0, 65535, 65535];
     #[inline(always)]
-    fn from_sum(sum: i32) -> u16 {
+    fn from_sum(_: bool, sum: i32) -> u16 {
         (sum >> 6) as u16
     }
-    fn from_unorm16(c: u16) -> u16 {
+    fn from_solid(_: bool, c: u16) -> u16 {
         c
     }
 }
 
-impl Sample for u8 {
+struct Srgb8;
+
+impl Show for Srgb8 {
+    type Number = u8;
     const KIND: Kind = Kind::Srgb8;
     const ERROR: [u8; 4] = [255, 0, 255, 255];
     #[inline(always)]
-    fn from_sum(sum: i32) -> u8 {
+    fn from_sum(_: bool, sum: i32) -> u8 {
         (sum >> 14) as u8
     }
-    fn from_unorm16(c: u16) -> u8 {
+    fn from_solid(_: bool, c: u16) -> u8 {
         (c >> 8) as u8
+    }
+}
+
+struct Float16;
+
+impl Show for Float16 {
+    type Number = u16;
+    const KIND: Kind = Kind::Float16;
+    const ERROR: [u16; 4] = [65535; 4];
+    #[inline(always)]
+    fn from_sum(hdr: bool, sum: i32) -> u16 {
+        half(hdr, (sum >> 6) as u16)
+    }
+    /// HDR colours as they are stored.
+    fn from_solid(hdr: bool, c: u16) -> u16 {
+        if hdr { c } else { half(false, c) }
     }
 }
 
 /// Where a block's texels go: its first texel is out[0], rows lie `stride` numbers apart,
 /// columns and rows past `columns` and `rows` are dropped.
-struct Target<'a, T> {
-    out: &'a mut [T],
+struct Target<'a, K: Show> {
+    out: &'a mut [K::Number],
     stride: usize,
     columns: usize,
     rows: usize,
 }
 
-impl<T: Sample> Target<'_, T> {
-    fn fill(&mut self, texel: [T; 4]) {
+impl<K: Show> Target<'_, K> {
+    fn fill(&mut self, texel: [K::Number; 4]) {
         for row in self.out.chunks_mut(self.stride).take(self.rows) {
             row[..4 * self.columns].as_chunks_mut().0.fill(texel);
         }
     }
 }
 
-fn decode_to<T: Sample>(footprint: usize, block: &[u8; 16], mut target: Target<T>) -> u8 {
+fn decode_to<K: Show>(footprint: usize, block: &[u8; 16], mut target: Target<K>) -> u8 {
     let block = u128::from_le_bytes(*block);
-    match parse(footprint, block) {
+    match parse(footprint, K::KIND.takes_hdr(), block) {
         Err(fault) => {
-            target.fill(T::ERROR);
+            target.fill(K::ERROR);
             fault
         }
-        Ok(Settings::VoidExtent { colours, .. }) => {
-            target.fill(colours.map(T::from_unorm16));
+        Ok(Settings::VoidExtent { hdr, colours, .. }) => {
+            target.fill(colours.map(|c| K::from_solid(hdr, c)));
             0
         }
         Ok(Settings::Mode(m)) => {
@@ -81,7 +106,15 @@ struct Line {
     step: [i32; 4],
 }
 
-fn lines<T: Sample>(block: u128, m: &ModeSettings) -> [Line; 4] {
+/// The pair of a mode, expanded to 16 bits for the kind.
+fn pair<K: Show>(mode: u8, numbers: &[u8]) -> [[i32; 4]; 2] {
+    match K::KIND {
+        Kind::Float16 => expanded_pair(mode, numbers),
+        kind => endpoint_pair(mode, numbers).map(|end| end.map(|c| expand(kind, c) as i32)),
+    }
+}
+
+fn lines<K: Show>(block: u128, m: &ModeSettings) -> [Line; 4] {
     let mut numbers = [0; 18];
     let table = &ENDPOINTS[m.endpoint_range];
     let stream = block >> m.endpoint_start;
@@ -89,10 +122,10 @@ fn lines<T: Sample>(block: u128, m: &ModeSettings) -> [Line; 4] {
     let mut lines = [Line { start: [0; 4], step: [0; 4] }; 4];
     let mut first = 0;
     for (line, &mode) in lines.iter_mut().zip(&m.modes[..m.partitions]) {
-        let pair = endpoint_pair(mode, &numbers[first..]);
+        let pair = pair::<K>(mode, &numbers[first..]);
         first += numbers_of_mode(mode);
         for channel in 0..4 {
-            let [c0, c1] = [0, 1].map(|e| expand(T::KIND, pair[e][channel]) as i32);
+            let [c0, c1] = [0, 1].map(|e| pair[e][channel]);
             line.start[channel] = 64 * c0 + 32;
             line.step[channel] = c1 - c0;
         }
@@ -134,9 +167,10 @@ fn first_largest(pattern: &Pattern, x: u32, y: u32) -> usize {
     3 - (key(0).max(key(1)).max(key(2).max(key(3))) & 3) as usize
 }
 
-fn decode_mode<T: Sample>(footprint: usize, block: u128, m: &ModeSettings, target: Target<T>) {
+fn decode_mode<K: Show>(footprint: usize, block: u128, m: &ModeSettings, target: Target<K>) {
     let (width, height) = FOOTPRINTS[footprint];
-    let lines = lines::<T>(block, m);
+    let lines = lines::<K>(block, m);
+    let hdr = m.modes.map(hdr_channels);
     let planes = planes(block, m);
     let (grid_width, grid_height) = (m.grid.width as usize, m.grid.height as usize);
     let mut columns = [(0, 0); 12];
@@ -156,35 +190,42 @@ fn decode_mode<T: Sample>(footprint: usize, block: u128, m: &ModeSettings, targe
             if dual_plane {
                 weights[m.plane_channel] = infill(&planes[1], at, grid_width, factors);
             }
-            let line = match &pattern {
-                None => &lines[0],
-                Some(pattern) => &lines[first_largest(pattern, x as u32, y as u32)],
+            let partition = match &pattern {
+                None => 0,
+                Some(pattern) => first_largest(pattern, x as u32, y as u32),
             };
-            *out = std::array::from_fn(|c| T::from_sum(line.start[c] + line.step[c] * weights[c]));
+            let (line, hdr) = (&lines[partition], &hdr[partition]);
+            *out = std::array::from_fn(|c| K::from_sum(hdr[c], line.start[c] + line.step[c] * weights[c]));
         }
     }
 }
 
-fn decode_block<T: Sample>(footprint: usize, block: &[u8; 16], out: &mut [T]) -> u8 {
+fn decode_block<K: Show>(footprint: usize, block: &[u8; 16], out: &mut [K::Number]) -> u8 {
     let (columns, rows) = FOOTPRINTS[footprint];
     assert_eq!(out.len(), 4 * columns * rows);
-    decode_to(footprint, block, Target { out, stride: 4 * columns, columns, rows })
+    decode_to::<K>(footprint, block, Target { out, stride: 4 * columns, columns, rows })
 }
 
 /// All texels of a block in kind 0; answers the fault.
 pub fn decode_u16(footprint: usize, block: &[u8; 16], out: &mut [u16]) -> u8 {
-    decode_block(footprint, block, out)
+    decode_block::<Unorm16>(footprint, block, out)
 }
 
 /// All texels of a block in kind 1; answers the fault.
 pub fn decode_u8(footprint: usize, block: &[u8; 16], out: &mut [u8]) -> u8 {
-    decode_block(footprint, block, out)
+    decode_block::<Srgb8>(footprint, block, out)
 }
 
-/// All texels of a block in either kind; answers the fault.
+/// All texels of a block in kind 2; answers the fault.
+pub fn decode_f16(footprint: usize, block: &[u8; 16], out: &mut [u16]) -> u8 {
+    decode_block::<Float16>(footprint, block, out)
+}
+
+/// All texels of a block in any kind; answers the fault.
 pub fn decode(footprint: usize, kind: Kind, block: &[u8; 16], out: &mut [u16]) -> u8 {
     match kind {
         Kind::Unorm16 => decode_u16(footprint, block, out),
+        Kind::Float16 => decode_f16(footprint, block, out),
         Kind::Srgb8 => {
             let mut bytes = [0; 4 * 144];
             let bytes = &mut bytes[..out.len()];
@@ -197,7 +238,7 @@ pub fn decode(footprint: usize, kind: Kind, block: &[u8; 16], out: &mut [u16]) -
     }
 }
 
-fn decode_image<T: Sample>(footprint: usize, width: usize, height: usize, blocks: &[u8], out: &mut [T]) -> Tally {
+fn decode_image<K: Show>(footprint: usize, width: usize, height: usize, blocks: &[u8], out: &mut [K::Number]) -> Tally {
     let (w, h) = FOOTPRINTS[footprint];
     let across = width.div_ceil(w);
     assert_eq!(blocks.len(), 16 * across * height.div_ceil(h));
@@ -211,7 +252,7 @@ fn decode_image<T: Sample>(footprint: usize, width: usize, height: usize, blocks
             columns: w.min(width - x),
             rows: h.min(height - y),
         };
-        let fault = decode_to(footprint, block, target);
+        let fault = decode_to::<K>(footprint, block, target);
         if fault != 0 {
             if tally.faulty == 0 {
                 tally.first_index = index as u64;
@@ -225,10 +266,15 @@ fn decode_image<T: Sample>(footprint: usize, width: usize, height: usize, blocks
 
 /// An image in kind 0; blocks in raster order, edge blocks cropped.
 pub fn decode_image_u16(footprint: usize, width: usize, height: usize, blocks: &[u8], out: &mut [u16]) -> Tally {
-    decode_image(footprint, width, height, blocks, out)
+    decode_image::<Unorm16>(footprint, width, height, blocks, out)
 }
 
 /// An image in kind 1; blocks in raster order, edge blocks cropped.
 pub fn decode_image_u8(footprint: usize, width: usize, height: usize, blocks: &[u8], out: &mut [u8]) -> Tally {
-    decode_image(footprint, width, height, blocks, out)
+    decode_image::<Srgb8>(footprint, width, height, blocks, out)
+}
+
+/// An image in kind 2; blocks in raster order, edge blocks cropped.
+pub fn decode_image_f16(footprint: usize, width: usize, height: usize, blocks: &[u8], out: &mut [u16]) -> Tally {
+    decode_image::<Float16>(footprint, width, height, blocks, out)
 }

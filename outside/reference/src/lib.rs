@@ -1,4 +1,4 @@
-//! A second reader and writer of ASTC blocks (2D, LDR), written from the public documents only.
+//! A second reader and writer of ASTC blocks (2D, LDR and HDR), written from the public documents only.
 //!
 //! Words: 01's "sheet" is a symbolic block here, its "solid" block a void extent,
 //! its "widen" is unquantise (stored numbers) or expand (endpoints to 16 bits).
@@ -10,6 +10,7 @@ mod clip;
 mod colour;
 mod decode;
 mod file;
+pub mod hdr;
 pub mod pvrtc;
 pub mod random;
 mod refusals;
@@ -19,7 +20,7 @@ pub mod tables;
 
 pub use block::fault;
 pub use clip::{ClipBlock, ClipFrame, ParsedClip, clip_frame, parse_clip};
-pub use decode::{decode, decode_image_u8, decode_image_u16, decode_u8, decode_u16};
+pub use decode::{decode, decode_f16, decode_image_f16, decode_image_u8, decode_image_u16, decode_u8, decode_u16};
 pub use file::{FileHeader, file_header, read_file};
 pub use refusals::{block_refusal, image_refusal, read_refusal};
 pub use symbolic::{NUMBERS, SymbolicBlock, picture, read, refusal, write};
@@ -38,6 +39,22 @@ pub enum Kind {
     Unorm16,
     /// Kind 1: four bytes, before the sRGB curve.
     Srgb8,
+    /// Kind 2: four half floats, as 16-bit patterns.
+    Float16,
+}
+
+impl Kind {
+    pub const ALL: [Kind; 3] = [Kind::Unorm16, Kind::Srgb8, Kind::Float16];
+
+    /// Of a number, 0 to 2.
+    pub fn of(number: u8) -> Option<Kind> {
+        Kind::ALL.get(number as usize).copied()
+    }
+
+    /// HDR is taken: faults 13 and 20 don't exist.
+    pub const fn takes_hdr(self) -> bool {
+        matches!(self, Kind::Float16)
+    }
 }
 
 /// What an image call tells of faulty blocks: their count, raster index and fault of the first.

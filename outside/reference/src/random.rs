@@ -2,6 +2,7 @@
 
 use crate::block::{Settings, is_hdr, parse};
 use crate::colour::Pattern;
+use crate::hdr::{submode, submodes};
 use crate::sequence::{QUINT_STEPS, TRIT_STEPS, bit_count, smallest_code};
 use crate::symbolic::write_by;
 use crate::tables::{BLOCK_MODES, BlockMode, Digit, ENDPOINT_RANGES, Grid, QUINTS, TRITS, WEIGHT_RANGES};
@@ -50,7 +51,7 @@ impl Random {
     }
 }
 
-/// An acceptable void extent.
+/// An acceptable LDR void extent.
 pub fn void_extent(r: &mut Random) -> SymbolicBlock {
     let mut s = SymbolicBlock { mark: 1, ..SymbolicBlock::ZERO };
     s.colours = [0; 4].map(|_: u16| r.number(65535));
@@ -65,8 +66,20 @@ pub fn void_extent(r: &mut Random) -> SymbolicBlock {
     s
 }
 
+/// An acceptable HDR void extent: half floats of all sorts, infinities and NaN more often.
+pub fn hdr_void_extent(r: &mut Random) -> SymbolicBlock {
+    let mut s = void_extent(r);
+    s.hdr = 1;
+    for colour in &mut s.colours {
+        if r.once_in(4) {
+            *colour = r.pick(&[0x7C00, 0xFC00, 0x7C01, 0x7DFF, 0x7E00, 0x7FFF, 0xFD55, 0xFFFF, 0x8000, 0x8001, 0x03FF]);
+        }
+    }
+    s
+}
+
 /// Settings of a mode block that may or may not be acceptable: grid, partitions, modes.
-/// `hdr` lets HDR modes in.
+/// `hdr` lets HDR modes in; the HDR mark stays 0.
 pub fn settings(r: &mut Random, hdr: bool) -> SymbolicBlock {
     loop {
         if let BlockMode::Grid(grid) = BLOCK_MODES[r.below(2048)] {
@@ -121,7 +134,7 @@ pub fn fill_numbers(r: &mut Random, s: &mut SymbolicBlock) {
     }
 }
 
-/// An acceptable mode block.
+/// An acceptable LDR mode block.
 pub fn mode_block(r: &mut Random, footprint: usize) -> SymbolicBlock {
     let mut s = loop {
         let s = settings(r, false);
@@ -133,8 +146,51 @@ pub fn mode_block(r: &mut Random, footprint: usize) -> SymbolicBlock {
     s
 }
 
-/// An acceptable block of this block mode, if the footprint has any.
+/// An acceptable HDR mode block: some partition's mode is HDR.
+pub fn hdr_mode_block(r: &mut Random, footprint: usize) -> SymbolicBlock {
+    let mut s = loop {
+        let s = SymbolicBlock { hdr: 1, ..settings(r, true) };
+        if refusal(footprint, &s) == 0 {
+            break s;
+        }
+    };
+    fill_numbers(r, &mut s);
+    s
+}
+
+/// The HDR modes.
+pub const HDR_MODES: [u8; 6] = [2, 3, 7, 11, 14, 15];
+
+/// A 4x4 grid, one partition with this HDR mode, and endpoint numbers 0..255 that choose this submode. Acceptable at every footprint.
+pub fn block_of_submode(r: &mut Random, mode: u8, wanted: usize) -> SymbolicBlock {
+    let mut s =
+        SymbolicBlock { width: 4, height: 4, range: 2, planes: 1, partitions: 1, hdr: 1, ..SymbolicBlock::ZERO };
+    s.modes[0] = mode as u16;
+    loop {
+        fill_numbers(r, &mut s);
+        if submode(mode, &s.endpoints.map(|n| n as u8)) == wanted {
+            return s;
+        }
+    }
+}
+
+/// A block of each HDR mode and submode.
+pub fn every_submode(r: &mut Random) -> Vec<SymbolicBlock> {
+    let all = HDR_MODES.into_iter().flat_map(|mode| (0..submodes(mode)).map(move |sub| (mode, sub)));
+    all.map(|(mode, sub)| block_of_submode(r, mode, sub)).collect()
+}
+
+/// An acceptable LDR block of this block mode, if the footprint has any.
 pub fn block_of_mode(r: &mut Random, footprint: usize, mode: usize) -> Option<SymbolicBlock> {
+    block_with_mode(r, footprint, mode, false)
+}
+
+/// An acceptable HDR block of this block mode, if the footprint has any.
+pub fn hdr_block_of_mode(r: &mut Random, footprint: usize, mode: usize) -> Option<SymbolicBlock> {
+    block_with_mode(r, footprint, mode, true)
+}
+
+fn block_with_mode(r: &mut Random, footprint: usize, mode: usize, hdr: bool) -> Option<SymbolicBlock> {
     let BlockMode::Grid(grid) = BLOCK_MODES[mode] else { return None };
     let mut plain = SymbolicBlock { partitions: 1, ..SymbolicBlock::ZERO };
     plain.width = grid.width as u16;
@@ -145,7 +201,7 @@ pub fn block_of_mode(r: &mut Random, footprint: usize, mode: usize) -> Option<Sy
         return None;
     }
     loop {
-        let mut s = settings_of(r, grid, false);
+        let mut s = SymbolicBlock { hdr: hdr as u16, ..settings_of(r, grid, hdr) };
         if refusal(footprint, &s) == 0 {
             fill_numbers(r, &mut s);
             return Some(s);
@@ -153,12 +209,22 @@ pub fn block_of_mode(r: &mut Random, footprint: usize, mode: usize) -> Option<Sy
     }
 }
 
-/// An acceptable symbolic block, now and then a void extent.
+/// An acceptable LDR symbolic block, now and then a void extent.
 pub fn symbolic_block(r: &mut Random, footprint: usize) -> SymbolicBlock {
     if r.once_in(16) { void_extent(r) } else { mode_block(r, footprint) }
 }
 
-/// A block with fault 20, and for each texel 1 where its partition's mode is HDR.
+/// An acceptable HDR symbolic block, now and then a void extent.
+pub fn hdr_symbolic_block(r: &mut Random, footprint: usize) -> SymbolicBlock {
+    if r.once_in(16) { hdr_void_extent(r) } else { hdr_mode_block(r, footprint) }
+}
+
+/// An acceptable symbolic block, LDR or HDR.
+pub fn any_symbolic_block(r: &mut Random, footprint: usize) -> SymbolicBlock {
+    if r.once_in(2) { symbolic_block(r, footprint) } else { hdr_symbolic_block(r, footprint) }
+}
+
+/// A block with fault 20 in kinds 0 and 1, and for each texel 1 where its partition's mode is HDR.
 pub fn fault20_block(r: &mut Random, footprint: usize) -> ([u8; 16], Vec<u8>) {
     let mut s = loop {
         let s = settings(r, true);
@@ -196,7 +262,7 @@ pub fn loose_block(r: &mut Random, footprint: usize, s: &SymbolicBlock) -> [u8; 
     });
     *r = rng;
     let mut block = block;
-    if let Ok(Settings::Mode(m)) = parse(footprint, block) {
+    if let Ok(Settings::Mode(m)) = parse(footprint, true, block) {
         let used = bit_count(ENDPOINT_RANGES[m.endpoint_range], m.endpoint_count as u32);
         for bit in m.endpoint_start + used..m.spare_end {
             block |= ((r.word() & 1) as u128) << bit;

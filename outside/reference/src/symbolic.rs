@@ -1,13 +1,14 @@
 //! Symbolic blocks (01's sheets): a block's fields as numbers; reading, writing, their picture.
 
 use crate::block::{Settings, bad_extents, endpoint_range, is_hdr, numbers_of_mode, parse};
-use crate::colour::{Pair, Pattern, endpoint_pair, expand, grid_factors, grid_place};
+use crate::colour::{Pattern, endpoint_pair, expand, grid_factors, grid_place};
+use crate::hdr::{expanded_pair, half, hdr_channels, submode};
 use crate::sequence::{bit_count, pack_by, smallest_code, unpack};
 use crate::tables::{Digit, ENDPOINT_RANGES, ENDPOINTS, WEIGHT_RANGES, WEIGHTS, mode_number};
 use crate::{FOOTPRINTS, Kind};
 
 /// Numbers of the flat form.
-pub const NUMBERS: usize = 103;
+pub const NUMBERS: usize = 104;
 
 /// Endpoint numbers and weights as stored, in stream order.
 #[derive(Clone, Copy, PartialEq, Eq, Debug)]
@@ -27,6 +28,8 @@ pub struct SymbolicBlock {
     pub modes: [u16; 4],
     pub endpoints: [u16; 18],
     pub weights: [u16; 64],
+    /// 1 for HDR: bit 9 of a void extent; some partition's mode of any other.
+    pub hdr: u16,
 }
 
 impl SymbolicBlock {
@@ -45,6 +48,7 @@ impl SymbolicBlock {
         modes: [0; 4],
         endpoints: [0; 18],
         weights: [0; 64],
+        hdr: 0,
     };
 
     /// All fields in the order of their declaration.
@@ -66,6 +70,7 @@ impl SymbolicBlock {
         numbers[17..21].copy_from_slice(&self.modes);
         numbers[21..39].copy_from_slice(&self.endpoints);
         numbers[39..103].copy_from_slice(&self.weights);
+        numbers[103] = self.hdr;
         numbers
     }
 
@@ -79,6 +84,7 @@ impl SymbolicBlock {
         s.modes.copy_from_slice(&numbers[17..21]);
         s.endpoints.copy_from_slice(&numbers[21..39]);
         s.weights.copy_from_slice(&numbers[39..103]);
+        s.hdr = numbers[103];
         s
     }
 
@@ -93,6 +99,11 @@ impl SymbolicBlock {
 
     fn used_modes(&self) -> &[u16] {
         &self.modes[..self.partitions as usize]
+    }
+
+    /// Some partition's mode is HDR.
+    pub fn some_hdr(&self) -> bool {
+        self.used_modes().iter().any(|&m| is_hdr(m as u8))
     }
 
     pub(crate) fn endpoint_count(&self) -> usize {
@@ -115,19 +126,34 @@ impl SymbolicBlock {
         endpoint_range(self.endpoint_count(), self.endpoint_bits()).unwrap()
     }
 
+    /// Mode and submode (`hdr::submode`) of each HDR partition, for an acceptable mode block.
+    pub fn hdr_submodes(&self) -> Vec<(u8, usize)> {
+        let numbers = self.endpoints.map(|v| ENDPOINTS[self.endpoint_range()][v as usize]);
+        let mut first = 0;
+        let mut found = Vec::new();
+        for mode in self.used_modes().iter().map(|&m| m as u8) {
+            if is_hdr(mode) {
+                found.push((mode, submode(mode, &numbers[first..])));
+            }
+            first += numbers_of_mode(mode);
+        }
+        found
+    }
+
     /// The largest endpoint number, for an acceptable mode block.
     pub fn endpoint_most(&self) -> u16 {
         ENDPOINT_RANGES[self.endpoint_range()].most
     }
 }
 
-/// The symbolic block of a block without fault, else the fault.
+/// The symbolic block of a block without fault by kind 2's list, else the fault.
 pub fn read(footprint: usize, block: &[u8; 16]) -> Result<SymbolicBlock, u8> {
     let block = u128::from_le_bytes(*block);
     let mut s = SymbolicBlock::ZERO;
-    match parse(footprint, block)? {
-        Settings::VoidExtent { colours, extents } => {
+    match parse(footprint, true, block)? {
+        Settings::VoidExtent { hdr, colours, extents } => {
             s.mark = 1;
+            s.hdr = hdr as u16;
             s.colours = colours;
             s.extents = extents;
         }
@@ -141,6 +167,7 @@ pub fn read(footprint: usize, block: &[u8; 16]) -> Result<SymbolicBlock, u8> {
             s.index = m.index;
             s.selector = m.selector;
             s.modes = m.modes.map(u16::from);
+            s.hdr = s.some_hdr() as u16;
             let endpoints = ENDPOINT_RANGES[m.endpoint_range];
             unpack(endpoints, m.endpoint_count, block >> m.endpoint_start, |i, v| s.endpoints[i] = v);
             let weights = WEIGHT_RANGES[m.grid.range as usize];
@@ -163,8 +190,8 @@ pub fn refusal(footprint: usize, s: &SymbolicBlock) -> u8 {
 }
 
 fn void_extent_refusal(s: &SymbolicBlock) -> u8 {
-    let used = SymbolicBlock { mark: 1, colours: s.colours, extents: s.extents, ..SymbolicBlock::ZERO };
-    if *s != used || s.extents.iter().any(|&e| e > 8191) {
+    let used = SymbolicBlock { mark: 1, colours: s.colours, extents: s.extents, hdr: s.hdr, ..SymbolicBlock::ZERO };
+    if *s != used || s.hdr > 1 || s.extents.iter().any(|&e| e > 8191) {
         return 31;
     }
     if bad_extents(s.extents) { 12 } else { 0 }
@@ -172,7 +199,7 @@ fn void_extent_refusal(s: &SymbolicBlock) -> u8 {
 
 /// Refusal 31 of a mode block: a field outside its limits, or an unused one not 0.
 fn outside_limits(s: &SymbolicBlock) -> bool {
-    if s.colours != [0; 4] || s.extents != [0; 4] {
+    if s.hdr > 1 || s.colours != [0; 4] || s.extents != [0; 4] {
         return true;
     }
     if !(2..=12).contains(&s.width) || !(2..=12).contains(&s.height) || s.range > 11 {
@@ -227,7 +254,7 @@ fn mode_refusal(footprint: usize, s: &SymbolicBlock) -> u8 {
     if s.endpoint_bits() < (13 * count as i32 + 4) / 5 {
         return 19;
     }
-    if modes.iter().any(|&m| is_hdr(m as u8)) {
+    if s.hdr == 0 && s.some_hdr() {
         return 20;
     }
     let endpoint_most = ENDPOINT_RANGES[s.endpoint_range()].most;
@@ -238,7 +265,7 @@ fn mode_refusal(footprint: usize, s: &SymbolicBlock) -> u8 {
     if above(&s.endpoints, count, endpoint_most) || above(&s.weights, s.weight_count(), weight_most) {
         return 34;
     }
-    0
+    if s.hdr == 1 && !s.some_hdr() { 35 } else { 0 }
 }
 
 /// The block of a symbolic block: smallest codes, spare bits 0; else the first refusal.
@@ -252,7 +279,7 @@ pub fn write(footprint: usize, s: &SymbolicBlock) -> Result<[u8; 16], u8> {
 /// The block of an acceptable symbolic block; `code` picks the code of a group's present digits.
 pub(crate) fn write_by(s: &SymbolicBlock, mut code: impl FnMut(Digit, &[u8]) -> u8) -> u128 {
     if s.mark == 1 {
-        let mut block = 0b1101_1111_1100u128;
+        let mut block = 0b1101_1111_1100u128 | (s.hdr as u128) << 9;
         for i in 0..4 {
             block |= (s.extents[i] as u128) << (12 + 13 * i);
             block |= (s.colours[i] as u128) << (64 + 16 * i);
@@ -293,12 +320,15 @@ pub(crate) fn write_by(s: &SymbolicBlock, mut code: impl FnMut(Digit, &[u8]) -> 
     block | pack_by(ENDPOINT_RANGES[s.endpoint_range()], endpoints, &mut code) << endpoint_start
 }
 
-/// The texel at x, y of an acceptable symbolic block, from its numbers alone.
+/// The texel at x, y of an acceptable symbolic block, from its numbers alone. An HDR one has no picture in kinds 0 and 1.
 pub fn picture(footprint: usize, kind: Kind, s: &SymbolicBlock, x: usize, y: usize) -> [u16; 4] {
+    assert!(s.hdr == 0 || kind.takes_hdr());
     if s.mark == 1 {
         return match kind {
             Kind::Unorm16 => s.colours,
             Kind::Srgb8 => s.colours.map(|c| c >> 8),
+            Kind::Float16 if s.hdr == 1 => s.colours,
+            Kind::Float16 => s.colours.map(|c| half(false, c)),
         };
     }
     let (width, height) = FOOTPRINTS[footprint];
@@ -307,30 +337,36 @@ pub fn picture(footprint: usize, kind: Kind, s: &SymbolicBlock, x: usize, y: usi
     } else {
         Pattern::new(s.index, s.partitions as usize, width * height < 31).partition(x, y)
     };
-    let pair = pair_of(s, partition);
+    let pair = pair_of(s, kind, partition);
+    let hdr = hdr_channels(s.modes[partition] as u8);
     let planes: Vec<u32> = (0..s.planes as usize).map(|p| weight_at(footprint, s, p, x, y)).collect();
     let mut texel = [0; 4];
     for channel in 0..4 {
         let second = s.planes == 2 && s.plane_channel as usize == channel;
         let i = planes[second as usize];
-        let [c0, c1] = [0, 1].map(|e| expand(kind, pair[e][channel]));
+        let [c0, c1] = [0, 1].map(|e| pair[e][channel]);
         let c = (c0 * (64 - i) + c1 * i + 32) / 64;
         texel[channel] = match kind {
             Kind::Unorm16 => c as u16,
             Kind::Srgb8 => (c / 256) as u16,
+            Kind::Float16 => half(hdr[channel], c as u16),
         };
     }
     texel
 }
 
-/// Endpoint pair of a partition: its numbers follow those of the partitions before it.
-fn pair_of(s: &SymbolicBlock, partition: usize) -> Pair {
+/// Endpoint pair of a partition, expanded for the kind: its numbers follow those of the partitions before it.
+fn pair_of(s: &SymbolicBlock, kind: Kind, partition: usize) -> [[u32; 4]; 2] {
     let count = |p: usize| numbers_of_mode(s.modes[p] as u8);
     let first: usize = (0..partition).map(count).sum();
     let range = s.endpoint_range();
     let numbers: Vec<u8> =
         s.endpoints[first..first + count(partition)].iter().map(|&v| ENDPOINTS[range][v as usize]).collect();
-    endpoint_pair(s.modes[partition] as u8, &numbers)
+    let mode = s.modes[partition] as u8;
+    match kind {
+        Kind::Float16 => expanded_pair(mode, &numbers).map(|end| end.map(|c| c as u32)),
+        _ => endpoint_pair(mode, &numbers).map(|end| end.map(|c| expand(kind, c))),
+    }
 }
 
 /// Weight of a plane at x, y. A neighbour outside the grid counts 0 and isn't read.

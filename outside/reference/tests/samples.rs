@@ -52,14 +52,19 @@ fn program() {
 
 #[test]
 fn faults() {
-    assert_eq!(fault(0, &[0; 16]), 11);
-    assert_eq!(fault(0, &[255; 16]), 14);
-    assert_eq!(fault(2, &[255; 16]), 16);
+    for kind in Kind::ALL {
+        assert_eq!(fault(0, kind, &[0; 16]), 11);
+        assert_eq!(fault(0, kind, &[255; 16]), 14);
+        assert_eq!(fault(2, kind, &[255; 16]), 16);
+    }
     let solid = "FF FF FF FF FF FF 01 02 03 04 05 06 07 08";
     for footprint in 0..14 {
-        assert_eq!(fault(footprint, &hex(&format!("FC FD {solid}"))), 0);
-        assert_eq!(fault(footprint, &hex(&format!("FC FF {solid}"))), 13);
-        assert_eq!(fault(footprint, &hex(&format!("FC F9 {solid}"))), 12);
+        for kind in Kind::ALL {
+            assert_eq!(fault(footprint, kind, &hex(&format!("FC FD {solid}"))), 0);
+            assert_eq!(fault(footprint, kind, &hex(&format!("FC FF {solid}"))), if kind.takes_hdr() { 0 } else { 13 });
+            assert_eq!(fault(footprint, kind, &hex(&format!("FC F9 {solid}"))), 12);
+            assert_eq!(fault(footprint, kind, &hex(&format!("FC FB {solid}"))), 12);
+        }
     }
     let mut out = [0; 64];
     assert_eq!(decode(0, Kind::Unorm16, &hex(&format!("FC FD {solid}")), &mut out), 0);
@@ -70,6 +75,63 @@ fn faults() {
     assert_eq!(out[60..], [65535, 0, 65535, 65535]);
     assert_eq!(decode(0, Kind::Srgb8, &[0; 16], &mut out), 11);
     assert_eq!(out[..4], [255, 0, 255, 255]);
+    assert_eq!(decode(0, Kind::Float16, &[0; 16], &mut out), 11);
+    assert_eq!(out[..8], [65535; 8]);
+}
+
+/// 02, i: an HDR solid block shows its colours as stored, an LDR one the half floats of its.
+#[test]
+fn solid_in_kind_2() {
+    let extents = "FF FF FF FF FF FF";
+    let mut out = [0; 64];
+    // infinity, a signalling NaN, a negative number, 65535
+    let hdr = hex(&format!("FC FF {extents} 00 7C 01 FD 34 92 FF FF"));
+    assert_eq!(decode(0, Kind::Float16, &hdr, &mut out), 0);
+    assert!(out.chunks(4).all(|t| t == [0x7C00, 0xFD01, 0x9234, 0xFFFF]));
+    let ldr = hex(&format!("FC FD {extents} 00 7C 01 FD 03 00 FF FF"));
+    assert_eq!(decode(0, Kind::Float16, &ldr, &mut out), 0);
+    assert!(out.chunks(4).all(|t| t == [0x37C0, 0x3BE8, 0x0300, 0x3C00]));
+    let s = read(0, &hdr).unwrap();
+    assert_eq!((s.mark, s.hdr, s.colours), (1, 1, [0x7C00, 0xFD01, 0x9234, 0xFFFF]));
+    assert_eq!(write(0, &s), Ok(hdr));
+    assert_eq!(read(0, &ldr).unwrap().hdr, 0);
+}
+
+/// 02, i: the HDR mark of a mode sheet.
+#[test]
+fn hdr_mark() {
+    let mut s = SymbolicBlock::ZERO;
+    (s.width, s.height, s.range, s.planes, s.partitions) = (4, 4, 2, 1, 1);
+    assert_eq!(refusal(0, &s), 0);
+    s.hdr = 1;
+    assert_eq!(refusal(0, &s), 35);
+    s.weights[63] = 1;
+    assert_eq!(refusal(0, &s), 34);
+    s.hdr = 2;
+    assert_eq!(refusal(0, &s), 31);
+    s.weights[63] = 0;
+    for mode in 0..16 {
+        s.modes[0] = mode;
+        let hdr = [2, 3, 7, 11, 14, 15].contains(&mode);
+        s.hdr = 0;
+        assert_eq!(refusal(0, &s), if hdr { 20 } else { 0 });
+        s.hdr = 1;
+        assert_eq!(refusal(0, &s), if hdr { 0 } else { 35 });
+    }
+    // some partition is enough
+    s.partitions = 2;
+    s.selector = 1;
+    s.modes = [0, 2, 0, 0];
+    assert_eq!(refusal(0, &s), 0);
+    s.hdr = 0;
+    assert_eq!(refusal(0, &s), 20);
+    // a mode past the count is no partition's: it is unused
+    s.modes = [0, 0, 2, 0];
+    assert_eq!(refusal(0, &s), 31);
+    let solid = SymbolicBlock { mark: 1, hdr: 2, extents: [8191; 4], ..SymbolicBlock::ZERO };
+    assert_eq!(refusal(0, &solid), 31);
+    assert_eq!(refusal(0, &SymbolicBlock { hdr: 1, ..solid }), 0);
+    assert_eq!(refusal(0, &SymbolicBlock { hdr: 1, extents: [1, 1, 0, 1], ..solid }), 12);
 }
 
 /// Endpoints 0 and 1 at weight 32 in all channels: 129 in kind 0; 1 in kind 1, alpha too (02, request d).

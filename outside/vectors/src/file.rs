@@ -25,10 +25,15 @@ impl StoredFile {
         self.srgb.chunks(4).flat_map(|t| &t[..3]).copied().collect()
     }
 
-    /// Whether these are its texels: all channels of kind 0, as far as half floats tell them, and of kind 1.
-    pub fn shows(&self, unorm16: &[u16], srgb8: &[u8]) -> bool {
-        let halves = self.halves.as_chunks::<2>().0.iter().map(|&h| u16::from_le_bytes(h));
-        halves.eq(unorm16.iter().map(|&c| crate::half_float(c))) && srgb8 == self.srgb
+    /// Its texels as half floats.
+    pub fn half_floats(&self) -> Vec<u16> {
+        self.halves.as_chunks::<2>().0.iter().map(|&h| u16::from_le_bytes(h)).collect()
+    }
+
+    /// Whether these are its texels: all channels of kind 0, as far as half floats tell them, of kind 1 and of kind 2.
+    pub fn shows(&self, unorm16: &[u16], srgb8: &[u8], float16: &[u16]) -> bool {
+        let halves = self.half_floats();
+        halves.iter().copied().eq(unorm16.iter().map(|&c| crate::half_float(c))) && srgb8 == self.srgb && float16 == halves
     }
 }
 

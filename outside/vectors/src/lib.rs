@@ -21,6 +21,8 @@ pub struct Decoder<'a> {
     pub unorm16: &'a Call<u16>,
     /// Kind 1.
     pub srgb8: &'a Call<u8>,
+    /// Kind 2.
+    pub float16: &'a Call<u16>,
 }
 
 /// The stored files.
@@ -33,6 +35,10 @@ pub struct Files<'a> {
     pub illegal: &'a [u8],
     /// Footprint, block: HDR, so wholly or partly the error colour in LDR decodings only.
     pub hdr: &'a [u8],
+    /// Footprint, block, then for each texel four half floats: HDR.
+    pub float16: &'a [u8],
+    /// Footprint, block, CRC-32 of all half floats: HDR.
+    pub float16_digests: &'a [u8],
 }
 
 /// The files beside this crate.
@@ -41,13 +47,15 @@ pub const STORED: Files<'static> = Files {
     digests: include_bytes!("../data/digests.bin"),
     illegal: include_bytes!("../data/illegal.bin"),
     hdr: include_bytes!("../data/hdr.bin"),
+    float16: include_bytes!("../data/float16.bin"),
+    float16_digests: include_bytes!("../data/float16_digests.bin"),
 };
 
 /// What a check found.
 #[derive(Default, Debug)]
 pub struct Outcome {
-    /// Blocks of each file that agree: texels, digests, illegal, hdr.
-    pub passed: [u64; 4],
+    /// Blocks of each file that agree: texels, digests, illegal, hdr, float16, float16_digests.
+    pub passed: [u64; 6],
     /// Those that don't, described.
     pub failed: Vec<String>,
 }
@@ -71,6 +79,16 @@ pub fn half_float(c: u16) -> u16 {
     ((top + 15 - 16) << 10 | mantissa) as u16
 }
 
+/// The half float that astcenc shows for a colour of an HDR void extent: a NaN becomes a quiet one, all others stay.
+pub fn quiet(pattern: u16) -> u16 {
+    if pattern & 0x7FFF > 0x7C00 { pattern | 0x200 } else { pattern }
+}
+
+/// An HDR void extent shows its colours as stored (02, i), where astcenc shows them quiet.
+fn is_hdr_void_extent(block: &[u8; 16]) -> bool {
+    block[0] == 0xFC && block[1] & 0x0F == 0x0F
+}
+
 /// CRC-32 as zlib computes it.
 pub fn crc32(bytes: &[u8]) -> u32 {
     const TABLE: [u32; 256] = {
@@ -90,22 +108,58 @@ pub fn crc32(bytes: &[u8]) -> u32 {
     !bytes.iter().fold(!0, |c, &b| c >> 8 ^ TABLE[(c as u8 ^ b) as usize])
 }
 
+fn little_endian(numbers: impl IntoIterator<Item = u16>) -> Vec<u8> {
+    numbers.into_iter().flat_map(u16::to_le_bytes).collect()
+}
+
 /// Fault, half floats (little-endian) and sRGB bytes that astcenc must show if the decoder is right;
-/// 255 where its two kinds contradict each other.
+/// 255 where its kinds contradict each other.
 fn as_astcenc(decoder: &Decoder, footprint: usize, block: &[u8; 16]) -> (u8, Vec<u8>, Vec<u8>) {
     let (width, height) = FOOTPRINTS[footprint];
     let mut numbers = vec![0; 4 * width * height];
     let mut bytes = vec![0; 4 * width * height];
     let fault = (decoder.unorm16)(footprint, block, &mut numbers);
     let other = (decoder.srgb8)(footprint, block, &mut bytes);
-    if other != fault {
+    let mut shown = vec![0; 4 * width * height];
+    let third = (decoder.float16)(footprint, block, &mut shown);
+    let halves: Vec<u16> = numbers.iter().map(|&c| half_float(c)).collect();
+    if (other, third) != (fault, fault) || halves != shown {
         return (255, Vec::new(), Vec::new());
     }
-    let halves = numbers.iter().flat_map(|&c| half_float(c).to_le_bytes()).collect();
-    (fault, halves, bytes)
+    (fault, little_endian(halves), bytes)
 }
 
-/// All texels the error colour, and the fault one of these.
+/// The half floats (little-endian) that astcenc must show of an HDR block if the decoder is right; none where it tells a fault in kind 2, or
+/// shows other colours of a void extent than the stored ones.
+fn hdr_as_astcenc(decoder: &Decoder, footprint: usize, block: &[u8; 16]) -> Option<Vec<u8>> {
+    let (width, height) = FOOTPRINTS[footprint];
+    let mut shown = vec![0; 4 * width * height];
+    if (decoder.float16)(footprint, block, &mut shown) != 0 {
+        return None;
+    }
+    if is_hdr_void_extent(block) {
+        if little_endian(shown.iter().copied()).chunks(8).any(|t| t != &block[8..]) {
+            return None;
+        }
+        shown = shown.into_iter().map(quiet).collect();
+    }
+    Some(little_endian(shown))
+}
+
+/// No fault in kind 2.
+fn is_sound(decoder: &Decoder, footprint: usize, block: &[u8; 16]) -> bool {
+    let (width, height) = FOOTPRINTS[footprint];
+    (decoder.float16)(footprint, block, &mut vec![0; 4 * width * height]) == 0
+}
+
+/// All texels 65535 in kind 2, as astcenc's NaN, and the fault one of these.
+fn is_nan(decoder: &Decoder, footprint: usize, block: &[u8; 16], faults: &[u8]) -> bool {
+    let (width, height) = FOOTPRINTS[footprint];
+    let mut shown = vec![0; 4 * width * height];
+    faults.contains(&(decoder.float16)(footprint, block, &mut shown)) && shown.iter().all(|&h| h == 65535)
+}
+
+/// All texels the error colour in kinds 0 and 1, and the fault one of these.
 fn is_error(decoder: &Decoder, footprint: usize, block: &[u8; 16], faults: &[u8]) -> bool {
     let (width, height) = FOOTPRINTS[footprint];
     let mut numbers = vec![0; 4 * width * height];
@@ -157,13 +211,32 @@ pub fn check(decoder: &Decoder, files: &Files) -> Outcome {
     let mut file = files.illegal;
     while !file.is_empty() {
         let (footprint, block) = head(&mut file);
-        let agrees = is_error(decoder, footprint, &block, &[11, 12, 14, 15, 16, 17, 18, 19]);
+        let faults = [11, 12, 14, 15, 16, 17, 18, 19];
+        let agrees = is_error(decoder, footprint, &block, &faults) && is_nan(decoder, footprint, &block, &faults);
         note(2, "illegal", footprint, &block, agrees);
     }
     let mut file = files.hdr;
     while !file.is_empty() {
         let (footprint, block) = head(&mut file);
-        note(3, "HDR", footprint, &block, is_error(decoder, footprint, &block, &[13, 20]));
+        let agrees = is_error(decoder, footprint, &block, &[13, 20]) && is_sound(decoder, footprint, &block);
+        note(3, "HDR", footprint, &block, agrees);
+    }
+    let mut file = files.float16;
+    while !file.is_empty() {
+        let (footprint, block) = head(&mut file);
+        let (width, height) = FOOTPRINTS[footprint];
+        let expected = record(&mut file, 8 * width * height);
+        let agrees = hdr_as_astcenc(decoder, footprint, &block).is_some_and(|halves| halves == expected)
+            && is_error(decoder, footprint, &block, &[13, 20]);
+        note(4, "float16", footprint, &block, agrees);
+    }
+    let mut file = files.float16_digests;
+    while !file.is_empty() {
+        let (footprint, block) = head(&mut file);
+        let expected = u32::from_le_bytes(record(&mut file, 4).try_into().unwrap());
+        let agrees = hdr_as_astcenc(decoder, footprint, &block).is_some_and(|halves| crc32(&halves) == expected)
+            && is_error(decoder, footprint, &block, &[13, 20]);
+        note(5, "float16 digest", footprint, &block, agrees);
     }
     outcome
 }
@@ -189,6 +262,12 @@ mod tests {
         }
         assert_eq!(half_float(65535), 0x3C00);
         assert_eq!(half_float(21504), 0x3540);
+    }
+
+    #[test]
+    fn quiet_nans() {
+        assert_eq!([0x7C00, 0xFC00, 0x7C01, 0xFDFF].map(quiet), [0x7C00, 0xFC00, 0x7E01, 0xFFFF]);
+        assert_eq!([0x7E00, 0x03FF, 0x8000].map(quiet), [0x7E00, 0x03FF, 0x8000]);
     }
 
     #[test]

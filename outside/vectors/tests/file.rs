@@ -1,6 +1,6 @@
 //! The reference opens the stored files and shows them as astcenc does; every footprint is among them.
 
-use reference::{FileHeader, decode_image_u8, decode_image_u16, file_header, read_file};
+use reference::{FileHeader, decode_image_f16, decode_image_u8, decode_image_u16, file_header, read_file};
 
 #[test]
 fn reference_agrees() {
@@ -14,7 +14,9 @@ fn reference_agrees() {
         let (f, w, h) = (said.footprint as usize, said.width as usize, said.height as usize);
         decode_image_u16(f, w, h, blocks, &mut numbers);
         decode_image_u8(f, w, h, blocks, &mut bytes);
-        assert!(file.shows(&numbers, &bytes), "{said:?}");
+        let mut halves = vec![0; file.numbers()];
+        decode_image_f16(f, w, h, blocks, &mut halves);
+        assert!(file.shows(&numbers, &bytes, &halves), "{said:?}");
         footprints.insert(said.footprint);
     }
     assert!(footprints.into_iter().eq(0..14));

@@ -2,7 +2,6 @@ use mathlib.Core.Path.{sym, _∙_}
 use denote.Ref.{now}
 use lib.ListN.{length}
 use borrow.Author.Needs.{needs}
-use Rattle.interpolation.specs.declared.Kind.the-variants.{Unorm16}
 use Rattle.image_layout.proofs.Calls.{Passed, accepted, refused, decoded}
 use Rattle.image.proofs.answer_numbers.Statement.{statement}
 use Rattle.image.proofs.answer_numbers.Tie as tie
@@ -10,7 +9,7 @@ use Rattle.image.proofs.answer_numbers.Tie as tie
 -- what is known of an accepted image
 passed : (c : tie.After-checked2) → let a = c .before .before .before .before .args in
     Passed (a .footprint) (a .width) (a .height) (length (now (a .blocks))) (length (now (a .out))) (c .checked2 .given .0 .0)
-passed c = accepted _ _ _ _ _ _ (sym (c .before .before .before .before .pre) ∙ c .checked2 .given .1)
+passed c = accepted _ _ _ _ _ _ (sym (c .before .before .before .before .pre .1) ∙ c .checked2 .given .1)
 
 enum-known-checked : tie.Need-enum-known-checked
 enum-known-checked c = search needs
@@ -19,12 +18,12 @@ enum-known-checked-2 : tie.Need-enum-known-checked-2
 enum-known-checked-2 c = search needs
 
 decode-numbers-requires : tie.Need-decode-numbers-requires
-decode-numbers-requires c κs = let o = passed (c .before .before) in (o .is-sound, (o .exact-bytes, o .exact-places))
+decode-numbers-requires c κs = let o = passed (c .before .before) in (c .before .before .before .before .before .before .pre .0, (o .is-sound, (o .exact-bytes, o .exact-places)))
 
 returns : tie.Need-returns
 returns c = let s = c .before .before .before .before .before in
     let a = s .args in
-    refused (a .footprint) Unorm16 (a .width) (a .height) (now (a .blocks)) (now (a .out)) _ (sym (s .pre) ∙ c .before .checked .given .1)
+    refused (a .footprint) (a .kind) (a .width) (a .height) (now (a .blocks)) (now (a .out)) _ (sym (s .pre .1) ∙ c .before .checked .given .1)
 
 same-length : tie.Need-same-length
 same-length c = search needs
@@ -34,7 +33,7 @@ returns-2 c = let k = c .before .before in
     let d = k .before .before .before in
     let s = d .before .before .before .before in
     let a = s .args in
-    decoded (a .footprint) Unorm16 (a .width) (a .height) (now (a .blocks)) (now (a .out)) _ _ _ (sym (s .pre) ∙ d .checked2 .given .1)
+    decoded (a .footprint) (a .kind) (a .width) (a .height) (now (a .blocks)) (now (a .out)) _ _ _ (sym (s .pre .1) ∙ d .checked2 .given .1)
     (k .decode-numbers .ensures .0) (k .decode-numbers .ensures .1)
 
 pub answer-numbers-spec : {M : Type 1} → statement M

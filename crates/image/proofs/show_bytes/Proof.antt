@@ -1,4 +1,3 @@
-use mathlib.Core.Bool.{false}
 use mathlib.Core.Path.{ap, _∙_}
 use denote.Ref.{now}
 use Rattle.block_core.proofs.Shows.{held}
@@ -6,6 +5,7 @@ use borrow.Author.Needs.{needs}
 use Rattle.image_layout.specs.Numbers.{faultAt}
 use Rattle.block_fault.specs.Faults.{faultOf}
 use Rattle.interpolation.specs.declared.Kind.the-variants.{Srgb8}
+use Rattle.interpolation.specs.Expansion.{takesHdr}
 use Rattle.image_layout.proofs.Parts.{block-shown}
 use Rattle.image.proofs.show_bytes.Statement.{statement}
 use Rattle.image.proofs.show_bytes.Tie as tie
@@ -33,7 +33,7 @@ returns c = let k = c .before .before in
     let a = b .before .before .before .before .args in
     let p = b .before .before .before .before .pre in
     let h = held _ _ _ _ _ (p .1 .1 .1 .1) (d .decode-into .ensures .1 (p .1 .1 .1 .1)) in (
-      d .decode-into .ensures .0 ∙ ap (faultOf false _) (b .block-of .ensures),
+      d .decode-into .ensures .0 ∙ ap (faultOf (takesHdr Srgb8) _) (b .block-of .ensures),
       (
         block-shown Srgb8 (a .g) (p .0) (now (a .s)) (a .b) _ _ _ (now (a .out)) _ (b .before .part-of .ensures) (b .block-of .ensures) (h .holds) (k .place-bytes .ensures),
         h .size,

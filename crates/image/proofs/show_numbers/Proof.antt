@@ -1,11 +1,11 @@
-use mathlib.Core.Bool.{false}
 use mathlib.Core.Path.{ap, _∙_}
 use denote.Ref.{now}
 use Rattle.block_core.proofs.Shows.{held}
 use borrow.Author.Needs.{needs}
 use Rattle.image_layout.specs.Numbers.{faultAt}
 use Rattle.block_fault.specs.Faults.{faultOf}
-use Rattle.interpolation.specs.declared.Kind.the-variants.{Unorm16}
+use Rattle.interpolation.specs.Expansion.{takesHdr}
+use Rattle.image_layout.proofs.Regions.{placed-words}
 use Rattle.image_layout.proofs.Parts.{block-shown}
 use Rattle.image.proofs.show_numbers.Statement.{statement}
 use Rattle.image.proofs.show_numbers.Tie as tie
@@ -32,10 +32,10 @@ returns c = let k = c .before .before in
     let b = d .before .before in
     let a = b .before .before .before .before .args in
     let p = b .before .before .before .before .pre in
-    let h = held _ _ _ _ _ (p .1 .1 .1 .1) (d .decode-into .ensures .1 (p .1 .1 .1 .1)) in (
-      d .decode-into .ensures .0 ∙ ap (faultOf false _) (b .block-of .ensures),
+    let h = held _ _ _ _ _ (p .1 .1 .1 .1 .1) (d .decode-into .ensures .1 (p .1 .1 .1 .1 .1)) in (
+      d .decode-into .ensures .0 ∙ ap (faultOf (takesHdr (a .kind)) _) (b .block-of .ensures),
       (
-        block-shown Unorm16 (a .g) (p .0) (now (a .s)) (a .b) _ _ _ (now (a .out)) _ (b .before .part-of .ensures) (b .block-of .ensures) (h .holds) (k .place-numbers .ensures),
+        block-shown (a .kind) (a .g) (p .1 .0) (now (a .s)) (a .b) _ _ _ (now (a .out)) _ (b .before .part-of .ensures) (b .block-of .ensures) (h .holds) (placed-words (a .kind) (p .0) _ _ _ _ _ _ _ _ _ (k .place-numbers .ensures)),
         h .size,
       ),
     )

@@ -18,7 +18,7 @@ returns : tie.Need-returns
 returns c =
     let st = c .before .before .before .args in
     let h : blockRefusal (st .fp) (length (now (st .block))) (length (now (st .out))) ≡ 0 → ⊥ = λ q. c .if1 .taken (c .before .before .before .pre ∙ q) in
-    promised Srgb8 (st .fp) (now (st .block)) (now (st .out)) _ _ (ap Refused (c .before .before .before .pre) ∙ refused (st .fp) (now (st .block)) (now (st .out)) h) (untouched (st .fp) (now (st .block)) (now (st .out)) h Srgb8)
+    promised Srgb8 (st .fp) (now (st .block)) (now (st .out)) _ _ (ap Refused (c .before .before .before .pre) ∙ refused Srgb8 (st .fp) (now (st .block)) (now (st .out)) h) (untouched Srgb8 (st .fp) (now (st .block)) (now (st .out)) h)
 
 load-requires : tie.Need-load-requires
 load-requires c κs = search needs
@@ -48,9 +48,9 @@ returns-2 c =
     let s = now (st .block) in
     let old = now (st .out) in
     promised Srgb8 (st .fp) s old _ _
-    (c .answer-for .ensures ∙ ap answerFor (d .decode-into .ensures .0) ∙ told (st .fp) s old bytes _ (l .load .ensures) e)
+    (c .answer-for .ensures ∙ ap answerFor (d .decode-into .ensures .0) ∙ told Srgb8 (st .fp) s old bytes _ (l .load .ensures) e)
     (c .before .before .before .copy-bytes .ensures
-    ∙ copied (st .fp) s old bytes _ (l .load .ensures) e Srgb8 _ (λ x. x / 256) (λ x. refl) _ refl (d .decode-into .ensures .1 refl))
+    ∙ copied Srgb8 (st .fp) s old bytes _ (l .load .ensures) e _ (λ x. x / 256) (λ x. refl) _ refl (d .decode-into .ensures .1 refl))
 
 pub show-bytes-spec : {M : Type 1} → statement M
 show-bytes-spec =

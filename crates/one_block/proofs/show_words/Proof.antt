@@ -5,7 +5,6 @@ use Prim.Native.Nat.{ℕ}
 use native.Mathlib.Omega.{arith}
 use lib.ListN.{length}
 use borrow.Author.Needs.{needs}
-use Rattle.interpolation.specs.declared.Kind.the-variants.{Unorm16}
 use Rattle.block_answer.specs.declared.Answer.the-variants.{Refused}
 use Rattle.bits.proofs.Blocks.{Bytes}
 use Rattle.block_answer.specs.Told.{blockRefusal, answerFor}
@@ -17,8 +16,8 @@ use Rattle.one_block.proofs.show_words.Tie as tie
 returns : tie.Need-returns
 returns c =
     let st = c .before .before .before .args in
-    let h : blockRefusal (st .fp) (length (now (st .block))) (length (now (st .out))) ≡ 0 → ⊥ = λ q. c .if1 .taken (c .before .before .before .pre ∙ q) in
-    promised Unorm16 (st .fp) (now (st .block)) (now (st .out)) _ _ (ap Refused (c .before .before .before .pre) ∙ refused (st .fp) (now (st .block)) (now (st .out)) h) (untouched (st .fp) (now (st .block)) (now (st .out)) h Unorm16)
+    let h : blockRefusal (st .fp) (length (now (st .block))) (length (now (st .out))) ≡ 0 → ⊥ = λ q. c .if1 .taken (c .before .before .before .pre .0 ∙ q) in
+    promised (st .kind) (st .fp) (now (st .block)) (now (st .out)) _ _ (ap Refused (c .before .before .before .pre .0) ∙ refused (st .kind) (st .fp) (now (st .block)) (now (st .out)) h) (untouched (st .kind) (st .fp) (now (st .block)) (now (st .out)) h)
 
 load-requires : tie.Need-load-requires
 load-requires c κs = search needs
@@ -27,7 +26,7 @@ decode-into-requires : tie.Need-decode-into-requires
 decode-into-requires c κs = search needs
 
 none : (c : tie.Else1) → blockRefusal (c .before .before .before .args .fp) (length (now (c .before .before .before .args .block))) (length (now (c .before .before .before .args .out))) ≡ 0
-none c = sym (c .before .before .before .pre) ∙ c .if1 .left
+none c = sym (c .before .before .before .pre .0) ∙ c .if1 .left
 
 copy-words-requires : tie.Need-copy-words-requires
 copy-words-requires c κs = fits-in _ _ _ (none (c .before .before .before .before .before))
@@ -47,10 +46,10 @@ returns-2 c =
     let e = none (l .before) in
     let s = now (st .block) in
     let old = now (st .out) in
-    promised Unorm16 (st .fp) s old _ _
-    (c .answer-for .ensures ∙ ap answerFor (d .decode-into .ensures .0) ∙ told (st .fp) s old bytes _ (l .load .ensures) e)
+    promised (st .kind) (st .fp) s old _ _
+    (c .answer-for .ensures ∙ ap answerFor (d .decode-into .ensures .0) ∙ told (st .kind) (st .fp) s old bytes _ (l .load .ensures) e)
     (c .before .before .before .copy-words .ensures
-    ∙ copied (st .fp) s old bytes _ (l .load .ensures) e Unorm16 _ (λ x. x) (λ x. refl) _ refl (d .decode-into .ensures .1 refl))
+    ∙ copied (st .kind) (st .fp) s old bytes _ (l .load .ensures) e _ (λ x. x) (λ x. sym (l .before .before .before .before .pre .1 x)) _ refl (d .decode-into .ensures .1 refl))
 
 pub show-words-spec : {M : Type 1} → statement M
 show-words-spec =

@@ -18,11 +18,11 @@ mul-n c = search needs
 array-borrow-prefix-numbers : tie.Need-array-borrow-prefix-numbers
 array-borrow-prefix-numbers c = omega (arith, c .texels .ensures, texels-le (c .before .before .args .fp))
 
-slice-aggregate-decode-unorm16 : tie.Need-slice-aggregate-decode-unorm16
-slice-aggregate-decode-unorm16 c = sym (length-take-le _ _ (omega (arith, c .before .texels .ensures, texels-le (c .before .before .before .args .fp))))
+slice-aggregate-decode-float16 : tie.Need-slice-aggregate-decode-float16
+slice-aggregate-decode-float16 c = sym (length-take-le _ _ (omega (arith, c .before .texels .ensures, texels-le (c .before .before .before .args .fp))))
 
-decode-unorm16-requires : tie.Need-decode-unorm16-requires
-decode-unorm16-requires c κs = search needs
+decode-float16-requires : tie.Need-decode-float16-requires
+decode-float16-requires c κs = search needs
 
 returns : tie.Need-returns
 returns c = search needs
@@ -35,6 +35,6 @@ shown-spec =
     cast-n
     mul-n
     array-borrow-prefix-numbers
-    slice-aggregate-decode-unorm16
-    decode-unorm16-requires
+    slice-aggregate-decode-float16
+    decode-float16-requires
     returns)

@@ -37,7 +37,7 @@ returns c =
     let block = now (a .block) in
     let old = now (a .out) in
     let old2 = now (a .again) in
-    let e = four-together (a .fp) block (length old) (length old2) _ _ _ _
+    let e = four-together Srgb8 (a .fp) block (length old) (length old2) _ _ _ _
     (r .read-symbolic .ensures .0) (w .write-symbolic .ensures .0) (d .decode-srgb8 .ensures .0) (d2 .decode-srgb82 .ensures .0) in
     let f = d .decode-srgb8 .ensures .1 .0 in
     let g = d2 .decode-srgb82 .ensures .1 .0 in

@@ -30,8 +30,8 @@ sized c = record {
   colours-4 = search needs;
   extents-4 = search needs;
   modes-4 = search needs;
-  endpoints-18 = simp length-map at (c .good .1 .0 .1 .1 .1 .1 .1 .1 .1 .1 .1 .1 .1 .1 .1 .1 .0 .1 .0 .1);
-  weights-64 = simp length-map at (c .good .1 .0 .1 .1 .1 .1 .1 .1 .1 .1 .1 .1 .1 .1 .1 .1 .1 .0 .1 .0 .1);
+  endpoints-18 = simp length-map at (c .good .1 .0 .1 .1 .1 .1 .1 .1 .1 .1 .1 .1 .1 .1 .1 .1 .1 .0 .1 .0 .1);
+  weights-64 = simp length-map at (c .good .1 .0 .1 .1 .1 .1 .1 .1 .1 .1 .1 .1 .1 .1 .1 .1 .1 .1 .0 .1 .0 .1);
 }
 
 returns : tie.Need-returns
@@ -43,7 +43,7 @@ returns c =
     let fp = z .args .fp in
     let s = z .args .s in
     let old = now (z .args .out) in
-    let e = together fp s (length old) _ _ _ (w .write-symbolic .ensures .0) (r .read-symbolic .ensures .0) (d .decode-srgb8 .ensures .0) in
+    let e = together Srgb8 fp s (length old) _ _ _ (w .write-symbolic .ensures .0) (r .read-symbolic .ensures .0) (d .decode-srgb8 .ensures .0) in
     (e, (d .decode-srgb8 .ensures .1 .0, demanded Srgb8 fp s (sized z) old _ _ e (d .decode-srgb8 .ensures .1 .0)))
 
 pub round-trip-srgb8-spec : {M : Type 1} → statement M

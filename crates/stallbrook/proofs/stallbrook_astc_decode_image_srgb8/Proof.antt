@@ -15,7 +15,7 @@ refusal-or-5-requires c κs = search needs
 returns : tie.Need-returns
 returns c =
     let a = c .before .before .before .before .before .args in
-    let u = untold (imageTold (a .footprint) (a .width) (a .height) (now (a .blocks)) (length (now (a .out)))) (imageRefusal (a .footprint) (a .width) (a .height) (length (now (a .blocks))) (length (now (a .out)))) (imageOut (a .footprint) Srgb8 (a .width) (a .height) (now (a .blocks)) (now (a .out))) (now (a .out)) (now (a .tally)) (c .before .if1 .taken) in
+    let u = untold (imageTold (a .footprint) Srgb8 (a .width) (a .height) (now (a .blocks)) (length (now (a .out)))) (imageRefusal (a .footprint) (a .width) (a .height) (length (now (a .blocks))) (length (now (a .out)))) (imageOut (a .footprint) Srgb8 (a .width) (a .height) (now (a .blocks)) (now (a .out))) (now (a .out)) (now (a .tally)) (c .before .if1 .taken) in
     (c .refusal-or-5 .ensures ∙ u .number, (u .out, u .its-tally))
 
 decode-image-srgb8-requires : tie.Need-decode-image-srgb8-requires
@@ -43,7 +43,7 @@ returns-2 c =
     let a = d .before .before .before .before .before .before .args in
     let r = d .decode-image-srgb8 .ensures in
     let told = r .1 .0 in
-    let u = telling (imageTold (a .footprint) (a .width) (a .height) (now (a .blocks)) (length (now (a .out)))) (imageRefusal (a .footprint) (a .width) (a .height) (length (now (a .blocks))) (length (now (a .out)))) (imageOut (a .footprint) Srgb8 (a .width) (a .height) (now (a .blocks)) (now (a .out))) (now (a .out)) (now (a .tally)) (d .before .before .if1 .left) in (
+    let u = telling (imageTold (a .footprint) Srgb8 (a .width) (a .height) (now (a .blocks)) (length (now (a .out)))) (imageRefusal (a .footprint) (a .width) (a .height) (length (now (a .blocks))) (length (now (a .out)))) (imageOut (a .footprint) Srgb8 (a .width) (a .height) (now (a .blocks)) (now (a .out))) (now (a .out)) (now (a .tally)) (d .before .before .if1 .left) in (
       c .refusal-told .ensures ∙ ap (λ (t : Told). t .refusal) told ∙ u .number,
       (r .1 .1 ∙ u .out, p .put-tally .ensures ∙ ap tallyNumbers (p .before .before .tally-told .ensures ∙ ap tallyTold told) ∙ u .its-tally),
     )

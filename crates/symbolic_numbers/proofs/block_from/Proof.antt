@@ -16,32 +16,32 @@ weights-from-requires c κs = search needs
 array-read-t8 : tie.Need-array-read-t8
 array-read-t8 c = search needs
 
-shared-slice-read-t10 : tie.Need-shared-slice-read-t10
-shared-slice-read-t10 c = search needs
+array-read-t11 : tie.Need-array-read-t11
+array-read-t11 c = search needs
 
-shared-slice-read-t12 : tie.Need-shared-slice-read-t12
-shared-slice-read-t12 c = search needs
+shared-slice-read-t13 : tie.Need-shared-slice-read-t13
+shared-slice-read-t13 c = search needs
 
-shared-slice-read-t14 : tie.Need-shared-slice-read-t14
-shared-slice-read-t14 c = search needs
+shared-slice-read-t15 : tie.Need-shared-slice-read-t15
+shared-slice-read-t15 c = search needs
 
-shared-slice-read-t16 : tie.Need-shared-slice-read-t16
-shared-slice-read-t16 c = search needs
+shared-slice-read-t17 : tie.Need-shared-slice-read-t17
+shared-slice-read-t17 c = search needs
 
 shared-slice-read-t19 : tie.Need-shared-slice-read-t19
 shared-slice-read-t19 c = search needs
 
-shared-slice-read-t21 : tie.Need-shared-slice-read-t21
-shared-slice-read-t21 c = search needs
+shared-slice-read-t22 : tie.Need-shared-slice-read-t22
+shared-slice-read-t22 c = search needs
 
-shared-slice-read-t23 : tie.Need-shared-slice-read-t23
-shared-slice-read-t23 c = search needs
+shared-slice-read-t24 : tie.Need-shared-slice-read-t24
+shared-slice-read-t24 c = search needs
 
-shared-slice-read-t25 : tie.Need-shared-slice-read-t25
-shared-slice-read-t25 c = search needs
+shared-slice-read-t26 : tie.Need-shared-slice-read-t26
+shared-slice-read-t26 c = search needs
 
-array-read-t29 : tie.Need-array-read-t29
-array-read-t29 c = search needs
+shared-slice-read-t28 : tie.Need-shared-slice-read-t28
+shared-slice-read-t28 c = search needs
 
 array-read-t32 : tie.Need-array-read-t32
 array-read-t32 c = search needs
@@ -58,11 +58,11 @@ array-read-t41 c = search needs
 array-read-t44 : tie.Need-array-read-t44
 array-read-t44 c = search needs
 
-shared-slice-read-t46 : tie.Need-shared-slice-read-t46
-shared-slice-read-t46 c = search needs
+array-read-t47 : tie.Need-array-read-t47
+array-read-t47 c = search needs
 
-array-read-t49 : tie.Need-array-read-t49
-array-read-t49 c = search needs
+shared-slice-read-t49 : tie.Need-shared-slice-read-t49
+shared-slice-read-t49 c = search needs
 
 array-read-t52 : tie.Need-array-read-t52
 array-read-t52 c = search needs
@@ -75,6 +75,9 @@ array-read-t58 c = search needs
 
 array-read-t61 : tie.Need-array-read-t61
 array-read-t61 c = search needs
+
+array-read-t64 : tie.Need-array-read-t64
+array-read-t64 c = search needs
 
 returns : tie.Need-returns
 unfolding blockOver tab tabFrom
@@ -90,24 +93,25 @@ block-from-spec =
     endpoints-from-requires
     weights-from-requires
     array-read-t8
-    shared-slice-read-t10
-    shared-slice-read-t12
-    shared-slice-read-t14
-    shared-slice-read-t16
+    array-read-t11
+    shared-slice-read-t13
+    shared-slice-read-t15
+    shared-slice-read-t17
     shared-slice-read-t19
-    shared-slice-read-t21
-    shared-slice-read-t23
-    shared-slice-read-t25
-    array-read-t29
+    shared-slice-read-t22
+    shared-slice-read-t24
+    shared-slice-read-t26
+    shared-slice-read-t28
     array-read-t32
     array-read-t35
     array-read-t38
     array-read-t41
     array-read-t44
-    shared-slice-read-t46
-    array-read-t49
+    array-read-t47
+    shared-slice-read-t49
     array-read-t52
     array-read-t55
     array-read-t58
     array-read-t61
+    array-read-t64
     returns)

@@ -13,22 +13,22 @@ use Rattle.symbolic_numbers.proofs.put.Statement.{statement}
 use Rattle.symbolic_numbers.proofs.put.Tie as tie
 
 abbrev Inv-loop : tie.InvT-loop
-Inv-loop numbers₀ settings endpoints weights i₀ numbers i = (i ≤ 21) × Laid 0 i (λ k. getD settings k 0) numbers₀ numbers × (length numbers ≡ 103)
+Inv-loop numbers₀ settings endpoints weights hdr i₀ numbers i = (i ≤ 21) × Laid 0 i (λ k. getD settings k 0) numbers₀ numbers × (length numbers ≡ 104)
 
 abbrev μ-loop : tie.MeasureT-loop
-μ-loop numbers₀ settings endpoints weights i₀ numbers i = 21 - i
+μ-loop numbers₀ settings endpoints weights hdr i₀ numbers i = 21 - i
 
 abbrev Inv-loop2 : tie.InvT-loop2
-Inv-loop2 numbers₀ endpoints weights i j₀ numbers j = (j ≤ 18) × Laid 21 j (numberIn endpoints) numbers₀ numbers × (length numbers ≡ 103)
+Inv-loop2 numbers₀ endpoints weights hdr i j₀ numbers j = (j ≤ 18) × Laid 21 j (numberIn endpoints) numbers₀ numbers × (length numbers ≡ 104)
 
 abbrev μ-loop2 : tie.MeasureT-loop2
-μ-loop2 numbers₀ endpoints weights i j₀ numbers j = 18 - j
+μ-loop2 numbers₀ endpoints weights hdr i j₀ numbers j = 18 - j
 
 abbrev Inv-loop3 : tie.InvT-loop3
-Inv-loop3 numbers₀ weights i j k₀ numbers k = (k ≤ 64) × Laid 39 k (numberIn weights) numbers₀ numbers × (length numbers ≡ 103)
+Inv-loop3 numbers₀ weights hdr i j k₀ numbers k = (k ≤ 64) × Laid 39 k (numberIn weights) numbers₀ numbers × (length numbers ≡ 104)
 
 abbrev μ-loop3 : tie.MeasureT-loop3
-μ-loop3 numbers₀ weights i j k₀ numbers k = 64 - k
+μ-loop3 numbers₀ weights hdr i j k₀ numbers k = 64 - k
 
 settings-of-requires :
     tie.Need-settings-of-requires Inv-loop μ-loop Inv-loop2 μ-loop2 Inv-loop3 μ-loop3
@@ -116,15 +116,24 @@ loop3-less c = omega arith
 loop3-again : tie.Need-loop3-again Inv-loop μ-loop Inv-loop2 μ-loop2 Inv-loop3 μ-loop3
 loop3-again c = let l = c .before .before .before .loop3 in (omega arith, laid-more 39 (l .k) (39 + l .k) _ _ (l .numbers) refl (omega (arith, l .inv .2)) (l .inv .1) (c .wide2 .ensures), length-set (l .numbers) (39 + l .k) _ ∙ l .inv .2)
 
+wide-requires-3 : tie.Need-wide-requires-3 Inv-loop μ-loop Inv-loop2 μ-loop2 Inv-loop3 μ-loop3
+wide-requires-3 c κs = search needs
+
+slice-write-numbers-4 :
+    tie.Need-slice-write-numbers-4 Inv-loop μ-loop Inv-loop2 μ-loop2 Inv-loop3 μ-loop3
+slice-write-numbers-4 c = omega (arith, c .before .before .loop3 .inv .2)
+
 same-length : tie.Need-same-length Inv-loop μ-loop Inv-loop2 μ-loop2 Inv-loop3 μ-loop3
-same-length c = c .before .loop3 .inv .2 ∙ sym (c .before .before .before .before .before .before .before .before .before .before .pre)
+same-length c = length-set (c .before .before .loop3 .numbers) 103 _ ∙ c .before .before .loop3 .inv .2 ∙ sym (c .before .before .before .before .before .before .before .before .before .before .before .pre)
 
 returns : tie.Need-returns Inv-loop μ-loop Inv-loop2 μ-loop2 Inv-loop3 μ-loop3
 returns c =
-    let s = c .before .before .before .before .before .before .before .before .before .before .args .s in
-    all-laid (c .before .before .before .before .before .before .before .before .settings-of .result) (s .endpoints) (s .weights) (c .before .before .before .before .before .before .before .before .before .before .pre) (omega arith) (omega arith) (omega arith)
-    (c .before .before .before .before .before .loop .inv .1) (c .before .before .before .loop2 .inv .1) (c .before .loop3 .inv .1)
-    ∙ ap (λ (l : List ℕ). tab (flatAt l (s .endpoints) (s .weights)) 103) (c .before .before .before .before .before .before .before .before .settings-of .ensures)
+    let s = c .before .before .before .before .before .before .before .before .before .before .before .args .s in
+    let l = c .before .before .loop3 in
+    all-laid (c .before .before .before .before .before .before .before .before .before .settings-of .result) (s .endpoints) (s .weights) (s .hdr) (c .before .before .before .before .before .before .before .before .before .before .before .pre) (omega arith) (omega arith) (omega arith)
+    (c .before .before .before .before .before .before .loop .inv .1) (c .before .before .before .before .loop2 .inv .1) (l .inv .1)
+    (laid-more 103 0 103 _ (l .numbers) (l .numbers) refl (omega (arith, l .inv .2)) (laid-none 103 _ (l .numbers)) (c .wide3 .ensures))
+    ∙ ap (λ (l : List ℕ). tab (flatAt l (s .endpoints) (s .weights) (s .hdr)) 104) (c .before .before .before .before .before .before .before .before .before .settings-of .ensures)
     ∙ flat-by-position s
 
 pub put-spec : {M : Type 1} → statement M
@@ -164,5 +173,7 @@ put-spec =
     add-k
     loop3-less
     loop3-again
+    wide-requires-3
+    slice-write-numbers-4
     same-length
     returns)

@@ -3,7 +3,7 @@ use mathlib.Core.Path.{sym, ap, _∙_}
 use Prim.Native.Nat.{ℕ}
 use Rattle.laws.specs.Table.{tab, tabFrom}
 use Rattle.symbolic_block.specs.Refusals.{refusalOf}
-use Rattle.symbolic_refusal.specs.inner.Stages.{orElse}
+use Rattle.symbolic_refusal.specs.inner.Stages.{or34}
 use Rattle.symbolic_calls.specs.Writing.{wroteNothing, writingOf}
 use Rattle.symbolic_numbers.specs.Numbers.{blockFrom}
 use Rattle.symbolic_clip.proofs.Clip.{written-clipped, refused-clipped}
@@ -45,7 +45,7 @@ returns-2 c =
     let ns = now (a .numbers) in
     ap wroteNothing
     (c .or-34 .ensures
-    ∙ ap (λ (n : ℕ). orElse n 34) (c .before .number-told .ensures ∙ w .write-symbolic .ensures .1 ∙ ap (refusalOf (a .footprint)) (w .before .block-from .ensures ∙ from-clipped ns)))
+    ∙ ap or34 (c .before .number-told .ensures ∙ w .write-symbolic .ensures .1 ∙ ap (refusalOf (a .footprint)) (w .before .block-from .ensures ∙ from-clipped ns)))
     ∙ refused-clipped (a .footprint) (blockFrom ns) (from-sized ns) (sym (from-fits ns) ∙ sym (e .before .endpoints-fit .ensures) ∙ e .if1 .left)
 
 pub writing-of-spec : {M : Type 1} → statement M

@@ -10,9 +10,12 @@ endpoints-requires c κs = search needs
 weights-requires : tie.Need-weights-requires
 weights-requires c κs = search needs
 
+mark-of-requires : tie.Need-mark-of-requires
+mark-of-requires c κs = search needs
+
 returns : tie.Need-returns
 unfolding modeBlock tab tabFrom
-returns c = rw (c .before .endpoints .ensures, c .weights .ensures)
+returns c = rw (c .before .before .endpoints .ensures, c .before .weights .ensures, c .mark-of .ensures)
 
 pub mode-block-spec : {M : Type 1} → statement M
-mode-block-spec = tie.close (tie.spec endpoints-requires weights-requires returns)
+mode-block-spec = tie.close (tie.spec endpoints-requires weights-requires mark-of-requires returns)

@@ -1,4 +1,4 @@
-use mathlib.Core.Bool.{false}
+use mathlib.Core.Bool.{true}
 use denote.Ref.{now}
 use mathlib.Core.List.{[], _∷_}
 use types.Run.{OneOf, miss}
@@ -37,17 +37,17 @@ whole r =
     let bytes : Bytes s = λ i. r .before .before .before .before .shared-slice-known .given i .fits in
     ap (readingIn fp) (r .load .ensures ∙ loaded s bytes (sixteen fp s (passed r))) ∙ passed-reading fp s (passed r)
 
-verdict-is : (r : tie.After-read-settings) → verdictOf false (r .before .before .before .before .before .before .args .fp) (blockNumber (r .before .load .result)) ≡ r .read-settings .result .verdict
-verdict-is r = sym (ap (λ (s : Settings). s .verdict) (r .read-settings .ensures) ∙ settings-verdict false _ _)
+verdict-is : (r : tie.After-read-settings) → verdictOf true (r .before .before .before .before .before .before .args .fp) (blockNumber (r .before .load .result)) ≡ r .read-settings .result .verdict
+verdict-is r = sym (ap (λ (s : Settings). s .verdict) (r .read-settings .ensures) ∙ settings-verdict true _ _)
 
-header-is : (r : tie.After-read-settings) → verdictOf false (r .before .before .before .before .before .before .args .fp) (blockNumber (r .before .load .result)) ≡ verdict.Coded
+header-is : (r : tie.After-read-settings) → verdictOf true (r .before .before .before .before .before .before .args .fp) (blockNumber (r .before .load .result)) ≡ verdict.Coded
     → r .read-settings .result .header ≡ headerAt (blockNumber (r .before .load .result))
-header-is r e = ap (λ (s : Settings). s .header) (r .read-settings .ensures) ∙ coded-header false _ _ e
+header-is r e = ap (λ (s : Settings). s .header) (r .read-settings .ensures) ∙ coded-header true _ _ e
 
 -- the settings carry how many endpoint numbers there are, and their range
 carried : (r : tie.After-read-settings) → r .read-settings .result .verdict ≡ verdict.Coded
     → (r .read-settings .result .numbers ≡ endpointCount (r .read-settings .result .header)) × (r .read-settings .result .range ≡ endpointRangeOf (r .read-settings .result .header))
-carried r e = rw (r .read-settings .ensures) (coded-numbers false _ _ (ap (λ (s : Settings). s .verdict) (sym (r .read-settings .ensures)) ∙ e))
+carried r e = rw (r .read-settings .ensures) (coded-numbers true _ _ (ap (λ (s : Settings). s .verdict) (sym (r .read-settings .ensures)) ∙ e))
 
 -- coded: neither a fault nor a void extent
 coded : (c : tie.At-match3-keys2) → c .before .before .before .before .read-settings .result .verdict ≡ verdict.Coded
@@ -86,8 +86,8 @@ mode-block-requires : tie.Need-mode-block-requires
 mode-block-requires c κs =
     let r = c .before .before .before .before in
     let v = verdict-is r ∙ coded c in
-    let k = told-coded false _ _ v in
-    let n = coded-counts false _ _ (k .0) (k .1) in
+    let k = told-coded true _ _ v in
+    let n = coded-counts true _ _ (k .0) (k .1) in
     let m = carried r (coded c) in
     (rw (header-is r v) (n .0), rw (header-is r v) (n .1), m .0, m .1)
 

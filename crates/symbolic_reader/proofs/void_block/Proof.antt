@@ -4,6 +4,9 @@ use borrow.Author.Needs.{needs}
 use Rattle.symbolic_reader.proofs.void_block.Statement.{statement}
 use Rattle.symbolic_reader.proofs.void_block.Tie as tie
 
+hdr-bit-requires : tie.Need-hdr-bit-requires
+hdr-bit-requires c κs = search needs
+
 colour-requires : tie.Need-colour-requires
 colour-requires c κs = search needs
 
@@ -30,12 +33,13 @@ extent-requires-4 c κs = search needs
 
 returns : tie.Need-returns
 unfolding voidBlock tab tabFrom
-returns c = rw (c .before .before .before .before .before .before .before .colour .ensures, c .before .before .before .before .before .before .colour2 .ensures, c .before .before .before .before .before .colour3 .ensures, c .before .before .before .before .colour4 .ensures, c .before .before .before .extent .ensures, c .before .before .extent2 .ensures, c .before .extent3 .ensures, c .extent4 .ensures)
+returns c = rw (c .before .before .before .before .before .before .before .before .hdr-bit .ensures, c .before .before .before .before .before .before .before .colour .ensures, c .before .before .before .before .before .before .colour2 .ensures, c .before .before .before .before .before .colour3 .ensures, c .before .before .before .before .colour4 .ensures, c .before .before .before .extent .ensures, c .before .before .extent2 .ensures, c .before .extent3 .ensures, c .extent4 .ensures)
 
 pub void-block-spec : {M : Type 1} → statement M
 void-block-spec =
     tie.close
     (tie.spec
+    hdr-bit-requires
     colour-requires
     colour-requires-2
     colour-requires-3

@@ -21,17 +21,8 @@ told-requires c κs = search needs
 endpoint-fault-requires : tie.Need-endpoint-fault-requires
 endpoint-fault-requires c κs = search needs
 
-bad-endpoints-requires : tie.Need-bad-endpoints-requires
-bad-endpoints-requires c κs = search needs
-
-bad-weights-requires : tie.Need-bad-weights-requires
-bad-weights-requires c κs = search needs
-
-either-requires : tie.Need-either-requires
-either-requires c κs = search needs
-
-told-requires-2 : tie.Need-told-requires-2
-told-requires-2 c κs = search needs
+number-refusal-requires : tie.Need-number-refusal-requires
+number-refusal-requires c κs = search needs
 
 first-requires : tie.Need-first-requires
 first-requires c κs = search needs
@@ -47,8 +38,8 @@ first-requires-4 c κs = search needs
 
 returns : tie.Need-returns
 returns c =
-    let a = c .before .before .before .before .before .before .before .before .before .before .before .before .before .before .args in
-    rw (c .first4 .ensures, c .before .first3 .ensures, c .before .before .first2 .ensures, c .before .before .before .first .ensures, c .before .before .before .before .told2 .ensures, c .before .before .before .before .before .either .ensures, c .before .before .before .before .before .before .bad-weights .ensures, c .before .before .before .before .before .before .before .bad-endpoints .ensures, c .before .before .before .before .before .before .before .before .endpoint-fault .ensures, c .before .before .before .before .before .before .before .before .before .told .ensures, c .before .before .before .before .before .before .before .before .before .before .modes-misfit .ensures, c .before .before .before .before .before .before .before .before .before .before .before .grid-refusal .ensures, c .before .before .before .before .before .before .before .before .before .before .before .before .field-refusal .ensures, c .before .before .before .before .before .before .before .before .before .before .before .before .before .header-of .ensures)
+    let a = c .before .before .before .before .before .before .before .before .before .before .before .before .args in
+    rw (c .first4 .ensures, c .before .first3 .ensures, c .before .before .first2 .ensures, c .before .before .before .first .ensures, c .before .before .before .before .number-refusal .ensures, c .before .before .before .before .before .endpoint-fault .ensures, c .before .before .before .before .before .before .before .told .ensures, c .before .before .before .before .before .before .before .before .modes-misfit .ensures, c .before .before .before .before .before .before .before .before .before .grid-refusal .ensures, c .before .before .before .before .before .before .before .before .before .before .field-refusal .ensures, c .before .before .before .before .before .before .before .before .before .before .before .header-of .ensures)
     (mode-stages (a .fp) (a .s))
 
 pub mode-refusal-spec : {M : Type 1} → statement M
@@ -61,10 +52,7 @@ mode-refusal-spec =
     modes-misfit-requires
     told-requires
     endpoint-fault-requires
-    bad-endpoints-requires
-    bad-weights-requires
-    either-requires
-    told-requires-2
+    number-refusal-requires
     first-requires
     first-requires-2
     first-requires-3

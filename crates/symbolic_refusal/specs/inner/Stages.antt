@@ -9,11 +9,15 @@ use Rattle.laws.specs.Reasons.{Reason, when}
 use Rattle.block_fault.specs.Faults.{badExtents}
 use Rattle.symbolic_block.specs.declared.SymbolicBlock.{SymbolicBlock}
 use Rattle.symbolic_block.specs.Fields.{gridOf, colourIn, extentIn, modeIn, endpointIn, weightIn}
-use Rattle.symbolic_block.specs.Refusals.{inUse, unknownFootprint, badMark, badWidth, badHeight, badRange, badPlanes, badComponent, badPartitions, badIndex, badSelector, badModes, badColours, badExtentFields, someInUse, noBlockMode}
+use Rattle.symbolic_block.specs.Refusals.{inUse, unknownFootprint, badMark, badHdr, badWidth, badHeight, badRange, badPlanes, badComponent, badPartitions, badIndex, badSelector, badModes, badColours, badExtentFields, someInUse, noBlockMode, badEndpoints, badWeights, markedWithout}
 
 -- the first of two told numbers, where 0 tells nothing
 abbrev pub orElse : ℕ → ℕ → ℕ
 orElse a b = pick (eqb a 0) b a
+
+-- 34 beside what is told: it comes before 35 and after all others
+abbrev pub or34 : ℕ → ℕ
+or34 n = pick (either (eqb n 0) (eqb n 35)) 34 n
 
 -- ---- 31 of a mode sheet
 
@@ -28,12 +32,12 @@ badLists s = either (badModes s) (either (someInUse 4 (colourIn s)) (someInUse 4
 
 unfoldable pub badFields : SymbolicBlock → Bool
 unfolding badGrid badPartitioning badLists
-badFields s = either (badMark s) (either (badGrid s) (either (badPartitioning s) (badLists s)))
+badFields s = either (badMark s) (either (badHdr s) (either (badGrid s) (either (badPartitioning s) (badLists s))))
 
 -- ---- 31 of a void extent
 
 unfoldable pub badShown : SymbolicBlock → Bool
-badShown s = either (badColours s) (badExtentFields s)
+badShown s = either (badHdr s) (either (badColours s) (badExtentFields s))
 
 unfoldable pub gridInUse : SymbolicBlock → Bool
 gridInUse s = either (inUse (s .width)) (either (inUse (s .height)) (either (inUse (s .range)) (inUse (s .planes))))
@@ -54,6 +58,10 @@ badVoidFields s = either (badShown s) (either (gridInUse s) (either (partitionin
 unfoldable pub fieldReasons : ℕ → SymbolicBlock → List Reason
 unfolding badFields
 fieldReasons fp s = when (unknownFootprint fp) 1 ∷ when (badFields s) 31 ∷ when (noBlockMode (gridOf s)) 32 ∷ []
+
+-- 34 and 35
+unfoldable pub numberReasons : SymbolicBlock → List Reason
+numberReasons s = when (either (badEndpoints s) (badWeights s)) 34 ∷ when (markedWithout s) 35 ∷ []
 
 -- 1, 31 and 12
 unfoldable pub voidStages : ℕ → SymbolicBlock → List Reason

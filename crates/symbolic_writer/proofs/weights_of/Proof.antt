@@ -15,7 +15,7 @@ weight-count-requires : tie.Need-weight-count-requires
 weight-count-requires c κs = search needs
 
 long-enough : (c : tie.Start) → length (c .args .s .weights) ≡ 64
-long-enough c = simp length-map at (c .good .0 .1 .1 .1 .1 .1 .1 .1 .1 .1 .1 .1 .1 .1 .1 .1 .0 .1 .0 .1)
+long-enough c = simp length-map at (c .good .0 .1 .1 .1 .1 .1 .1 .1 .1 .1 .1 .1 .1 .1 .1 .1 .1 .0 .1 .0 .1)
 
 cast-n : tie.Need-cast-n
 cast-n c =

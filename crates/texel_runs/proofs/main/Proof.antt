@@ -5,10 +5,10 @@ use Rattle.texel_runs.proofs.main.Statement.{statement}
 use Rattle.texel_runs.proofs.main.Tie as tie
 
 abbrev Inv-loop : tie.InvT-loop
-Inv-loop input n at₀ at = at ≤ 1023
+Inv-loop input n at₀ at = at ≤ 4095
 
 abbrev μ-loop : tie.MeasureT-loop
-μ-loop input n at₀ at = 1024 - at
+μ-loop input n at₀ at = 4096 - at
 
 pub main-spec : {M : Type 1} → statement M
 main-spec =

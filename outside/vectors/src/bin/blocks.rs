@@ -4,7 +4,12 @@
 //! than 20), hdr_WxH (fault 20), and hdr_WxH.mask (a byte for each texel: 1 in an HDR partition).
 
 use reference::random::*;
-use reference::{FOOTPRINTS, SymbolicBlock, fault, write};
+use reference::{FOOTPRINTS, Kind, SymbolicBlock, write};
+
+/// The fault in kinds 0 and 1.
+fn fault(footprint: usize, block: &[u8; 16]) -> u8 {
+    reference::fault(footprint, Kind::Unorm16, block)
+}
 
 /// Mode 0, 4, 8 or 12 with endpoints under 8, so that all sixteen bits of kind 0 are visible.
 fn dark_block(r: &mut Random, footprint: usize) -> SymbolicBlock {

@@ -1,13 +1,13 @@
 //! Makes the input and output of the program `file_runs`: file_runs DIRECTORY
 //!
-//! Files of 3 by 2 texels of every footprint as astcenc wrote them, with the colours that it shows; then damaged ones, with the refusals of the
+//! Files of 3 by 2 texels of every footprint as astcenc wrote them, with the colours and half floats that it shows; then damaged ones, with the refusals of the
 //! second reader.
 
 use std::fmt::Write;
 
 use reference::{file_header, read_file};
 
-fn list(out: &mut String, what: &str, numbers: &[u8]) {
+fn list<T: std::fmt::Display>(out: &mut String, what: &str, numbers: &[T]) {
     out.push_str(what);
     for n in numbers {
         write!(out, " {n}").unwrap();
@@ -15,8 +15,8 @@ fn list(out: &mut String, what: &str, numbers: &[u8]) {
     out.push('\n');
 }
 
-/// A record of the input, and what the program writes; `colours` are those of a file that is shown.
-fn record(input: &mut Vec<u8>, out: &mut String, file: &[u8], colours: &[u8]) {
+/// A record of the input, and what the program writes; `colours` and `halves` are those of a file that is shown.
+fn record(input: &mut Vec<u8>, out: &mut String, file: &[u8], colours: &[u8], halves: &[u16]) {
     input.push(file.len() as u8);
     input.extend(file);
     input.resize(input.len().next_multiple_of(40), 0);
@@ -24,12 +24,13 @@ fn record(input: &mut Vec<u8>, out: &mut String, file: &[u8], colours: &[u8]) {
     writeln!(out, "header {refusal} {} {} {}", h.footprint, h.width, h.height).unwrap();
     match file_header(h.footprint, h.width, h.height) {
         Ok(header) => list(out, "written 0", &header),
-        Err(refusal) => list(out, &format!("written {refusal}"), &[0; 16]),
+        Err(refusal) => list(out, &format!("written {refusal}"), &[0u8; 16]),
     }
     let number = if refusal == 0 && (h.width, h.height) != (3, 2) { 5 } else { refusal };
     let told = if number == 0 { "faulty 0 first 0 fault 0".into() } else { format!("refused {number}") };
     writeln!(out, "{told}").unwrap();
     list(out, &told, if number == 0 { colours } else { &[7; 18] });
+    list(out, &told, if number == 0 { halves } else { &[7; 24] });
 }
 
 fn main() {
@@ -37,7 +38,7 @@ fn main() {
     let (mut input, mut out) = (Vec::new(), String::new());
     let stored = vectors::file::stored();
     for file in stored.iter().filter(|f| (f.width, f.height) == (3, 2)) {
-        record(&mut input, &mut out, file.bytes, &file.colours());
+        record(&mut input, &mut out, file.bytes, &file.colours(), &file.half_floats());
     }
     let whole = stored[0].bytes;
     let file = stored.iter().find(|f| (f.width, f.height) == (3, 2)).unwrap().bytes;
@@ -65,7 +66,7 @@ fn main() {
         whole[..16].to_vec(),
     ];
     for bytes in &damaged {
-        record(&mut input, &mut out, bytes, &[]);
+        record(&mut input, &mut out, bytes, &[], &[]);
     }
     assert_eq!(input.len(), 40 * 30);
     std::fs::write(format!("{directory}/stdin"), input).unwrap();

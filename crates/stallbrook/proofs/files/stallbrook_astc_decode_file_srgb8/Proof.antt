@@ -26,7 +26,7 @@ file-refusal-or-5-requires c κs = search needs
 returns : tie.Need-returns
 returns c =
     let a = c .before .before .before .before .before .args in
-    let u = untold (fileTold (now (a .file)) (length (now (a .out)))) (headerRefusal (now (a .file))) (fileOut Srgb8 (now (a .file)) (now (a .out))) (now (a .out)) (now (a .tally)) (c .before .if1 .taken) in
+    let u = untold (fileTold Srgb8 (now (a .file)) (length (now (a .out)))) (headerRefusal (now (a .file))) (fileOut Srgb8 (now (a .file)) (now (a .out))) (now (a .out)) (now (a .tally)) (c .before .if1 .taken) in
     (c .file-refusal-or-5 .ensures ∙ u .number, (u .out, u .its-tally))
 
 -- src/files.rt:77:9
@@ -61,7 +61,7 @@ returns-2 c =
     let a = d .before .before .before .before .before .before .args in
     let r = d .decode-file-srgb8 .ensures in
     let told = r .1 .0 in
-    let u = telling (fileTold (now (a .file)) (length (now (a .out)))) (headerRefusal (now (a .file))) (fileOut Srgb8 (now (a .file)) (now (a .out))) (now (a .out)) (now (a .tally)) (d .before .before .if1 .left) in (
+    let u = telling (fileTold Srgb8 (now (a .file)) (length (now (a .out)))) (headerRefusal (now (a .file))) (fileOut Srgb8 (now (a .file)) (now (a .out))) (now (a .out)) (now (a .tally)) (d .before .before .if1 .left) in (
       c .refusal-told .ensures ∙ ap (λ (t : Told). t .refusal) told ∙ u .number,
       (r .1 .1 ∙ u .out, p .put-tally .ensures ∙ ap tallyNumbers (p .before .before .tally-told .ensures ∙ ap tallyTold told) ∙ u .its-tally),
     )

@@ -1,0 +1,77 @@
+use denote.Ref.{now}
+use mathlib.Core.Path.{_≡_, sym, _∙_}
+use Rattle.astc_header.specs.declared.HeaderAnswer.the-variants.{Accepted}
+use Rattle.astc_header.specs.Header.{headerAnswer}
+use Rattle.astc_file.proofs.Calls.{file-refused, file-decoded, long, behind}
+use borrow.Author.Needs.{needs}
+use Rattle.astc_file.proofs.decode_file_words.Statement.{statement}
+use Rattle.astc_file.proofs.decode_file_words.Tie as tie
+use Rattle.astc_file.proofs.decode_file_words.Reads as reads
+use Rattle.astc_file.proofs.decode_file_words.Lts as lts
+use Rattle.astc_header.proofs.read_header.Reads as read-header-reads
+use Rattle.image.proofs.decode_image_words.Reads as decode-image-words-reads
+
+-- the header of a file that is not refused
+accepted : (c : tie.After-known-told2) → headerAnswer (now (c .before .before .before .before .before .before .args .file)) ≡ Accepted (c .before .answer2 .given .0 .0)
+accepted c = sym (c .before .before .before .read-header .ensures .0) ∙ c .before .answer2 .given .1
+
+-- src/lib.rt:16:9
+read-header-requires : tie.Need-read-header-requires
+read-header-requires c κs = search needs
+
+-- src/lib.rt:18:31
+enum-known-answer : tie.Need-enum-known-answer
+enum-known-answer c = search needs
+
+-- src/lib.rt:19:32
+enum-known-answer-2 : tie.Need-enum-known-answer-2
+enum-known-answer-2 c = search needs
+
+-- src/lib.rt:20:73
+sub-decode-image-words : tie.Need-sub-decode-image-words
+sub-decode-image-words c = long _ _ (accepted c)
+
+-- src/lib.rt:20:73
+part-decode-image-words-start : tie.Need-part-decode-image-words-start
+part-decode-image-words-start c = let l = long _ _ (accepted c) in search needs
+
+-- src/lib.rt:20:73
+part-decode-image-words-end : tie.Need-part-decode-image-words-end
+part-decode-image-words-end c = search needs
+
+-- src/lib.rt:20:13
+decode-image-words-requires : tie.Need-decode-image-words-requires
+decode-image-words-requires c κs = search needs
+
+-- src/lib.rt:11:1
+returns : tie.Need-returns
+returns c =
+    let a = c .before .before .before .before .before .before .args in
+    file-refused (a .kind) (now (a .file)) (now (a .out)) _ (sym (c .before .before .before .read-header .ensures .0) ∙ c .before .answer .given .1)
+
+-- src/lib.rt:11:1
+same-length : tie.Need-same-length
+same-length c = search needs
+
+-- src/lib.rt:11:1
+returns-2 : tie.Need-returns-2
+returns-2 c =
+    let k = c .before .before .before .before .before in
+    let a = k .before .before .before .before .before .before .args in
+    let h = accepted k in
+    file-decoded (a .kind) (now (a .file)) (now (a .out)) _ h _ _ _ (behind _ _ h) (c .before .before .decode-image-words .ensures)
+
+pub decode-file-words-spec : {M : Type 1} → statement M
+decode-file-words-spec =
+    tie.close
+    (tie.spec
+    read-header-requires
+    enum-known-answer
+    enum-known-answer-2
+    sub-decode-image-words
+    part-decode-image-words-start
+    part-decode-image-words-end
+    decode-image-words-requires
+    returns
+    same-length
+    returns-2)

@@ -1,0 +1,82 @@
+use denote.Ref.{now}
+use mathlib.Core.Path.{ap, _∙_}
+use lib.ListN.{length}
+use Rattle.image_layout.specs.Call.{Told}
+use Rattle.astc_header.specs.Header.{headerRefusal}
+use Rattle.astc_file.specs.File.{fileTold, fileOut}
+use Rattle.stallbrook.specs.Images.{tallyTold, tallyNumbers}
+use Rattle.stallbrook.proofs.Laws.{untold, telling}
+use borrow.Author.Needs.{needs}
+use Rattle.stallbrook.proofs.files.file_words.Statement.{
+  statement,
+}
+use Rattle.stallbrook.proofs.files.file_words.Tie as tie
+use Rattle.stallbrook.proofs.files.file_words.Reads as reads
+use Rattle.stallbrook.proofs.files.file_words.Lts as lts
+use Rattle.astc_file.proofs.decode_file_words.Reads as decode-file-words-reads
+use Rattle.stallbrook.proofs.files.file_refusal_or_5.Reads as file-refusal-or-5-reads
+use Rattle.stallbrook.proofs.put_tally.Reads as put-tally-reads
+use Rattle.stallbrook.proofs.refusal_told.Reads as refusal-told-reads
+use Rattle.stallbrook.proofs.tally_told.Reads as tally-told-reads
+
+-- src/files.rt:56:9
+file-refusal-or-5-requires : tie.Need-file-refusal-or-5-requires
+file-refusal-or-5-requires c κs = search needs
+
+-- src/files.rt:56:9
+returns : tie.Need-returns
+returns c =
+    let a = c .before .before .before .before .before .args in
+    let u = untold (fileTold (a .kind) (now (a .file)) (length (now (a .out)))) (headerRefusal (now (a .file))) (fileOut (a .kind) (now (a .file)) (now (a .out))) (now (a .out)) (now (a .tally)) (c .before .if1 .taken) in
+    (c .file-refusal-or-5 .ensures ∙ u .number, (u .out, u .its-tally))
+
+-- src/files.rt:58:9
+decode-file-words-requires : tie.Need-decode-file-words-requires
+decode-file-words-requires c κs = search needs
+
+-- src/files.rt:59:22
+tally-told-requires : tie.Need-tally-told-requires
+tally-told-requires c κs = search needs
+
+-- src/files.rt:59:5
+put-tally-requires : tie.Need-put-tally-requires
+put-tally-requires c κs = search needs
+
+-- src/files.rt:60:5
+refusal-told-requires : tie.Need-refusal-told-requires
+refusal-told-requires c κs = search needs
+
+-- src/files.rt:45:1
+same-length : tie.Need-same-length
+same-length c = search needs
+
+-- src/files.rt:45:1
+same-length-2 : tie.Need-same-length-2
+same-length-2 c = search needs
+
+-- src/files.rt:45:1
+returns-2 : tie.Need-returns-2
+returns-2 c =
+    let p = c .before .before .before in
+    let d = p .before .before .before .before .before in
+    let a = d .before .before .before .before .before .before .args in
+    let r = d .decode-file-words .ensures in
+    let told = r .1 .0 in
+    let u = telling (fileTold (a .kind) (now (a .file)) (length (now (a .out)))) (headerRefusal (now (a .file))) (fileOut (a .kind) (now (a .file)) (now (a .out))) (now (a .out)) (now (a .tally)) (d .before .before .if1 .left) in (
+      c .refusal-told .ensures ∙ ap (λ (t : Told). t .refusal) told ∙ u .number,
+      (r .1 .1 ∙ u .out, p .put-tally .ensures ∙ ap tallyNumbers (p .before .before .tally-told .ensures ∙ ap tallyTold told) ∙ u .its-tally),
+    )
+
+pub file-words-spec : {M : Type 1} → statement M
+file-words-spec =
+    tie.close
+    (tie.spec
+    file-refusal-or-5-requires
+    returns
+    decode-file-words-requires
+    tally-told-requires
+    put-tally-requires
+    refusal-told-requires
+    same-length
+    same-length-2
+    returns-2)
