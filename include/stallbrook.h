@@ -16,6 +16,7 @@
  *    3 an image side is 0 or above 16384
  *    4 block bytes not exactly 16 for each block
  *    5 the call's other list (texels, tally, numbers or wanted greys) not exactly as long as said
+ *   44 one texel: outside the image, or of blocks that are refused by 1, 3 or 4
  * Faults of a block, the first that holds; float16 has no 13 and no 20:
  *   11 reserved block mode
  *   12 void extent: bits 11..10 not both 1, or extents neither all ones nor low < high on both axes
@@ -65,6 +66,20 @@ uint8_t stallbrook_astc_decode_image_srgb8(uint8_t footprint, uint32_t width, ui
     uint8_t *out, size_t out_len, uint64_t *tally, size_t tally_len);
 uint8_t stallbrook_astc_decode_image_float16(uint8_t footprint, uint32_t width, uint32_t height, const uint8_t *blocks, size_t blocks_len,
     uint16_t *out, size_t out_len, uint64_t *tally, size_t tally_len);
+
+/* One texel of an image, by column x and row y, no block unpacked: footprint, sides and blocks as in the image calls, whose number of that
+ * place it is, to 4 numbers. float16: patterns of half floats, HDR taken, 65535 four times for a block with a fault.
+ * Answers 0; the fault of the texel's block, with the error colour; 44, with four zeros, where x or y lies outside the image or a view of these
+ * blocks would be refused; or else 5 where out is not of 4 numbers. Out of another length is left as it was. */
+uint8_t stallbrook_astc_texel_unorm16(uint8_t footprint, uint32_t width, uint32_t height, const uint8_t *blocks, size_t blocks_len,
+    uint32_t x, uint32_t y, uint16_t *out, size_t out_len);
+uint8_t stallbrook_astc_texel_srgb8(uint8_t footprint, uint32_t width, uint32_t height, const uint8_t *blocks, size_t blocks_len,
+    uint32_t x, uint32_t y, uint8_t *out, size_t out_len);
+uint8_t stallbrook_astc_texel_float16(uint8_t footprint, uint32_t width, uint32_t height, const uint8_t *blocks, size_t blocks_len,
+    uint32_t x, uint32_t y, uint16_t *out, size_t out_len);
+
+/* What a view of these blocks is refused by: 1, 3 or 4, or 0. The calls above test it at each asking. */
+uint8_t stallbrook_astc_view_refusal(uint8_t footprint, uint32_t width, uint32_t height, const uint8_t *blocks, size_t blocks_len);
 
 /* A block's symbolic block: its settings and stored numbers, as 104 numbers. In order, with their places: void-extent mark (0), 4 colours
  * (1 to 4), 4 extents (5 to 8), grid width (9), grid height (10), weight range (11), planes (12), plane channel (13), partitions (14),

@@ -66,7 +66,7 @@ use Rattle.block_core.proofs.Frames.{inside}
 use Rattle.block_levels.proofs.Levels.{points-le}
 
 -- the line of a texel's partition
-which-is : (h : Header) (small : Bool) (x y : ℕ)
+pub which-is : (h : Header) (small : Bool) (x y : ℕ)
     → pick (eqb (h .partitions) 1) 0 (selectBy (seedsOf (h .index) (h .partitions) small) x y) ≡ partitionOf (h .index) (h .partitions) small x y 0
 unfolding partitionOf
 which-is h small x y = go (eqb (h .partitions) 1) refl ∙ agrees (h .index) (h .partitions) small x y where
@@ -181,16 +181,22 @@ module _ (fp : ℕ) (kind : Kind) (h : Header) (ends : List Level) (bytes : (k :
     second-told true e = ap (λ (k : ℕ). shown (level (infilled 0)) (level k) (h .component)) (second-is (eqb-true (h .grid .planes) 2 e))
     second-told false e = no-second kind (h .modes) (h .partitions) ends which _ _ _
 
+    -- the texel by its partition's pair and the weights that are read
+    pub by-pair : shown (level (read firstLevel)) (level (read secondLevel)) (secondComponent fp kind h ends (weights h stored) x y) ≡ mixedTexel fp kind h ends (weights h stored) x y
+    unfolding mixedTexel planeWeight secondWeight secondComponent
+    by-pair =
+        ap (λ (k : ℕ). shown (level k) (level (read secondLevel)) (secondComponent fp kind h ends (weights h stored) x y)) first-is
+        ∙ second-told (eqb (h .grid .planes) 2) refl
+
     -- what is left to do for a texel gives the texel
     pub prepared : texelIn kind (h .grid) (secondComponent fp kind h ends (weights h stored) x y) (points h stored) (linesIn kind h ends) (seedsOf (h .index) (h .partitions) (isSmall fp)) (h .partitions) (frameOf fp) x y
         ≡ mixedTexel fp kind h ends (weights h stored) x y
-    unfolding texelIn texelAt frameOf mixedTexel planeWeight secondWeight secondComponent
+    unfolding texelIn texelAt frameOf
     prepared =
         rw (which-is h (isSmall fp) x y)
         (on-kind (h .modes) (h .partitions) ends which four (table-bytes (h .modes) (h .partitions) ends bytes which noPair four)
         (read firstLevel) (read secondLevel) _ first-most last-most kind
-        ∙ ap (λ (k : ℕ). shown (level k) (level (read secondLevel)) (secondComponent fp kind h ends (weights h stored) x y)) first-is
-        ∙ second-told (eqb (h .grid .planes) 2) refl)
+        ∙ by-pair)
 
 one-of : (a b : ℕ) {k : ℕ} → k < a * b → 0 < a
 one-of a b h = elim (decLt 0 a) [
@@ -222,7 +228,7 @@ held fp kind B old l s e = record {
 
 -- ---- the steps of a coded block
 
-ends-le : (range : ℕ) (f : ℕ → ℕ) (k : ℕ) → modes.level (endpointLevels range f) k ≤ 255
+pub ends-le : (range : ℕ) (f : ℕ → ℕ) (k : ℕ) → modes.level (endpointLevels range f) k ≤ 255
 unfolding endpointLevels
 ends-le range f k = tab-all (λ x. x .0 ≤ 255) (λ i. level (unquantEndpoint range (f i))) (level 0) (λ i. endpoint-le range (f i)) (omega arith) 18 k
 

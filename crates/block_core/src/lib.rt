@@ -51,7 +51,7 @@ fn frame_of(fp: u8) -> Frame
 }
 
 // The component that takes the second weight, 4 for none.
-fn second_component(planes: u8, component: u8) -> u8
+pub fn second_component(planes: u8, component: u8) -> u8
     ensures { λ r. ⌜ r ≡ pick (eqb planes 2) component 4 ⌝ }
 {
     if planes == 2 { component } else { 4 }
@@ -87,7 +87,7 @@ fn put(out: &mut [u16; 576], i: usize, r: u16, g: u16, b: u16, a: u16)
 }
 
 // What every texel of a block with a fault is.
-fn error_texel(kind: Kind) -> Texel
+pub fn error_texel(kind: Kind) -> Texel
     ensures { λ r. ⌜ r ≡ errorTexel kind ⌝ }
 {
     let half = interpolation::takes_hdr(kind);

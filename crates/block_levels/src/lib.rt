@@ -40,7 +40,7 @@ ghost use Rattle.block_fault.specs.Faults.{hdrVoidExtent};
 ghost use Rattle.block_levels.specs.inner.Lines.{linesBy, linesIn, coloursOf};
 
 // A stored number unquantised by a rule.
-fn level_by(rule: Rule, s: Stored) -> Level
+pub fn level_by(rule: Rule, s: Stored) -> Level
     ensures { λ r. ⌜ (r .0 ≡ byRule rule (s .0)) × (s .0 < 256) ⌝ }
 {
     quantization::unquantize(rule, s)

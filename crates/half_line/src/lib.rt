@@ -19,7 +19,7 @@ fn rest(i: u64) -> u64
 }
 
 // Two numbers of 16 bits mixed.
-fn mixed(c0: u16, c1: u16, i: u16) -> u16
+pub fn mixed(c0: u16, c1: u16, i: u16) -> u16
     ensures { λ r. ⌜ r ≡ mixOf c0 c1 i % 65536 ⌝ }
 {
     let w = i as u64;
@@ -34,7 +34,7 @@ fn shown(hdr: bool, c0: u16, c1: u16, i: u16) -> u16
 }
 
 // The weight of a channel.
-fn chosen(component: u8, first: u16, second: u16, channel: u8) -> u16
+pub fn chosen(component: u8, first: u16, second: u16, channel: u8) -> u16
     ensures { λ r. ⌜ r ≡ pick (eqb channel component) second first ⌝ }
 {
     if channel == component { second } else { first }

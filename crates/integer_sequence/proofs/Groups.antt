@@ -4,7 +4,7 @@ use mathlib.Core.Path.{_≡_, sym, ap, ap₂, _∙_, subst}
 use mathlib.Core.Bool.{Bool}
 use mathlib.Core.List.{List, [], _∷_}
 use Prim.Native.Nat.{ℕ, suc, _+_, _*_, _/_, _%_, _^_, _≤_, _<_}
-use native.Mathlib.Nat.{mod-lt, mod-eq-of-lt, div-eq-of-lt, zero-mul, lt-of-lt-of-le, add-mul, mul-le-mul-left, mul-le-mul-right, lt-of-not-le}
+use native.Mathlib.Nat.{mod-lt, mod-eq-of-lt, div-eq-of-lt, div-add-mod', zero-mul, lt-of-lt-of-le, add-mul, mul-add, mul-assoc, mul-le-mul-left, mul-le-mul-right, lt-of-not-le}
 use native.Mathlib.Decide.{decLe}
 use native.Mathlib.Omega.{arith}
 use lib.Arith.{digits-div, digits-mod, digits-lt}
@@ -115,6 +115,22 @@ module _ (κ : Encoding) (b s g : ℕ) (small : sequenceBits κ b (groupSize κ)
   unfolding number
   number-in k h =
       rw (digits-div g h, digits-mod g h, div-eq-of-lt h, mod-eq-of-lt h, low-in k h, code-in)
+
+-- where group g begins
+group-place : (κ : Encoding) (b g : ℕ) → sequenceBits κ b (g * groupSize κ) ≡ g * sequenceBits κ b (groupSize κ)
+unfolding sequenceBits
+group-place κ b g =
+    let z : g * groupSize κ ≡ g * groupSize κ + 0 = omega arith in
+    let e : codeBits κ (g * groupSize κ) ≡ codeBits κ 0 + g * codeBits κ (groupSize κ) = ap (codeBits κ) z ∙ bits-group κ g 0 in
+    omega (arith, bits-zero κ, mul-assoc g (groupSize κ) b, mul-add g (groupSize κ * b) (codeBits κ (groupSize κ)))
+
+-- number i alone, from the word that begins where its group begins
+pub number-alone : (κ : Encoding) (b s i : ℕ) {p word : ℕ} → sequenceBits κ b (groupSize κ) ≤ 64 → p ≡ i / groupSize κ * sequenceBits κ b (groupSize κ) → word ≡ field s p 64
+    → number κ b word (i % groupSize κ) ≡ number κ b s i
+number-alone κ b s i small ep ew =
+    ap (λ (w : ℕ). number κ b w (i % groupSize κ)) (ew ∙ ap (λ (n : ℕ). field s n 64) (ep ∙ sym (group-place κ b (i / groupSize κ))))
+    ∙ sym (number-in κ b s (i / groupSize κ) small (i % groupSize κ) (mod-lt i (size-pos κ)))
+    ∙ ap (number κ b s) (div-add-mod' i (groupSize κ))
 
 -- the numbers of a first group, from its code's entry
 pub number-first : (κ : Encoding) (b g k p : ℕ) {v x code d : ℕ} → v ≡ d * 2 ^ b + field g p b → k < groupSize κ → code ≡ codeAt κ b g 0 → x ≡ digitsEntry κ code

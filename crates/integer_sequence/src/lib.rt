@@ -1,6 +1,6 @@
 // Packed numbers (000: integer sequence encoding) read from a block. Crate sequence_writer writes them.
-mod reading;
-mod tables;
+pub mod reading;
+pub mod tables;
 
 use bits::PhysicalBlock;
 use encoding::Stored;

@@ -22,7 +22,7 @@ fn cut(g: u64, p: u32, w: u32) -> u64
 }
 
 // The code of the first group of g.
-fn trit_code(g: u64, b: u32) -> u8
+pub fn trit_code(g: u64, b: u32) -> u8
     requires { ⌜ b ≤ 6 ⌝ }
     ensures { λ r. ⌜ r ≡ codeAt Trits b g 0 ⌝ }
 {
@@ -33,7 +33,7 @@ fn trit_code(g: u64, b: u32) -> u8
         + cut(g, 5 * b + 7, 1) * 128) as u8
 }
 
-fn quint_code(g: u64, b: u32) -> u8
+pub fn quint_code(g: u64, b: u32) -> u8
     requires { ⌜ b ≤ 5 ⌝ }
     ensures { λ r. ⌜ r ≡ codeAt Quints b g 0 ⌝ }
 {
@@ -41,14 +41,14 @@ fn quint_code(g: u64, b: u32) -> u8
 }
 
 // The number with the digit d above the b bits of g from bit p on.
-fn number_of(d: u64, g: u64, p: u32, b: u32) -> u8
+pub fn number_of(d: u64, g: u64, p: u32, b: u32) -> u8
     requires { ⌜ (p < 64) × (b ≤ 8) × ((d + 1) * 2 ^ b ≤ 256) ⌝ }
     ensures { λ r. ⌜ r ≡ d * 2 ^ b + field g p b ⌝ }
 {
     ((d << b) + cut(g, p, b)) as u8
 }
 
-fn wide(x: u16) -> u64
+pub fn wide(x: u16) -> u64
     ensures { λ r. ⌜ r ≡ x ⌝ }
 {
     x as u64

@@ -4,6 +4,7 @@ mod captions;
 mod clips;
 mod files;
 mod pvrtc;
+mod views;
 
 use image_layout::CheckedImage;
 use image_layout::ImageAnswer;

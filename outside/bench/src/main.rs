@@ -10,6 +10,7 @@ mod caption;
 mod pvrtc;
 mod clip;
 mod symbolic;
+mod view;
 
 use reference::random::{Random, hdr_mode_block, mode_block};
 use reference::{FOOTPRINTS, SymbolicBlock, decode_image_f16, decode_image_u8, decode_image_u16};
@@ -184,6 +185,7 @@ fn main() {
     worst = largest(worst, pvrtc::ratios(rounds));
     worst = largest(worst, bc7::run(rounds));
     worst = largest(worst, symbolic::run(rounds));
+    worst = largest(worst, view::run(rounds));
     println!("largest ratio {:.2} (by rounds {:.2})", worst[0], worst[1]);
     clip::measure(rounds.min(7));
     caption::measure(rounds);

@@ -8,6 +8,7 @@ mod file;
 mod make;
 mod pvrtc;
 mod seen;
+mod view;
 
 use std::time::{SystemTime, UNIX_EPOCH};
 
@@ -174,6 +175,7 @@ fn main() {
     caption::run(&mut run, &mut r);
     clip::cases(&mut run, &mut r, blocks / 50);
     file::cases(&mut run, &mut r, blocks / 200);
+    view::run(&mut run, &mut r, blocks / 200);
     let never = run.seen.report();
     for line in &never {
         println!("{line}");

@@ -80,6 +80,7 @@ impl Seen {
         seen.require("block is what the writer makes", 0..2);
         crate::pvrtc::require(&mut seen);
         crate::caption::require(&mut seen);
+        crate::view::require(&mut seen);
         for (sort, numbers) in crate::clip::SORTS {
             seen.require(sort, numbers.iter().copied());
         }

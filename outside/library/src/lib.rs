@@ -20,6 +20,7 @@ mod ffi;
 pub mod file;
 pub mod pvrtc;
 pub mod raw;
+pub mod view;
 
 /// Why a call has no result, with 01's number.
 #[derive(Clone, Copy, PartialEq, Eq, Debug)]
@@ -77,6 +78,7 @@ fn words(number: u8) -> &'static str {
         41 => "a file of fewer than 16 bytes",
         42 => "a file that does not begin as .astc files do",
         43 => "a footprint that is not in the list, or a depth or third size other than 1",
+        44 => "a texel outside the picture",
         51 => "a clip of another version",
         52 => "a frame's length is not 6 plus 16 for each block",
         53 => "the clip ends inside a frame or before its version byte",

@@ -8,7 +8,7 @@ use crate::tables::{ENDPOINT_RANGES, ENDPOINTS, WEIGHT_RANGES, WEIGHTS};
 use crate::{FOOTPRINTS, Kind, Tally};
 
 /// How a kind shows its numbers.
-trait Show {
+pub(crate) trait Show {
     type Number: Copy;
     const KIND: Kind;
     const ERROR: [Self::Number; 4];
@@ -18,7 +18,7 @@ trait Show {
     fn from_solid(hdr: bool, c: u16) -> Self::Number;
 }
 
-struct Unorm16;
+pub(crate) struct Unorm16;
 
 impl Show for Unorm16 {
     type Number = u16;
@@ -33,7 +33,7 @@ impl Show for Unorm16 {
     }
 }
 
-struct Srgb8;
+pub(crate) struct Srgb8;
 
 impl Show for Srgb8 {
     type Number = u8;
@@ -48,7 +48,7 @@ impl Show for Srgb8 {
     }
 }
 
-struct Float16;
+pub(crate) struct Float16;
 
 impl Show for Float16 {
     type Number = u16;
@@ -107,7 +107,7 @@ struct Line {
 }
 
 /// The pair of a mode, expanded to 16 bits for the kind.
-fn pair<K: Show>(mode: u8, numbers: &[u8]) -> [[i32; 4]; 2] {
+pub(crate) fn pair<K: Show>(mode: u8, numbers: &[u8]) -> [[i32; 4]; 2] {
     match K::KIND {
         Kind::Float16 => expanded_pair(mode, numbers),
         kind => endpoint_pair(mode, numbers).map(|end| end.map(|c| expand(kind, c) as i32)),
@@ -160,7 +160,7 @@ fn infill(plane: &Plane, at: usize, grid_width: usize, factors: [u32; 4]) -> i32
 
 /// The partition at x, y: the first of the largest, without branches.
 #[inline(always)]
-fn first_largest(pattern: &Pattern, x: u32, y: u32) -> usize {
+pub(crate) fn first_largest(pattern: &Pattern, x: u32, y: u32) -> usize {
     let part = |k: usize| (pattern.x[k] * x + pattern.y[k] * y).wrapping_add(pattern.add[k]) & 0x3F;
     // The part above, 3 - k below: the largest of these tells the partition.
     let key = |k: usize| part(k) << 2 | (3 - k as u32);

@@ -17,13 +17,15 @@ mod refusals;
 mod sequence;
 mod symbolic;
 pub mod tables;
+mod texel;
 
 pub use block::fault;
 pub use clip::{ClipBlock, ClipFrame, ParsedClip, clip_frame, parse_clip};
 pub use decode::{decode, decode_f16, decode_image_f16, decode_image_u8, decode_image_u16, decode_u8, decode_u16};
 pub use file::{FileHeader, file_header, read_file};
-pub use refusals::{block_refusal, image_refusal, read_refusal};
+pub use refusals::{block_refusal, image_refusal, read_refusal, view_refusal};
 pub use symbolic::{NUMBERS, SymbolicBlock, picture, read, refusal, write};
+pub use texel::ask;
 
 /// Width and height of footprints 0 to 13.
 #[rustfmt::skip]

@@ -20,8 +20,8 @@ pub fn block_refusal(footprint: usize, block_len: usize, out_len: usize) -> u8 {
     }
 }
 
-/// The image call: 1, 3, 4, 5.
-pub fn image_refusal(footprint: usize, width: u32, height: u32, blocks_len: usize, out_len: usize) -> u8 {
+/// Making a view: 1, 3, 4 (02, f).
+pub fn view_refusal(footprint: usize, width: u32, height: u32, blocks_len: usize) -> u8 {
     if footprint > 13 {
         return 1;
     }
@@ -29,13 +29,14 @@ pub fn image_refusal(footprint: usize, width: u32, height: u32, blocks_len: usiz
         return 3;
     }
     let (w, h) = FOOTPRINTS[footprint];
-    let (width, height) = (width as usize, height as usize);
-    if blocks_len != 16 * width.div_ceil(w) * height.div_ceil(h) {
-        4
-    } else if out_len != 4 * width * height {
-        5
-    } else {
-        0
+    if blocks_len != 16 * (width as usize).div_ceil(w) * (height as usize).div_ceil(h) { 4 } else { 0 }
+}
+
+/// The image call: 1, 3, 4, 5.
+pub fn image_refusal(footprint: usize, width: u32, height: u32, blocks_len: usize, out_len: usize) -> u8 {
+    match view_refusal(footprint, width, height, blocks_len) {
+        0 if out_len != 4 * width as usize * height as usize => 5,
+        refusal => refusal,
     }
 }
 

@@ -1,0 +1,4 @@
+pub mod Making
+pub mod Asking
+pub mod Agreement
+pub mod inner

@@ -1,0 +1,97 @@
+use mathlib.Core.Path.{_≡_, refl}
+use Prim.Native.Nat.{_+_, _*_, _/_, _≤_, _<_}
+use native.Mathlib.Omega.{arith}
+use Rattle.bits.specs.Block.{blockNumber}
+use Rattle.encoding.specs.Levels.{firstLevel, secondLevel}
+use Rattle.weight_grid.specs.inner.Points.{stepOf}
+use Rattle.weight_grid.proofs.Reading.{read-lt}
+use Rattle.block_levels.proofs.Levels.{points-le}
+use Rattle.texel_weights.specs.inner.Points.{pointsAt}
+use Rattle.texel_weights.proofs.Read.{read-told, bytes-told}
+use borrow.Author.Needs.{needs}
+use Rattle.texel_weights.proofs.weights_at.Statement.{statement}
+use Rattle.texel_weights.proofs.weights_at.Tie as tie
+
+-- what is read are points of the grid
+reach : (s : tie.Start) → s .args .gt / 16 * s .args .h .grid .width + s .args .gs / 16 + stepOf (s .args .gt) (s .args .h .grid .height) (s .args .h .grid .width) + stepOf (s .args .gs) (s .args .h .grid .width) 1
+    < s .args .h .grid .width * s .args .h .grid .height
+reach s =
+    let l = s .pre .0 .0 in
+    read-lt (s .args .h .grid .width) (s .args .h .grid .height) (s .args .gs) (s .args .gt) (omega (arith, l .width-low)) (omega (arith, l .height-low)) (s .pre .1 .0) (s .pre .1 .1)
+
+room : (s : tie.Start) → s .args .h .grid .width * s .args .h .grid .height ≤ 64
+room s = points-le (s .args .h .grid) (s .pre .0 .0) (s .pre .0 .1)
+
+cast-row : tie.Need-cast-row
+cast-row c = search needs
+
+cast-n : tie.Need-cast-n
+cast-n c = search needs
+
+mul-n : tie.Need-mul-n
+mul-n c = omega (arith, reach (c .before), room (c .before))
+
+cast-n-2 : tie.Need-cast-n-2
+cast-n-2 c = search needs
+
+add-n : tie.Need-add-n
+add-n c = omega (arith, reach (c .before), room (c .before))
+
+step-requires : tie.Need-step-requires
+step-requires c κs = search needs
+
+step-requires-2 : tie.Need-step-requires-2
+step-requires-2 c κs = search needs
+
+points-at-requires : tie.Need-points-at-requires
+points-at-requires c κs = let s = c .before .before .before in (s .pre .0, omega (arith, reach s, c .before .step .ensures, c .step2 .ensures))
+
+array-copy-out-infill-both : tie.Need-array-copy-out-infill-both
+array-copy-out-infill-both c = search needs
+
+array-copy-out-infill-both-2 : tie.Need-array-copy-out-infill-both-2
+array-copy-out-infill-both-2 c = search needs
+
+array-copy-out-infill-both-3 : tie.Need-array-copy-out-infill-both-3
+array-copy-out-infill-both-3 c = search needs
+
+array-copy-out-infill-both-4 : tie.Need-array-copy-out-infill-both-4
+array-copy-out-infill-both-4 c = search needs
+
+infill-both-requires : tie.Need-infill-both-requires
+infill-both-requires c κs =
+    let p = c .before .before .before .before in
+    let s = p .before .before .before .before in
+    let a = s .args in
+    bytes-told (blockNumber (a .block)) (a .h) (a .gt / 16 * a .h .grid .width + a .gs / 16) (p .before .before .step .result) (p .before .step2 .result) (p .points-at .ensures)
+
+returns : tie.Need-returns
+returns c =
+    let p = c .before .before .before .before .before in
+    let s = p .before .before .before .before in
+    let a = s .args in
+    let P = pointsAt (blockNumber (a .block)) (a .h) in
+    let w = a .h .grid .width in
+    let h = a .h .grid .height in (
+      read-told firstLevel P w h (a .gs) (a .gt) refl (p .before .before .step .ensures) (p .before .step2 .ensures) (p .points-at .ensures) (c .infill-both .ensures .0),
+      read-told secondLevel P w h (a .gs) (a .gt) refl (p .before .before .step .ensures) (p .before .step2 .ensures) (p .points-at .ensures) (c .infill-both .ensures .1),
+    )
+
+pub weights-at-spec : {M : Type 1} → statement M
+weights-at-spec =
+    tie.close
+    (tie.spec
+    cast-row
+    cast-n
+    mul-n
+    cast-n-2
+    add-n
+    step-requires
+    step-requires-2
+    points-at-requires
+    array-copy-out-infill-both
+    array-copy-out-infill-both-2
+    array-copy-out-infill-both-3
+    array-copy-out-infill-both-4
+    infill-both-requires
+    returns)

@@ -1,0 +1,32 @@
+-- A view that was made: asking it is asking the image; a refused one is asked in vain.
+-- Assumes nothing.
+use mathlib.Core.Path.{_≡_, refl, sym, ap, _∙_}
+use Prim.Native.Nat.{ℕ}
+use mathlib.Core.List.{List}
+use lib.ListN.{length}
+use denote.Ref.{RefT, now}
+use Rattle.interpolation.specs.declared.Kind.{Kind}
+use Rattle.image_texel.specs.declared.Asked.{Asked}
+use Rattle.image_texel.specs.declared.Sides.{Sides}
+use Rattle.image_texel.specs.Making.{viewRefusal, sidesOf}
+use Rattle.image_texel.specs.Asking.{refusedAsking, askedAt}
+use Rattle.image_texel.proofs.Ask.{sides-taken, sides-refused, no-sides}
+use Rattle.view.specs.declared.View.{View}
+use Rattle.view.specs.View.{viewWith, viewOf}
+
+-- what a view is asked
+abbrev pub asked : View → Kind → ℕ → ℕ → Asked
+asked v kind x y = askedAt (v .footprint) (v .width) (v .height) (now (v .blocks)) kind x y
+
+module _ (s : RefT (List ℕ)) (fp w h : ℕ) (kind : Kind) (x y : ℕ) where
+  abbrev by : Sides → Asked
+  by m = askedAt fp (m .width) (m .height) (now s) kind x y
+
+  pub made-asked : viewRefusal fp w h (length (now s)) ≡ 0 → asked (viewOf s fp w h) kind x y ≡ askedAt fp w h (now s) kind x y
+  unfolding viewOf
+  made-asked e = ap by (sides-taken (length (now s)) fp w h e)
+
+  -- "a refused view has both sides 0", and is asked as one that making would refuse
+  pub refused-asked : (viewRefusal fp w h (length (now s)) ≡ 0 → ⊥) → asked (viewOf s fp w h) kind x y ≡ refusedAsking
+  unfolding viewOf
+  refused-asked e = ap by (sides-refused (length (now s)) fp w h e) ∙ no-sides fp (now s) kind x y
