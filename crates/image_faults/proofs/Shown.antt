@@ -15,11 +15,9 @@ use Rattle.block_fault.specs.Faults.{faultOf}
 use Rattle.texel.specs.Meaning.{errorTexel, shownChannel}
 use Rattle.texel.specs.BlockTexel.{soundTexel, blockTexel, blockNumberAt}
 use Rattle.image_size.specs.Sides.{blocksOf}
-use Rattle.image_layout.specs.declared.Tally.{Tally}
 use Rattle.image_layout.specs.Geometry.{blockIndex}
 use Rattle.image_layout.specs.Numbers.{blockAt, faultAt, imageNumberAt}
 use Rattle.image_layout.specs.Faulty.{tallyOf}
-use Rattle.image_layout.specs.inner.Noted.{noted}
 use Rattle.image_layout.specs.Call.{imageRefusal, imageTally, imageOut}
 use Rattle.image_layout.specs.OwnBlock.{place}
 use Rattle.image_layout.proofs.Calls.{accept, decoded-out}
@@ -32,11 +30,8 @@ use Rattle.image_faults.specs.Shown.{listed, Counted, Shown, ShownEveryw
 tally-same : (f g : ℕ → ℕ) (n : ℕ) → ((k : ℕ) → k < n → f k ≡ g k) → tallyOf f n ≡ tallyOf g n
 tally-same f g zero h = tally-start f ∙ sym (tally-start g)
 tally-same f g (suc n) h =
-    subst (λ (m : ℕ). tallyOf f m ≡ tallyOf g m) (add-one n)
-    (sym (tally-more f n) ∙ step ∙ tally-more g n)
-  where
-    step : noted (tallyOf f n) n (f n) ≡ noted (tallyOf g n) n (g n)
-    step = rw (tally-same f g n (λ k l. h k (omega arith)), h n (omega arith))
+    let e = tally-same f g n (λ k l. h k (omega arith)) in
+    subst (λ (m : ℕ). tallyOf f m ≡ tallyOf g m) (add-one n) (rw (← tally-more f n, ← tally-more g n, e, h n (omega arith)))
 
 -- a block's place in the list
 list-at : (fp : ℕ) (kind : Kind) (w h : ℕ) (s : List ℕ) (b : ℕ) → b < blocksOf fp w h → listed (faultList fp kind w h s) b ≡ faultAt fp kind s b

@@ -10,17 +10,20 @@ use Rattle.laws.specs.Choice.{pick, either}
 use Rattle.laws.specs.Table.{tab}
 use Rattle.laws.specs.Reasons.{when, firstOf}
 use Rattle.interpolation.specs.declared.Kind.{Kind}
+use Rattle.kind_number.specs.Kinds.{kindOf}
 use Rattle.image_size.specs.Sides.{badSide, blocksOf}
 use Rattle.image_layout.specs.declared.ImageAnswer.{ImageAnswer}
 use Rattle.image_layout.specs.declared.ImageAnswer.the-variants.{Refused, Decoded}
 use Rattle.image_layout.specs.Numbers.{faultAt}
 use Rattle.image_layout.specs.Call.{imageTally, Told, toldDecoded}
 
--- "Refusals, tested in this order", with so many block bytes and places for faults, one for each block; 0 for none
-unfoldable pub faultsRefusal : ℕ → ℕ → ℕ → ℕ → ℕ → ℕ
-faultsRefusal fp w h bytes places =
+-- "Refusals, tested in this order", with the kind's number k (02, i: 2 for "kinds above 2"), so many block bytes, and places for faults, one
+-- for each block; 0 for none
+unfoldable pub faultsRefusal : ℕ → ℕ → ℕ → ℕ → ℕ → ℕ → ℕ
+faultsRefusal fp k w h bytes places =
     firstOf
     (when (ltb 13 fp) 1
+    ∷ when (ltb 2 k) 2
     ∷ when (either (badSide w) (badSide h)) 3
     ∷ when (not (eqb bytes (16 * blocksOf fp w h))) 4
     ∷ when (not (eqb places (blocksOf fp w h))) 5
@@ -31,17 +34,17 @@ unfoldable pub faultList : ℕ → Kind → ℕ → ℕ → List ℕ → List �
 faultList fp kind w h s = tab (faultAt fp kind s) (blocksOf fp w h)
 
 -- the answer: the refusal, or the tally that the image call answers
-unfoldable pub faultsAnswer : ℕ → Kind → ℕ → ℕ → List ℕ → ℕ → ImageAnswer
-faultsAnswer fp kind w h s places =
-    let e = faultsRefusal fp w h (length s) places in
-    pick (eqb e 0) (Decoded (imageTally fp kind w h s)) (Refused e)
+unfoldable pub faultsAnswer : ℕ → ℕ → ℕ → ℕ → List ℕ → ℕ → ImageAnswer
+faultsAnswer fp k w h s places =
+    let e = faultsRefusal fp k w h (length s) places in
+    pick (eqb e 0) (Decoded (imageTally fp (kindOf k) w h s)) (Refused e)
 
 -- 01's numbers of it: on a refusal "all other numbers told are 0"
-unfoldable pub faultsTold : ℕ → Kind → ℕ → ℕ → List ℕ → ℕ → Told
-faultsTold fp kind w h s places =
-    let e = faultsRefusal fp w h (length s) places in
-    pick (eqb e 0) (toldDecoded (imageTally fp kind w h s)) (record { refusal = e; count = 0; first = 0; fault = 0 })
+unfoldable pub faultsTold : ℕ → ℕ → ℕ → ℕ → List ℕ → ℕ → Told
+faultsTold fp k w h s places =
+    let e = faultsRefusal fp k w h (length s) places in
+    pick (eqb e 0) (toldDecoded (imageTally fp (kindOf k) w h s)) (record { refusal = e; count = 0; first = 0; fault = 0 })
 
 -- the list after the call: "nothing is written" on a refusal
-unfoldable pub faultsOut : ℕ → Kind → ℕ → ℕ → List ℕ → List ℕ → List ℕ
-faultsOut fp kind w h s old = pick (eqb (faultsRefusal fp w h (length s) (length old)) 0) (faultList fp kind w h s) old
+unfoldable pub faultsOut : ℕ → ℕ → ℕ → ℕ → List ℕ → List ℕ → List ℕ
+faultsOut fp k w h s old = pick (eqb (faultsRefusal fp k w h (length s) (length old)) 0) (faultList fp (kindOf k) w h s) old

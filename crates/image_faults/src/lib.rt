@@ -30,9 +30,15 @@ fn fault_of(kind: Kind, fp: u8, block: PhysicalBlock) -> u8
 }
 
 // The refusals in their order, 0 for none.
-fn refusal(footprint: u8, width: u32, height: u32, bytes: usize, places: usize) -> u8
-    ensures { λ r. ⌜ r ≡ faultsRefusal footprint width height bytes places ⌝ }
+pub fn refusal(footprint: u8, kind: u8, width: u32, height: u32, bytes: usize, places: usize) -> u8
+    ensures { λ r. ⌜ r ≡ faultsRefusal footprint kind width height bytes places ⌝ }
 {
+    if 13 < footprint {
+        return 1;
+    }
+    if 2 < kind {
+        return 2;
+    }
     let e = image_size::size_refusal(footprint, width, height);
     if e != 0 {
         return e;
@@ -69,10 +75,11 @@ fn each_fault(kind: Kind, footprint: u8, blocks: &[u8], faults: &mut [u8]) -> Ta
     t
 }
 
-// The fault of every block of an image, in raster order, a byte each, 0 for none; and the tally of the image calls.
+// The fault of every block of an image by the list of a kind, told by its number, in raster order, a byte each, 0 for none; and the tally
+// of the image calls.
 pub fn image_faults(
-    kind: Kind,
     footprint: u8,
+    kind: u8,
     width: u32,
     height: u32,
     blocks: &[u8],
@@ -82,9 +89,9 @@ pub fn image_faults(
     ensures told { λ r. ⌜ toldOf r ≡ faultsTold footprint kind width height (now (blocks .entry)) (length (now (faults .entry))) ⌝ }
     ensures list { λ _. ⌜ now (faults .exit) ≡ faultsOut footprint kind width height (now (blocks .entry)) (now (faults .entry)) ⌝ }
 {
-    let n = refusal(footprint, width, height, blocks.len(), faults.len());
+    let n = refusal(footprint, kind, width, height, blocks.len(), faults.len());
     if n != 0 {
         return ImageAnswer::Refused(n);
     }
-    ImageAnswer::Decoded(each_fault(kind, footprint, blocks, faults))
+    ImageAnswer::Decoded(each_fault(kind_number::kind_of(kind), footprint, blocks, faults))
 }

@@ -23,7 +23,8 @@ use Rattle.block_core.specs.inner.Held.{Held}
 use Rattle.line_text.specs.Lines.{spaced, texelLine, linesOf, textOver}
 use Rattle.line_text.specs.inner.Written.{Puts}
 use Rattle.line_text.proofs.Laws.{length-append, puts-front, lines-same, line-same}
-use Rattle.unpack_text.specs.Text.{kindOf, faultLine, refusedLine, blockText, programRefusal, programText}
+use Rattle.kind_number.specs.Kinds.{kindOf}
+use Rattle.unpack_text.specs.Text.{faultLine, refusedLine, blockText, programRefusal, programText}
 
 -- a block with a texel has a column
 pub some-wide : (a b k : ℕ) → k < a * b → 0 < a

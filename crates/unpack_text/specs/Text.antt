@@ -10,16 +10,11 @@ use Rattle.laws.specs.Reasons.{when, firstOf}
 use Rattle.bits.specs.Block.{numberOf}
 use Rattle.footprint.specs.Footprint.{widthOf, texelsOf}
 use Rattle.interpolation.specs.declared.Kind.{Kind}
-use Rattle.interpolation.specs.declared.Kind.the-variants.{Unorm16, Srgb8, Float16}
 use Rattle.interpolation.specs.Expansion.{takesHdr}
+use Rattle.kind_number.specs.Kinds.{kindOf}
 use Rattle.block_fault.specs.Faults.{faultOf}
 use Rattle.texel.specs.BlockTexel.{blockNumbers}
 use Rattle.line_text.specs.Lines.{spaced, texelLine, linesOf}
-
--- the kinds by their numbers: 01, "Kind 0, plain", "Kind 1, sRGB"; 02, i, "kind 2: four 16-bit patterns of half floats"; the program refuses
--- a number above 2
-unfoldable pub kindOf : ℕ → Kind
-kindOf n = pick (eqb n 0) Unorm16 (pick (eqb n 1) Srgb8 Float16)
 
 -- "fault N" and "refused N"
 unfoldable pub faultLine : ℕ → List ℕ

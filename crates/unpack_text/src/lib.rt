@@ -10,7 +10,7 @@ ghost use Rattle.footprint.specs.Footprint.{widthOf, texelsOf};
 ghost use Rattle.interpolation.specs.Expansion.{shownOf};
 ghost use Rattle.line_text.specs.Lines.{texelLine, linesOf, textOver};
 ghost use Rattle.line_text.specs.inner.Written.{Puts};
-ghost use Rattle.unpack_text.specs.Text.{kindOf, blockText, programRefusal, programText};
+ghost use Rattle.unpack_text.specs.Text.{blockText, programRefusal, programText};
 
 // The first refusal that holds, 0 for none.
 pub fn refusal(bytes: usize, fp: u8, kind: u8) -> u8
@@ -26,19 +26,6 @@ pub fn refusal(bytes: usize, fp: u8, kind: u8) -> u8
         return 2;
     }
     0
-}
-
-// The kind of a number, which is at most 2.
-pub fn kind_of(n: u8) -> Kind
-    ensures { λ r. ⌜ r ≡ kindOf n ⌝ }
-{
-    if n == 0 {
-        return Kind::Unorm16;
-    }
-    if n == 1 {
-        return Kind::Srgb8;
-    }
-    Kind::Float16
 }
 
 // The texels' lines, behind a text that ends at `from`.
@@ -87,5 +74,5 @@ pub fn program_text(input: &[u8], out: &mut [u8]) -> usize
     if refused != 0 {
         return line_text::put_told(out, b"refused", refused);
     }
-    put_block(out, fp, kind_of(kind), &input[2..18])
+    put_block(out, fp, kind_number::kind_of(kind), &input[2..18])
 }

@@ -1,0 +1,71 @@
+// The calls exported to C for the faults of an image's blocks, and for sizes.
+ghost use mathlib.Core.Path.{_≡_};
+ghost use lib.ListN.{length};
+ghost use Rattle.image_numbers.specs.Calls.{refusalOr5};
+ghost use Rattle.image_faults.specs.Faults.{faultsRefusal};
+ghost use Rattle.stallbrook_faults.specs.Calls.{faultsNumber, faultsShown, faultsTally, imageBlocks, bufferNumbers, blockNumbers};
+
+// The first refusal, else 5.
+fn refusal_or_5(footprint: u8, kind: u8, width: u32, height: u32, bytes: usize, places: usize) -> u8
+    ensures { λ r. ⌜ r ≡ refusalOr5 (faultsRefusal footprint kind width height bytes places) ⌝ }
+{
+    let e = image_faults::refusal(footprint, kind, width, height, bytes, places);
+    if e == 0 { 5 } else { e }
+}
+
+// The fault of each block, 0 for none, in raster order: 0, or the refusal's number with `faults` as it was; `tally` as in the image calls.
+#[no_mangle]
+pub extern "C" fn stallbrook_astc_image_faults(
+    footprint: u8,
+    kind: u8,
+    width: u32,
+    height: u32,
+    blocks: &[u8],
+    faults: &mut [u8],
+    tally: &mut [u64],
+) -> u8
+    ensures { λ r. ⌜ r ≡ faultsNumber footprint kind width height (now (blocks .entry)) (length (now (faults .entry))) (length (now (tally .entry))) ⌝ }
+    ensures { λ r. ⌜ now (faults .exit) ≡ faultsShown footprint kind width height (now (blocks .entry)) (now (faults .entry)) (length (now (tally .entry))) ⌝ }
+    ensures { λ r. ⌜ now (tally .exit) ≡ faultsTally footprint kind width height (now (blocks .entry)) (length (now (faults .entry))) (now (tally .entry)) ⌝ }
+{
+    if tally.len() != 3 {
+        return refusal_or_5(footprint, kind, width, height, blocks.len(), faults.len());
+    }
+    let answer = image_faults::image_faults(footprint, kind, width, height, blocks, faults);
+    image_numbers::put_tally(image_numbers::tally_told(answer), tally);
+    image_numbers::refusal_told(answer)
+}
+
+// How many blocks an image has: 0 where its footprint or a side is refused.
+#[no_mangle]
+pub extern "C" fn stallbrook_astc_image_blocks(footprint: u8, width: u32, height: u32) -> u64
+    ensures { λ r. ⌜ r ≡ imageBlocks footprint width height ⌝ }
+{
+    let e = image_size::size_refusal(footprint, width, height);
+    if e != 0 {
+        return 0;
+    }
+    image_size::blocks_of(footprint, width, height) as u64
+}
+
+// How many numbers an image's result buffer takes: 0 where a side is refused.
+#[no_mangle]
+pub extern "C" fn stallbrook_astc_image_numbers(width: u32, height: u32) -> u64
+    ensures { λ r. ⌜ r ≡ bufferNumbers width height ⌝ }
+{
+    if image_size::bad_side(width) {
+        return 0;
+    }
+    if image_size::bad_side(height) {
+        return 0;
+    }
+    4 * (height as u64 * width as u64)
+}
+
+// How many numbers a block's result buffer takes: 0 above footprint 13.
+#[no_mangle]
+pub extern "C" fn stallbrook_astc_block_numbers(footprint: u8) -> u32
+    ensures { λ r. ⌜ r ≡ blockNumbers footprint ⌝ }
+{
+    4 * footprint::texels(footprint) as u32
+}
