@@ -1,9 +1,8 @@
 // The calls exported to C for symbolic blocks (01: sheets) as lists of 104 numbers, the fields in the order of 01, "Fields", and the HDR
-// mark; and for the best grey captions (02, n).
+// mark.
 ghost use mathlib.Core.Path.{_≡_};
 ghost use lib.ListN.{length};
 ghost use Rattle.symbolic_numbers.specs.Calls.{readNumber, readNumbers, writeNumber, writeBlock};
-ghost use Rattle.caption_image.specs.Image.{imageRefusal, imageOut, blockRefusal, blockOut};
 
 // A block's symbolic block: the fault's number or the refusal's with zeros in `numbers`, 5 with `numbers` as it was, or 0.
 #[no_mangle]
@@ -29,34 +28,4 @@ pub extern "C" fn stallbrook_astc_write_symbolic(
     ensures { λ r. ⌜ now (block .exit) ≡ writeBlock footprint (now (numbers .entry)) (now (block .entry)) ⌝ }
 {
     symbolic_numbers::write_numbers(footprint, numbers, block)
-}
-
-// The block of sixteen wanted greys: 0, or 4, 5 with `block` as it was where a length is wrong.
-#[no_mangle]
-pub extern "C" fn stallbrook_astc_caption_block(
-    e0: u8,
-    e1: u8,
-    wanted: &[u8],
-    block: &mut [u8],
-) -> u8
-    ensures { λ r. ⌜ r ≡ blockRefusal (length (now (block .entry))) (length (now (wanted .entry))) ⌝ }
-    ensures { λ r. ⌜ now (block .exit) ≡ blockOut e0 e1 (now (wanted .entry)) (now (block .entry)) ⌝ }
-{
-    caption_image::caption_into(e0, e1, wanted, block)
-}
-
-// The blocks of an image: 0, or the refusal's number with `blocks` as it was.
-#[no_mangle]
-pub extern "C" fn stallbrook_astc_caption_image(
-    e0: u8,
-    e1: u8,
-    width: u32,
-    height: u32,
-    wanted: &[u8],
-    blocks: &mut [u8],
-) -> u8
-    ensures { λ r. ⌜ r ≡ imageRefusal width height (length (now (blocks .entry))) (length (now (wanted .entry))) ⌝ }
-    ensures { λ r. ⌜ now (blocks .exit) ≡ imageOut e0 e1 width height (now (wanted .entry)) (now (blocks .entry)) ⌝ }
-{
-    caption_image::caption_image(e0, e1, width, height, wanted, blocks)
 }
