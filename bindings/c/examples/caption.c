@@ -15,7 +15,7 @@ int main(void) {
     for (int i = 0; i < 16; i++) {
         printf(" %u", block[i]);
     }
-    number = stallbrook_astc_decode_block_srgb8(0, block, sizeof block, texels, sizeof texels);
+    number = stallbrook_astc_decode_block_srgb8(STALLBROOK_4X4, block, sizeof block, texels, sizeof texels);
     if (number != 0) {
         printf("\nfault %u\n", number);
         return 1;

@@ -10,8 +10,8 @@ int main(void)
         0xBD, 0x55, 0x6E, 0x39, 0x28, 0x53, 0x8A, 0xDC, /* then sixteen zeros */
     };
     uint8_t texels[4 * 6 * 2];
-    uint64_t tally[3]; /* how many blocks have a fault, index and fault of the first */
-    int refused = stallbrook_bc7_decode_image(6, 2, blocks, sizeof blocks, texels, sizeof texels, tally, 3);
+    uint64_t tally[STALLBROOK_TALLY]; /* how many blocks have a fault, index and fault of the first */
+    int refused = stallbrook_bc7_decode_image(6, 2, blocks, sizeof blocks, texels, sizeof texels, tally, STALLBROOK_TALLY);
     printf("refused %d, faulty %d, first %d, fault %d\n", refused, (int)tally[0], (int)tally[1], (int)tally[2]);
     for (int i = 0; i < 12; i++)
         printf("(%d %d %d %d)%c", texels[4 * i], texels[4 * i + 1], texels[4 * i + 2], texels[4 * i + 3], i % 6 < 5 ? ' ' : '\n');

@@ -6,7 +6,7 @@
 int main(void) {
     const uint8_t block[16] = {0x42, 0x00, 0x00, 0xfe, 0x01, 0, 0, 0, 0, 0, 0, 0, 0, 0, 0, 0x80};
     uint8_t out[4 * 16];
-    int answer = stallbrook_astc_decode_block_srgb8(0, block, sizeof block, out, sizeof out);
+    int answer = stallbrook_astc_decode_block_srgb8(STALLBROOK_4X4, block, sizeof block, out, sizeof out);
     if (answer == 1 || answer == 4 || answer == 5) {
         printf("refused %d\n", answer);
         return 1;

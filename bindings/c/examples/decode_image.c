@@ -4,12 +4,17 @@
 #include "stallbrook.h"
 
 int main(void) {
-    const uint8_t blocks[32] = {0x42, 0x00, 0x00, 0xfe, 0x01, 0, 0, 0, 0, 0, 0, 0, 0, 0, 0, 0x80}; /* then sixteen zeros */
+    const uint8_t blocks[32] = {0x42, 0, 0, 0xfe, 1, 0, 0, 0, 0, 0, 0, 0, 0, 0, 0, 0x80}; /* then sixteen zeros */
     uint8_t texels[4 * 8 * 4];
-    uint64_t tally[3]; /* how many blocks have a fault, index and fault of the first */
-    int refused = stallbrook_astc_decode_image_srgb8(0, 8, 4, blocks, sizeof blocks, texels, sizeof texels, tally, 3);
-    printf("refused %d, faulty %d, first %d, fault %d\n", refused, (int)tally[0], (int)tally[1], (int)tally[2]);
+    uint64_t tally[STALLBROOK_TALLY];
+    uint8_t refused = stallbrook_astc_decode_image_srgb8(STALLBROOK_4X4, 8, 4, blocks, sizeof blocks, texels, sizeof texels, tally, STALLBROOK_TALLY);
+    if (refused != STALLBROOK_DONE) {
+        puts(stallbrook_text(refused));
+        return 1;
+    }
+    printf("%d bad, the first is block %d: %s\n", (int)tally[STALLBROOK_TALLY_FAULTY], (int)tally[STALLBROOK_TALLY_FIRST],
+        stallbrook_text((uint8_t)tally[STALLBROOK_TALLY_FAULT]));
     for (int x = 0; x < 8; x++)
         printf("(%d %d %d %d)%c", texels[4 * x], texels[4 * x + 1], texels[4 * x + 2], texels[4 * x + 3], x < 7 ? ' ' : '\n');
-    return refused;
+    return 0;
 }

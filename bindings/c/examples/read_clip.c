@@ -7,8 +7,8 @@ int main(void) {
     /* an image of 5 by 4 texels has two blocks at 4x4 */
     const uint8_t blocks[32] = {0x42, 0x00, 0x00, 0xfe, 0x01, 0, 0, 0, 0, 0, 0, 0, 0, 0, 0, 0x80,
         0xfc, 0xfd, 0xff, 0xff, 0xff, 0xff, 0xff, 0xff, 0x00, 0x10, 0x00, 0x20, 0x00, 0x30, 0xff, 0xff};
-    uint8_t clip[1 + 10 + sizeof blocks] = {1};
-    int answer = stallbrook_clip_write_frame(0, 1, 5, 4, blocks, sizeof blocks, clip + 1, sizeof clip - 1);
+    uint8_t clip[1 + STALLBROOK_FRAME_HEADER + sizeof blocks] = {1};
+    int answer = stallbrook_clip_write_frame(STALLBROOK_4X4, STALLBROOK_SRGB8, 5, 4, blocks, sizeof blocks, clip + 1, sizeof clip - 1);
     printf("write %d\n", answer);
 
     uint32_t state[STALLBROOK_CLIP_STATE];
@@ -24,10 +24,10 @@ int main(void) {
                 printf("refused %d\n", answer);
                 return 1;
             }
-            piece += told[0];
-            left -= told[0];
-            if (told[1] == 1) {
-                int fault = stallbrook_astc_decode_block_srgb8((uint8_t)told[4], block, sizeof block, texels, sizeof texels);
+            piece += told[STALLBROOK_TOLD_TAKEN];
+            left -= told[STALLBROOK_TOLD_TAKEN];
+            if (told[STALLBROOK_TOLD_HANDED] == 1) {
+                int fault = stallbrook_astc_decode_block_srgb8((uint8_t)told[STALLBROOK_TOLD_FOOTPRINT], block, sizeof block, texels, sizeof texels);
                 printf("frame %d block %d of %dx%d: fault %d, first texel %d %d %d %d\n", (int)told[2], (int)told[3], (int)told[6], (int)told[7],
                     fault, texels[0], texels[1], texels[2], texels[3]);
             }

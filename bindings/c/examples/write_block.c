@@ -5,29 +5,29 @@
 
 int main(void) {
     const uint8_t block[16] = {0x42, 0x00, 0x00, 0xfe, 0x01, 0, 0, 0, 0, 0, 0, 0, 0, 0, 0, 0x80};
-    uint16_t numbers[104];
+    uint16_t numbers[STALLBROOK_SYMBOLIC];
     uint8_t written[16];
-    int answer = stallbrook_astc_read_symbolic(0, block, sizeof block, numbers, 104);
+    int answer = stallbrook_astc_read_symbolic(STALLBROOK_4X4, block, sizeof block, numbers, STALLBROOK_SYMBOLIC);
     printf("read %d\n", answer);
-    for (int i = 0; i < 104; i++) {
+    for (int i = 0; i < STALLBROOK_SYMBOLIC; i++) {
         if (numbers[i] != 0) {
             printf("%d %d\n", i, numbers[i]);
         }
     }
     /* the first endpoint number, which may be 0 to 255 */
-    numbers[21] = 200;
-    answer = stallbrook_astc_write_symbolic(0, numbers, 104, written, sizeof written);
+    numbers[STALLBROOK_SYMBOLIC_ENDPOINTS] = 200;
+    answer = stallbrook_astc_write_symbolic(STALLBROOK_4X4, numbers, STALLBROOK_SYMBOLIC, written, sizeof written);
     printf("write %d:", answer);
     for (int i = 0; i < 16; i++) {
         printf(" %02x", written[i]);
     }
-    numbers[21] = 256;
-    answer = stallbrook_astc_write_symbolic(0, numbers, 104, written, sizeof written);
+    numbers[STALLBROOK_SYMBOLIC_ENDPOINTS] = 256;
+    answer = stallbrook_astc_write_symbolic(STALLBROOK_4X4, numbers, STALLBROOK_SYMBOLIC, written, sizeof written);
     printf("\nwrite %d:", answer);
     for (int i = 0; i < 16; i++) {
         printf(" %02x", written[i]);
     }
-    answer = stallbrook_astc_write_symbolic(0, numbers, 103, written, sizeof written);
+    answer = stallbrook_astc_write_symbolic(STALLBROOK_4X4, numbers, STALLBROOK_SYMBOLIC - 1, written, sizeof written);
     printf("\nwrite %d\n", answer);
     return 0;
 }

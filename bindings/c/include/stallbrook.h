@@ -1,43 +1,20 @@
-/* Stallbrook: ASTC blocks to texels, and to symbolic blocks; PVRTC1 images to texels. Link libstallbrook.a.
+/* Stallbrook: compressed textures read exactly. ASTC blocks, images and .astc files to texels, blocks to symbolic blocks and back, captions,
+ * clips; BC7 blocks and pictures; PVRTC1 images. Link libstallbrook.a or libstallbrook.so.
  *
- * A list is lent as pointer and length, the length in elements. The pointer must be aligned, and good for that many elements
- * (any aligned pointer but NULL where the length is 0); lists that a call writes must not overlap any other list of the same call.
- * Every call takes every number: nothing is undefined beyond that. On a refusal texels stay as they were; lists in which a call tells numbers
- * (tally, numbers, a written block) are all 0, unless they themselves have another length than said.
+ * A list is lent as pointer and length, the length in elements. The pointer must be aligned and good for that many elements; where the length is
+ * 0 it may be any, NULL too. A list that a call writes must not overlap any other list of the same call. Every call takes every number: nothing is
+ * undefined beyond that. On a refusal texels stay as they were; lists in which a call tells numbers (tally, numbers, a written block) are all 0,
+ * unless they themselves have another length than said.
  *
- * Footprints 0 to 13: 4x4, 5x4, 5x5, 6x5, 6x6, 8x5, 8x6, 8x8, 10x5, 10x6, 10x8, 10x10, 12x10, 12x12.
+ * Every call may run on several threads at once: no call keeps anything between calls, or reads or writes memory but its own and what it was
+ * lent. Only the lists that a call writes are its own while it runs; lists that it only reads may be shared.
+ *
+ * Calls answer a uint8_t: 0 where all went well, else the number of a refusal or fault, below. stallbrook_text() says it in words.
+ *
  * Texels are R, G, B, A, rows first. Kind 0, unorm16: 16-bit numbers (endpoints widen to 257c). Kind 1, srgb8: bytes before the sRGB curve (they
  * widen to 256c+128, alpha as the colours, and the top byte is shown). Kind 2, float16: half floats, as 16-bit patterns, of LDR and of HDR
  * blocks: of an LDR channel 1.0 for the kind 0 number 65535, else that number / 65536 rounded towards zero; an HDR void extent shows its four
  * colours as they are stored, infinities and NaN too.
- *
- * Refusals, the first that holds:
- *    1 footprint above 13
- *    3 an image side is 0 or above 16384
- *    4 block bytes not exactly 16 for each block
- *    5 the call's other list (texels, tally, numbers or wanted greys) not exactly as long as said
- *   44 one texel: outside the image, or of blocks that are refused by 1, 3 or 4
- * Faults of a block, the first that holds; float16 has no 13 and no 20:
- *   11 reserved block mode
- *   12 void extent: bits 11..10 not both 1, or extents neither all ones nor low < high on both axes
- *   13 void extent with bit 9 set (HDR)
- *   14 weight grid wider or higher than the footprint
- *   15 more than 64 weights, both planes counted
- *   16 weight bits below 24 or above 96
- *   17 two planes with four partitions
- *   18 more than 18 endpoint numbers
- *   19 too few endpoint bits
- *   20 a partition with an HDR endpoint mode
- * Refusals of a symbolic block: 12 and 14 to 19 as above, 20 where its HDR mark is clear with an HDR endpoint mode, and
- *   31 a field outside its limits, or an unused field not 0
- *   32 no block mode has this grid, range and planes
- *   33 endpoint modes that do not fit the selector
- *   34 an endpoint number or weight above its range, or an unused one not 0
- *   35 the HDR mark is set, and no partition's endpoint mode is HDR
- * Refusals of a PVRTC1 image, the first that holds:
- *   61 a side is not a power of two from 4 to 4096
- *    4 bytes of words not exactly 8 for each word
- *    5 result bytes not exactly 4 for each texel
  */
 #ifndef STALLBROOK_H
 #define STALLBROOK_H
@@ -48,6 +25,154 @@
 #ifdef __cplusplus
 extern "C" {
 #endif
+
+/* ---- Version, constants, and what the numbers mean. */
+
+#define STALLBROOK_VERSION "0.4.0"
+#define STALLBROOK_VERSION_MAJOR 0
+#define STALLBROOK_VERSION_MINOR 4
+#define STALLBROOK_VERSION_PATCH 0
+
+/* STALLBROOK_VERSION of the library that is linked or loaded. */
+const char *stallbrook_version(void);
+
+/* The English sentence of a refusal or a fault, "no refusal and no fault" for 0, and a sentence for every other number too. It is never freed. */
+const char *stallbrook_text(uint8_t number);
+
+enum stallbrook_kind { STALLBROOK_UNORM16 = 0, STALLBROOK_SRGB8 = 1, STALLBROOK_FLOAT16 = 2 };
+
+enum stallbrook_footprint {
+    STALLBROOK_4X4 = 0,
+    STALLBROOK_5X4 = 1,
+    STALLBROOK_5X5 = 2,
+    STALLBROOK_6X5 = 3,
+    STALLBROOK_6X6 = 4,
+    STALLBROOK_8X5 = 5,
+    STALLBROOK_8X6 = 6,
+    STALLBROOK_8X8 = 7,
+    STALLBROOK_10X5 = 8,
+    STALLBROOK_10X6 = 9,
+    STALLBROOK_10X8 = 10,
+    STALLBROOK_10X10 = 11,
+    STALLBROOK_12X10 = 12,
+    STALLBROOK_12X12 = 13,
+    STALLBROOK_FOOTPRINTS = 14
+};
+
+/* A footprint's sides in texels; 0 above 13. */
+static inline uint32_t stallbrook_footprint_width(uint8_t footprint)
+{
+    static const uint8_t widths[STALLBROOK_FOOTPRINTS] = {4, 5, 5, 6, 6, 8, 8, 8, 10, 10, 10, 10, 12, 12};
+    return footprint < STALLBROOK_FOOTPRINTS ? widths[footprint] : 0;
+}
+static inline uint32_t stallbrook_footprint_height(uint8_t footprint)
+{
+    static const uint8_t heights[STALLBROOK_FOOTPRINTS] = {4, 4, 5, 5, 6, 5, 6, 8, 5, 6, 8, 10, 10, 12};
+    return footprint < STALLBROOK_FOOTPRINTS ? heights[footprint] : 0;
+}
+
+/* Lengths of lists, in elements, and the largest side of an image. */
+enum {
+    STALLBROOK_LARGEST_SIDE = 16384,
+    STALLBROOK_BLOCK = 16,        /* bytes of an ASTC or BC7 block */
+    STALLBROOK_TEXEL = 4,         /* numbers of a texel */
+    STALLBROOK_TALLY = 3,         /* numbers of a tally */
+    STALLBROOK_SYMBOLIC = 104,    /* numbers of a symbolic block */
+    STALLBROOK_HEADER = 3,        /* numbers of a file's header as it is read */
+    STALLBROOK_FILE_HEADER = 16,  /* bytes of it as it is written */
+    STALLBROOK_CLIP_STATE = 26,   /* numbers of a clip's state */
+    STALLBROOK_CLIP_TOLD = 8,     /* numbers that a feed tells */
+    STALLBROOK_FRAME_HEADER = 10, /* bytes of a clip's frame before its blocks */
+    STALLBROOK_BC7_TEXELS = 64,   /* bytes of a BC7 block's texels */
+    STALLBROOK_BC7_SHEET = 60,    /* numbers of a BC7 sheet */
+    STALLBROOK_PVRTC_WORD = 8     /* bytes of a PVRTC1 word */
+};
+
+/* Places in a tally, in a file's header, and in what a feed tells. */
+enum { STALLBROOK_TALLY_FAULTY = 0, STALLBROOK_TALLY_FIRST = 1, STALLBROOK_TALLY_FAULT = 2 };
+enum { STALLBROOK_HEADER_FOOTPRINT = 0, STALLBROOK_HEADER_WIDTH = 1, STALLBROOK_HEADER_HEIGHT = 2 };
+enum {
+    STALLBROOK_TOLD_TAKEN = 0,
+    STALLBROOK_TOLD_HANDED = 1,
+    STALLBROOK_TOLD_FRAME = 2,
+    STALLBROOK_TOLD_INDEX = 3,
+    STALLBROOK_TOLD_FOOTPRINT = 4,
+    STALLBROOK_TOLD_KIND = 5,
+    STALLBROOK_TOLD_WIDTH = 6,
+    STALLBROOK_TOLD_HEIGHT = 7
+};
+
+/* Places in a symbolic block's numbers and in a BC7 sheet: each field's first. */
+enum {
+    STALLBROOK_SYMBOLIC_VOID_EXTENT = 0,
+    STALLBROOK_SYMBOLIC_COLOURS = 1, /* 4 */
+    STALLBROOK_SYMBOLIC_EXTENTS = 5, /* 4 */
+    STALLBROOK_SYMBOLIC_GRID_WIDTH = 9,
+    STALLBROOK_SYMBOLIC_GRID_HEIGHT = 10,
+    STALLBROOK_SYMBOLIC_WEIGHT_RANGE = 11,
+    STALLBROOK_SYMBOLIC_PLANES = 12,
+    STALLBROOK_SYMBOLIC_PLANE_CHANNEL = 13,
+    STALLBROOK_SYMBOLIC_PARTITIONS = 14,
+    STALLBROOK_SYMBOLIC_PARTITION_INDEX = 15,
+    STALLBROOK_SYMBOLIC_SELECTOR = 16,
+    STALLBROOK_SYMBOLIC_MODES = 17,     /* 4 */
+    STALLBROOK_SYMBOLIC_ENDPOINTS = 21, /* 18 */
+    STALLBROOK_SYMBOLIC_WEIGHTS = 39,   /* 64 */
+    STALLBROOK_SYMBOLIC_HDR = 103
+};
+enum {
+    STALLBROOK_BC7_MODE = 0,
+    STALLBROOK_BC7_PARTITION = 1,
+    STALLBROOK_BC7_ROTATION = 2,
+    STALLBROOK_BC7_SELECTION = 3,
+    STALLBROOK_BC7_ENDPOINTS = 4, /* 18 */
+    STALLBROOK_BC7_P_BITS = 22,   /* 6 */
+    STALLBROOK_BC7_PRIMARY = 28,  /* 16 */
+    STALLBROOK_BC7_SECONDARY = 44 /* 16 */
+};
+
+/* Refusals. A call tells the first that holds, in the order that it says. */
+enum stallbrook_refusal {
+    STALLBROOK_DONE = 0,
+    STALLBROOK_REFUSED_FOOTPRINT = 1,       /* footprint above 13 */
+    STALLBROOK_REFUSED_KIND = 2,            /* kind above 2 */
+    STALLBROOK_REFUSED_SIDE = 3,            /* an image side is 0 or above 16384 */
+    STALLBROOK_REFUSED_BLOCKS = 4,          /* block bytes not exactly 16 for each block; of PVRTC1 not 8 for each word */
+    STALLBROOK_REFUSED_LENGTH = 5,          /* the call's other list (texels, tally, numbers or wanted greys) not exactly as long as said */
+    STALLBROOK_REFUSED_FIELD = 31,          /* symbolic block: a field outside its limits, or an unused field not 0 */
+    STALLBROOK_REFUSED_BLOCK_MODE = 32,     /* no block mode has this grid, range and planes */
+    STALLBROOK_REFUSED_SELECTOR = 33,       /* endpoint modes that do not fit the selector */
+    STALLBROOK_REFUSED_RANGE = 34,          /* an endpoint number or weight above its range, or an unused one not 0 */
+    STALLBROOK_REFUSED_HDR_MARK = 35,       /* the HDR mark is set, and no partition's endpoint mode is HDR */
+    STALLBROOK_REFUSED_FILE_SHORT = 41,     /* .astc file: fewer than 16 bytes */
+    STALLBROOK_REFUSED_FILE_START = 42,     /* another start than 13 AB A1 5C */
+    STALLBROOK_REFUSED_FILE_FOOTPRINT = 43, /* a footprint that is not in the list, or a depth or third size other than 1 */
+    STALLBROOK_REFUSED_PLACE = 44,          /* one texel: outside the image, or of blocks that are refused by 1, 3 or 4 */
+    STALLBROOK_REFUSED_CLIP_VERSION = 51,   /* clip: another version */
+    STALLBROOK_REFUSED_FRAME_LENGTH = 52,   /* a frame's length is not 6 plus 16 for each block */
+    STALLBROOK_REFUSED_CLIP_END = 53,       /* the end inside a frame or before the version byte */
+    STALLBROOK_REFUSED_PVRTC_SIDE = 61,     /* PVRTC1: a side is not a power of two from 4 to 4096 */
+    STALLBROOK_REFUSED_BC7_MODE = 72,       /* BC7 sheet: a mode above 7 */
+    STALLBROOK_REFUSED_BC7_FIELD = 73       /* a field or an anchor index beyond its bits in that mode, or an unused one not 0 */
+};
+
+/* Faults of a block, the first that holds; float16 has no 13 and no 20. 12 and 14 to 19 are refusals of a symbolic block too, and 20 where its
+ * HDR mark is clear with an HDR endpoint mode. */
+enum stallbrook_fault {
+    STALLBROOK_FAULT_RESERVED = 11,         /* reserved block mode */
+    STALLBROOK_FAULT_VOID_EXTENT = 12,      /* void extent: bits 11..10 not both 1, or extents neither all ones nor low < high on both axes */
+    STALLBROOK_FAULT_HDR_VOID_EXTENT = 13,  /* void extent with bit 9 set (HDR) */
+    STALLBROOK_FAULT_GRID = 14,             /* weight grid wider or higher than the footprint */
+    STALLBROOK_FAULT_WEIGHTS = 15,          /* more than 64 weights, both planes counted */
+    STALLBROOK_FAULT_WEIGHT_BITS = 16,      /* weight bits below 24 or above 96 */
+    STALLBROOK_FAULT_PLANES = 17,           /* two planes with four partitions */
+    STALLBROOK_FAULT_ENDPOINTS = 18,        /* more than 18 endpoint numbers */
+    STALLBROOK_FAULT_ENDPOINT_BITS = 19,    /* too few endpoint bits */
+    STALLBROOK_FAULT_HDR_MODE = 20,         /* a partition with an HDR endpoint mode */
+    STALLBROOK_FAULT_BC7_RESERVED = 71      /* BC7: a first byte of 0 */
+};
+
+/* ---- ASTC blocks and images. */
 
 /* A block's texels: 16 bytes to 4 numbers for each texel of the footprint.
  * Answers 0, the block's fault (11 to 20; every texel is then 65535, 0, 65535, 65535, in srgb8 255, 0, 255, 255, in float16 65535 four times),
@@ -127,7 +252,6 @@ uint8_t stallbrook_pvrtc_decode_image(uint32_t width, uint32_t height, const uin
  *
  * The reader's state is a list of 26 numbers that the caller keeps and lends. What they are need not be known; every content is taken, one that
  * no call has written too. */
-enum { STALLBROOK_CLIP_STATE = 26, STALLBROOK_CLIP_TOLD = 8 };
 
 /* A fresh start. Answers 0, or 5 where state is not of 26 numbers, which are then as they were. */
 uint8_t stallbrook_clip_start(uint32_t *state, size_t state_len);

@@ -1,0 +1,53 @@
+/* The header's tables and words against what the calls answer. */
+#include <stdio.h>
+#include <string.h>
+
+#include "stallbrook.h"
+
+static int wrong = 0;
+
+static void expect(int good, const char *what, int number)
+{
+    if (!good) {
+        printf("%s: %d\n", what, number);
+        wrong = 1;
+    }
+}
+
+int main(void)
+{
+    char version[32];
+    snprintf(version, sizeof version, "%d.%d.%d", STALLBROOK_VERSION_MAJOR, STALLBROOK_VERSION_MINOR, STALLBROOK_VERSION_PATCH);
+    expect(strcmp(version, STALLBROOK_VERSION) == 0, "the version's parts", 0);
+    expect(strcmp(version, stallbrook_version()) == 0, "the library's version", 0);
+
+    /* a file's header has the footprint's sides in its fifth and sixth byte */
+    for (int footprint = 0; footprint < 256; footprint++) {
+        uint8_t header[STALLBROOK_FILE_HEADER];
+        uint8_t answer = stallbrook_astc_write_header((uint8_t)footprint, 1, 1, header, sizeof header);
+        expect(answer == (footprint < STALLBROOK_FOOTPRINTS ? STALLBROOK_DONE : STALLBROOK_REFUSED_FOOTPRINT), "footprint", footprint);
+        expect(header[4] == stallbrook_footprint_width((uint8_t)footprint), "width of footprint", footprint);
+        expect(header[5] == stallbrook_footprint_height((uint8_t)footprint), "height of footprint", footprint);
+    }
+    expect(stallbrook_footprint_width(STALLBROOK_10X8) == 10 && stallbrook_footprint_height(STALLBROOK_10X8) == 8, "10x8", STALLBROOK_10X8);
+
+    /* the largest side, and one more */
+    uint8_t header[STALLBROOK_FILE_HEADER];
+    expect(stallbrook_astc_write_header(STALLBROOK_12X12, STALLBROOK_LARGEST_SIDE, 1, header, sizeof header) == STALLBROOK_DONE, "largest side", 0);
+    expect(stallbrook_astc_write_header(STALLBROOK_12X12, STALLBROOK_LARGEST_SIDE + 1, 1, header, sizeof header) == STALLBROOK_REFUSED_SIDE,
+        "largest side and one", 0);
+
+    /* every number has a sentence, those of no call one in common, the others each its own */
+    int known = 0;
+    for (int a = 0; a < 256; a++) {
+        const char *text = stallbrook_text((uint8_t)a);
+        expect(text != NULL && strlen(text) > 9, "no sentence", a);
+        if (strcmp(text, stallbrook_text(255)) == 0)
+            continue;
+        known++;
+        for (int b = 0; b < a; b++)
+            expect(strcmp(text, stallbrook_text((uint8_t)b)) != 0, "the sentence of another number", a);
+    }
+    printf("%d numbers have a sentence of their own\n", known);
+    return wrong;
+}
