@@ -14,15 +14,15 @@
 //! # Ok::<(), stallbrook::Error>(())
 //! ```
 
-use crate::{Error, Tally, refused, tally_of};
+use crate::numbers::of_block;
+use crate::{Error, Fault, Refusal, Tally};
 
-/// The calls over slices, with request l's number as the answer.
+/// The calls over slices, with plain numbers.
 pub mod raw {
     unsafe extern "C" {
         fn stallbrook_bc7_decode_block(block: *const u8, block_len: usize, out: *mut u8, out_len: usize) -> u8;
-        fn stallbrook_bc7_read_symbolic(
-            block: *const u8, block_len: usize, numbers: *mut u8, numbers_len: usize,
-        ) -> u8;
+        fn stallbrook_bc7_read_symbolic(block: *const u8, block_len: usize, numbers: *mut u8, numbers_len: usize)
+        -> u8;
         fn stallbrook_bc7_write_symbolic(
             numbers: *const u8, numbers_len: usize, block: *mut u8, block_len: usize,
         ) -> u8;
@@ -58,21 +58,35 @@ pub mod raw {
 }
 
 /// A block's fields as stored, in the block's order; a field that the mode lacks is 0.
-#[derive(Clone, PartialEq, Eq, Debug)]
+///
+/// ```
+/// use stallbrook::bc7::Sheet;
+/// let sheet = Sheet { mode: 4, rotation: 2, ..Sheet::ZERO };
+/// assert_eq!(sheet.to_numbers()[..4], [4, 0, 2, 0]);
+/// assert_eq!(Sheet::from_numbers(&sheet.to_numbers()), sheet);
+/// ```
+#[derive(Clone, PartialEq, Eq, Hash, Debug)]
 pub struct Sheet {
+    /// 0 to 7.
     pub mode: u8,
+    /// Which partition of the mode's subsets.
     pub partition: u8,
+    /// Which channel changes places with alpha; 0 for none.
     pub rotation: u8,
     /// The index selection bit.
     pub selection: u8,
     /// Red of the first subset's two ends, of the second's, of the third's; then green, blue and alpha alike.
     pub endpoints: [u8; 18],
+    /// The lowest bits of the ends.
     pub p_bits: [u8; 6],
+    /// The texels' indices.
     pub primary: [u8; 16],
+    /// The texels' indices in modes with two sets.
     pub secondary: [u8; 16],
 }
 
 impl Sheet {
+    /// All 0.
     pub const ZERO: Sheet = Sheet {
         mode: 0,
         partition: 0,
@@ -110,61 +124,68 @@ impl Sheet {
     }
 }
 
-fn of_block(number: u8) -> Result<(), Error> {
-    if number == 71 { Err(Error::Faulty(71)) } else { refused(number) }
-}
-
 /// A block's sixteen texels as four bytes R, G, B, A each, rows first.
 ///
 /// ```
+/// use stallbrook::{Fault, Refusal, bc7};
 /// // a first byte of 0 is reserved: fault 71, and every texel is 0, 0, 0, 0
 /// let mut texels = [7u8; 64];
-/// assert_eq!(stallbrook::bc7::decode_block(&[0; 16], &mut texels), Err(stallbrook::Error::Faulty(71)));
+/// assert_eq!(bc7::decode_block(&[0; 16], &mut texels), Ok(Some(Fault::Bc7Reserved)));
 /// assert_eq!(texels, [0; 64]);
 /// // fifteen bytes are no block: refused by 4, and nothing is written
-/// assert_eq!(stallbrook::bc7::decode_block(&[1; 15], &mut texels), Err(stallbrook::Error::Refused(4)));
+/// assert_eq!(bc7::decode_block(&[1; 15], &mut texels), Err(Refusal::Blocks));
 /// ```
-pub fn decode_block(block: &[u8], out: &mut [u8]) -> Result<(), Error> {
+pub fn decode_block(block: &[u8], out: &mut [u8]) -> Result<Option<Fault>, Refusal> {
     of_block(raw::decode_block(block, out))
 }
 
 /// A picture's texels as four bytes each, rows first; blocks of 4x4 in raster order, edge blocks cropped.
 ///
 /// ```
+/// use stallbrook::{Fault, FirstFault, Refusal, bc7};
 /// // three texels of a reserved block: 0, 0, 0, 0, and fault 71 is counted
 /// let mut texels = [7u8; 12];
-/// let tally = stallbrook::bc7::decode_image(3, 1, &[0; 16], &mut texels)?;
-/// assert_eq!((tally.faulty, tally.first, tally.fault), (1, 0, 71));
+/// let tally = bc7::decode_image(3, 1, &[0; 16], &mut texels)?;
+/// assert_eq!((tally.faulty, tally.first), (1, Some(FirstFault { block: 0, fault: Fault::Bc7Reserved })));
 /// assert_eq!(texels, [0; 12]);
-/// assert_eq!(stallbrook::bc7::decode_image(0, 1, &[], &mut []), Err(stallbrook::Error::Refused(3)));
-/// # Ok::<(), stallbrook::Error>(())
+/// assert_eq!(bc7::decode_image(0, 1, &[], &mut []), Err(Refusal::Side));
+/// # Ok::<(), Refusal>(())
 /// ```
-pub fn decode_image(width: u32, height: u32, blocks: &[u8], out: &mut [u8]) -> Result<Tally, Error> {
+pub fn decode_image(width: u32, height: u32, blocks: &[u8], out: &mut [u8]) -> Result<Tally, Refusal> {
     let mut tally = [0; 3];
     let number = raw::decode_image(width, height, blocks, out, &mut tally);
-    tally_of(number, tally)
+    Tally::told(number, tally)
 }
 
 /// The sheet of a block without fault.
+///
+/// ```
+/// use stallbrook::{Error, Fault, bc7};
+/// assert_eq!(bc7::read(&[0x40; 16])?.mode, 6);
+/// assert_eq!(bc7::read(&[0; 16]), Err(Error::Faulty(Fault::Bc7Reserved)));
+/// # Ok::<(), Error>(())
+/// ```
 pub fn read(block: &[u8]) -> Result<Sheet, Error> {
     let mut numbers = [0; 60];
-    of_block(raw::read_symbolic(block, &mut numbers))?;
+    if let Some(fault) = of_block(raw::read_symbolic(block, &mut numbers))? {
+        return Err(Error::Faulty(fault));
+    }
     Ok(Sheet::from_numbers(&numbers))
 }
 
 /// The block of an acceptable sheet.
 ///
 /// ```
-/// use stallbrook::{Error, bc7};
+/// use stallbrook::{Refusal, bc7};
 /// let mut sheet = bc7::Sheet { mode: 8, ..bc7::Sheet::ZERO };
-/// assert_eq!(bc7::write(&sheet), Err(Error::Refused(72)));
+/// assert_eq!(bc7::write(&sheet), Err(Refusal::Bc7Mode));
 /// // mode 0 has no rotation
 /// sheet.mode = 0;
 /// sheet.rotation = 1;
-/// assert_eq!(bc7::write(&sheet), Err(Error::Refused(73)));
+/// assert_eq!(bc7::write(&sheet), Err(Refusal::Bc7Field));
 /// ```
-pub fn write(sheet: &Sheet) -> Result<[u8; 16], Error> {
+pub fn write(sheet: &Sheet) -> Result<[u8; 16], Refusal> {
     let mut block = [0; 16];
-    refused(raw::write_symbolic(&sheet.to_numbers(), &mut block))?;
+    Refusal::told(raw::write_symbolic(&sheet.to_numbers(), &mut block))?;
     Ok(block)
 }

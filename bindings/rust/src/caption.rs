@@ -1,9 +1,11 @@
 //! Best grey captions: a 4x4 block with two grey ends and weights 0..3 that is nearest to sixteen wanted greys, and whole images of them.
 
-use crate::Error;
+use crate::Refusal;
 
-/// The calls over slices, with their number as the answer.
+/// The calls over slices, with plain numbers.
 pub mod raw {
+    #![allow(missing_docs)]
+
     unsafe extern "C" {
         /// 0, or 4, 5 where a list is not of sixteen, nothing written.
         fn stallbrook_astc_caption_block(
@@ -47,9 +49,9 @@ pub mod raw {
 /// let block = stallbrook::caption::caption_block(0, 255, &wanted);
 /// assert_eq!(block, [0x42, 0, 0, 0xFE, 1, 0, 0, 0, 0, 0, 0, 0, 0, 0, 0, 0x80]);
 /// let mut texels = [0; 64];
-/// stallbrook::decode_block_srgb8(0, &block, &mut texels)?;
+/// stallbrook::decode_block_srgb8(stallbrook::Footprint::F4x4, &block, &mut texels)?;
 /// assert_eq!(texels[..8], [84, 84, 84, 255, 0, 0, 0, 255]);
-/// # Ok::<(), stallbrook::Error>(())
+/// # Ok::<(), stallbrook::Refusal>(())
 /// ```
 pub fn caption_block(e0: u8, e1: u8, wanted: &[u8; 16]) -> [u8; 16] {
     let mut block = [0; 16];
@@ -66,15 +68,15 @@ pub fn caption_block(e0: u8, e1: u8, wanted: &[u8; 16]) -> [u8; 16] {
 /// let mut blocks = vec![0; 16 * 16 * 256];
 /// stallbrook::caption::caption_image(0, 255, 1024, 64, &wanted, &mut blocks)?;
 /// let mut texels = vec![0; 4 * 64 * 1024];
-/// let tally = stallbrook::decode_image_srgb8(0, 1024, 64, &blocks, &mut texels)?;
+/// let tally = stallbrook::decode_image_srgb8(stallbrook::Footprint::F4x4, 1024, 64, &blocks, &mut texels)?;
 /// assert_eq!(tally.faulty, 0);
 /// assert_eq!((texels[0], texels[4 * 1023]), (0, 255));
 ///
 /// // one wanted grey is missing
 /// let refused = stallbrook::caption::caption_image(0, 255, 4, 4, &[0; 15], &mut [0; 16]);
-/// assert_eq!(refused, Err(stallbrook::Error::Refused(5)));
-/// # Ok::<(), stallbrook::Error>(())
+/// assert_eq!(refused, Err(stallbrook::Refusal::Length));
+/// # Ok::<(), stallbrook::Refusal>(())
 /// ```
-pub fn caption_image(e0: u8, e1: u8, width: u32, height: u32, wanted: &[u8], blocks: &mut [u8]) -> Result<(), Error> {
-    crate::refused(raw::caption_image(e0, e1, width, height, wanted, blocks))
+pub fn caption_image(e0: u8, e1: u8, width: u32, height: u32, wanted: &[u8], blocks: &mut [u8]) -> Result<(), Refusal> {
+    Refusal::told(raw::caption_image(e0, e1, width, height, wanted, blocks))
 }

@@ -2,9 +2,10 @@
 //!
 //! ```
 //! use stallbrook::clip::{Clip, Frame, write_frame};
+//! use stallbrook::{Footprint, Kind, Refusal};
 //!
 //! // a clip of one frame: the version byte, and a 5 by 4 image of two 4x4 blocks
-//! let frame = Frame { footprint: 0, kind: 1, width: 5, height: 4 };
+//! let frame = Frame { footprint: Footprint::F4x4, kind: Kind::Srgb8, width: 5, height: 4 };
 //! let mut bytes = vec![0; 1 + 10 + 32];
 //! bytes[0] = 1;
 //! write_frame(frame, &[7; 32], &mut bytes[1..])?;
@@ -24,30 +25,38 @@
 //! let mut cut_off = Clip::new();
 //! assert_eq!(cut_off.blocks(&bytes[..20]).count(), 0);
 //! let error = cut_off.finish().unwrap_err();
-//! assert_eq!(error.to_string(), "refused by 53: the clip ends inside a frame or before its version byte");
-//! # Ok::<(), stallbrook::Error>(())
+//! assert_eq!(error, Refusal::ClipEnd);
+//! assert_eq!(error.to_string(), "the clip ends inside a frame or before its version byte");
+//! # Ok::<(), Refusal>(())
 //! ```
 
 use std::io::{self, Read};
 
-use crate::{Error, raw, refused};
+use crate::{Footprint, Kind, Refusal, raw};
 
 /// What a frame says of itself.
-#[derive(Clone, Copy, PartialEq, Eq, Debug, Default)]
+#[derive(Clone, Copy, PartialEq, Eq, Hash, Debug)]
 pub struct Frame {
-    pub footprint: u8,
-    pub kind: u8,
+    /// How many texels a block covers.
+    pub footprint: Footprint,
+    /// In which kind it is meant to be shown.
+    pub kind: Kind,
+    /// In texels.
     pub width: u32,
+    /// In texels.
     pub height: u32,
 }
 
 /// A block that is handed out.
 #[derive(Clone, Copy, PartialEq, Eq, Debug)]
 pub struct Block {
-    /// Modulo 2^32.
+    /// The frame's index, modulo 2^32.
     pub frame_index: u32,
+    /// The block's index in its frame.
     pub index: u32,
+    /// Its frame.
     pub frame: Frame,
+    /// The block.
     pub bytes: [u8; 16],
 }
 
@@ -73,16 +82,32 @@ impl Clip {
 
     /// Takes bytes from the front of a piece, up to the one that completes a block or a refusal, and leaves the rest in it.
     /// `Ok(None)`: nothing is handed out; the piece is then used up, unless the clip was finished, after which nothing is taken.
+    ///
+    /// ```
+    /// use stallbrook::{Refusal, clip::Clip};
+    /// let mut clip = Clip::new();
+    /// let mut piece = &[1, 0, 0][..];
+    /// assert_eq!(clip.feed(&mut piece), Ok(None));
+    /// assert!(piece.is_empty());
+    /// // another version is refused at the first byte, and again until a fresh start
+    /// let mut other = Clip::new();
+    /// assert_eq!(other.feed(&mut &[2][..]), Err(Refusal::ClipVersion));
+    /// assert_eq!(other.finish(), Err(Refusal::ClipVersion));
+    /// ```
     #[inline]
-    pub fn feed(&mut self, piece: &mut &[u8]) -> Result<Option<Block>, Error> {
+    pub fn feed(&mut self, piece: &mut &[u8]) -> Result<Option<Block>, Refusal> {
         let mut bytes = [0; 16];
         let mut told = [0; 8];
         let number = raw::clip_feed(&mut self.state, piece, &mut bytes, &mut told);
         let [taken, handed, frame_index, index, footprint, kind, width, height] = told;
         *piece = &piece[taken as usize..];
-        refused(number)?;
-        let frame = Frame { footprint: footprint as u8, kind: kind as u8, width: width as u32, height: height as u32 };
-        Ok((handed == 1).then_some(Block { frame_index: frame_index as u32, index: index as u32, frame, bytes }))
+        Refusal::told(number)?;
+        if handed != 1 {
+            return Ok(None);
+        }
+        let (footprint, kind) = (Footprint::try_from(footprint as u8)?, Kind::try_from(kind as u8)?);
+        let frame = Frame { footprint, kind, width: width as u32, height: height as u32 };
+        Ok(Some(Block { frame_index: frame_index as u32, index: index as u32, frame, bytes }))
     }
 
     /// The blocks that a piece completes, and a refusal as the last.
@@ -92,8 +117,8 @@ impl Clip {
     }
 
     /// Says that the clip is finished: refused by 53 inside a frame or before the version byte, by its number after a refusal.
-    pub fn finish(&mut self) -> Result<(), Error> {
-        refused(raw::clip_finish(&mut self.state))
+    pub fn finish(&mut self) -> Result<(), Refusal> {
+        Refusal::told(raw::clip_finish(&mut self.state))
     }
 }
 
@@ -105,7 +130,7 @@ pub struct Blocks<'a> {
 }
 
 impl Iterator for Blocks<'_> {
-    type Item = Result<Block, Error>;
+    type Item = Result<Block, Refusal>;
 
     #[inline]
     fn next(&mut self) -> Option<Self::Item> {
@@ -126,7 +151,7 @@ impl Iterator for Blocks<'_> {
 /// // the version byte alone is a clip without frames; a clip that ends inside a frame is refused by 53
 /// assert_eq!(ClipReader::new(&[1u8][..]).count(), 0);
 /// let last = ClipReader::new(&[1u8, 0, 0][..]).last();
-/// assert!(matches!(last, Some(Err(ReadError::Clip(stallbrook::Error::Refused(53))))));
+/// assert!(matches!(last, Some(Err(ReadError::Clip(stallbrook::Refusal::ClipEnd)))));
 /// ```
 pub struct ClipReader<R> {
     source: R,
@@ -140,8 +165,10 @@ pub struct ClipReader<R> {
 /// Why a [`ClipReader`] ends early.
 #[derive(Debug)]
 pub enum ReadError {
+    /// Reading failed.
     Io(io::Error),
-    Clip(Error),
+    /// The clip was refused.
+    Clip(Refusal),
 }
 
 impl std::fmt::Display for ReadError {
@@ -156,6 +183,7 @@ impl std::fmt::Display for ReadError {
 impl std::error::Error for ReadError {}
 
 impl<R: Read> ClipReader<R> {
+    /// Reads a clip from its first byte on.
     pub fn new(source: R) -> ClipReader<R> {
         ClipReader { source, clip: Clip::new(), buffer: vec![0; 65536], left: 0..0, over: false }
     }
@@ -197,6 +225,18 @@ impl<R: Read> Iterator for ClipReader<R> {
 }
 
 /// Writes a frame, after the caller's version byte or the frame before, into a buffer of exactly 10 bytes and the blocks.
-pub fn write_frame(frame: Frame, blocks: &[u8], out: &mut [u8]) -> Result<(), Error> {
-    refused(raw::clip_write_frame(frame.footprint, frame.kind, frame.width, frame.height, blocks, out))
+///
+/// ```
+/// use stallbrook::clip::{Frame, write_frame};
+/// use stallbrook::{Footprint, Kind, Refusal};
+/// let frame = Frame { footprint: Footprint::F12x12, kind: Kind::Float16, width: 12, height: 12 };
+/// let mut bytes = [0; 26];
+/// write_frame(frame, &[7; 16], &mut bytes)?;
+/// assert_eq!(bytes[..10], [0, 0, 0, 22, 13, 2, 0, 12, 0, 12]);
+/// assert_eq!(write_frame(frame, &[7; 32], &mut bytes), Err(Refusal::Blocks));
+/// # Ok::<(), Refusal>(())
+/// ```
+pub fn write_frame(frame: Frame, blocks: &[u8], out: &mut [u8]) -> Result<(), Refusal> {
+    let (footprint, kind) = (frame.footprint.number(), frame.kind.number());
+    Refusal::told(raw::clip_write_frame(footprint, kind, frame.width, frame.height, blocks, out))
 }

@@ -1,6 +1,10 @@
 //! The C interface as the archive exports it. A slice crosses as pointer and length.
 
 unsafe extern "C" {
+    /// Text that ends with 0 and is never freed.
+    pub fn stallbrook_text(number: u8) -> *const std::ffi::c_char;
+    pub fn stallbrook_version() -> *const std::ffi::c_char;
+
     /// 0 (no fault), 11..20 (the block's fault; not 13 or 20 in float16), or 1, 4, 5 (refused, nothing written).
     pub fn stallbrook_astc_decode_block_unorm16(
         footprint: u8, block: *const u8, block_len: usize, out: *mut u16, out_len: usize,

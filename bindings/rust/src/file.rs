@@ -1,29 +1,30 @@
 //! The usual .astc files: a header of sixteen bytes, then the blocks in raster order.
 //!
 //! ```
+//! use stallbrook::Footprint;
 //! use stallbrook::file::{AstcFile, write_header};
 //!
 //! // a file of one 4x4 block, of which a texel is shown
-//! let mut bytes = write_header(0, 1, 1)?.to_vec();
+//! let mut bytes = write_header(Footprint::F4x4, 1, 1)?.to_vec();
 //! bytes.extend([0x42, 0, 0, 0xFE, 1, 0, 0, 0, 0, 0, 0, 0, 0, 0, 0, 0x80]);
 //!
 //! let file = AstcFile::read(&bytes)?;
-//! assert_eq!((file.footprint, file.width, file.height), (0, 1, 1));
+//! assert_eq!((file.footprint, file.width, file.height), (Footprint::F4x4, 1, 1));
 //! assert_eq!(file.blocks, &bytes[16..]);
-//! let mut texel = [0u8; 4];
-//! stallbrook::file::decode_srgb8(&bytes, &mut texel)?;
-//! assert_eq!(texel, [84, 84, 84, 255]);
+//! let (texels, tally) = file.view().to_srgb8();
+//! assert_eq!((texels, tally.faulty), (vec![84, 84, 84, 255], 0));
 //!
 //! // a byte too many is refused by 4
 //! bytes.push(0);
 //! let error = AstcFile::read(&bytes).unwrap_err();
-//! assert_eq!(error.to_string(), "refused by 4: block bytes not exactly 16 for each block");
-//! # Ok::<(), stallbrook::Error>(())
+//! assert_eq!((error.number(), error), (4, stallbrook::Refusal::Blocks));
+//! # Ok::<(), stallbrook::Refusal>(())
 //! ```
 
-use crate::{Error, Tally, refused, tally_of};
+use crate::view::View;
+use crate::{Footprint, Refusal, Tally};
 
-/// The calls over slices, with the number as the answer.
+/// The calls over slices, with plain numbers.
 pub mod raw {
     unsafe extern "C" {
         fn stallbrook_astc_read_header(file: *const u8, file_len: usize, header: *mut u32, header_len: usize) -> u8;
@@ -73,19 +74,29 @@ pub mod raw {
 /// What a whole file's header says, and the bytes of its blocks.
 #[derive(Clone, Copy, PartialEq, Eq, Debug)]
 pub struct AstcFile<'a> {
-    pub footprint: u8,
+    /// How many texels a block covers.
+    pub footprint: Footprint,
+    /// In texels.
     pub width: u32,
+    /// In texels.
     pub height: u32,
+    /// In raster order, 16 bytes each.
     pub blocks: &'a [u8],
 }
 
 impl<'a> AstcFile<'a> {
-    /// Refused by 41 (fewer than 16 bytes), 42 (another start), 43 (footprint, depth or third size), 3 (a side) or 4 (the length).
-    pub fn read(file: &'a [u8]) -> Result<AstcFile<'a>, Error> {
+    /// Opens a file that is lent whole. Refused by 41 (fewer than 16 bytes), 42 (another start), 43 (footprint, depth or third size), 3 (a side) or 4 (the length).
+    pub fn read(file: &'a [u8]) -> Result<AstcFile<'a>, Refusal> {
         let mut header = [0; 3];
-        refused(raw::read_header(file, &mut header))?;
+        Refusal::told(raw::read_header(file, &mut header))?;
         let [footprint, width, height] = header;
-        Ok(AstcFile { footprint: footprint as u8, width, height, blocks: &file[16..] })
+        let footprint = Footprint::try_from(footprint as u8)?;
+        Ok(AstcFile { footprint, width, height, blocks: &file[16..] })
+    }
+
+    /// The file's picture, to be decoded or asked for texels.
+    pub fn view(&self) -> View<'a> {
+        View::new(self.blocks, self.footprint, self.width, self.height).expect("a file that was read has a picture")
     }
 
     /// How many numbers its texels are.
@@ -94,40 +105,66 @@ impl<'a> AstcFile<'a> {
     }
 }
 
-/// The header of an image's file, refused by 1 or 3; its blocks stand behind it.
-pub fn write_header(footprint: u8, width: u32, height: u32) -> Result<[u8; 16], Error> {
+/// The header of an image's file, refused by 3; its blocks stand behind it.
+///
+/// ```
+/// use stallbrook::{Footprint, Refusal, file::write_header};
+/// let header = write_header(Footprint::F6x5, 640, 480)?;
+/// assert_eq!(header, [0x13, 0xAB, 0xA1, 0x5C, 6, 5, 1, 0x80, 2, 0, 0xE0, 1, 0, 1, 0, 0]);
+/// assert_eq!(write_header(Footprint::F6x5, 0, 480), Err(Refusal::Side));
+/// # Ok::<(), Refusal>(())
+/// ```
+pub fn write_header(footprint: Footprint, width: u32, height: u32) -> Result<[u8; 16], Refusal> {
     let mut header = [0; 16];
-    refused(raw::write_header(footprint, width, height, &mut header))?;
+    Refusal::told(raw::write_header(footprint.number(), width, height, &mut header))?;
     Ok(header)
 }
 
 /// A whole file's texels as four 16-bit numbers each.
-pub fn decode_unorm16(file: &[u8], out: &mut [u16]) -> Result<Tally, Error> {
+///
+/// ```
+/// let mut file = stallbrook::file::write_header(stallbrook::Footprint::F4x4, 1, 1)?.to_vec();
+/// file.extend([0x42, 0, 0, 0xFE, 1, 0, 0, 0, 0, 0, 0, 0, 0, 0, 0, 0x80]);
+/// let mut texel = [0; 4];
+/// assert_eq!(stallbrook::file::decode_unorm16(&file, &mut texel)?.first, None);
+/// assert_eq!(texel, [21504, 21504, 21504, 65535]);
+/// # Ok::<(), stallbrook::Refusal>(())
+/// ```
+pub fn decode_unorm16(file: &[u8], out: &mut [u16]) -> Result<Tally, Refusal> {
     let mut tally = [0; 3];
     let number = raw::decode_file_unorm16(file, out, &mut tally);
-    tally_of(number, tally)
+    Tally::told(number, tally)
 }
 
 /// A whole file's texels as four bytes each, before the sRGB curve.
-pub fn decode_srgb8(file: &[u8], out: &mut [u8]) -> Result<Tally, Error> {
+///
+/// ```
+/// let mut file = stallbrook::file::write_header(stallbrook::Footprint::F4x4, 1, 1)?.to_vec();
+/// file.extend([0x42, 0, 0, 0xFE, 1, 0, 0, 0, 0, 0, 0, 0, 0, 0, 0, 0x80]);
+/// let mut texel = [0; 4];
+/// assert_eq!(stallbrook::file::decode_srgb8(&file, &mut texel)?.first, None);
+/// assert_eq!(texel, [84, 84, 84, 255]);
+/// # Ok::<(), stallbrook::Refusal>(())
+/// ```
+pub fn decode_srgb8(file: &[u8], out: &mut [u8]) -> Result<Tally, Refusal> {
     let mut tally = [0; 3];
     let number = raw::decode_file_srgb8(file, out, &mut tally);
-    tally_of(number, tally)
+    Tally::told(number, tally)
 }
 
 /// A whole file's texels as four half floats each, as 16-bit patterns; HDR blocks too.
 ///
 /// ```
 /// // two texels of an HDR void extent: 1.0, 2.0, 0.5, 1.0
-/// let mut bytes = stallbrook::file::write_header(0, 2, 1)?.to_vec();
+/// let mut bytes = stallbrook::file::write_header(stallbrook::Footprint::F4x4, 2, 1)?.to_vec();
 /// bytes.extend([0xFC, 0xFF, 0xFF, 0xFF, 0xFF, 0xFF, 0xFF, 0xFF, 0, 0x3C, 0, 0x40, 0, 0x38, 0, 0x3C]);
 /// let mut texels = [0u16; 8];
 /// assert_eq!(stallbrook::file::decode_float16(&bytes, &mut texels)?.faulty, 0);
 /// assert_eq!(texels, [0x3C00, 0x4000, 0x3800, 0x3C00, 0x3C00, 0x4000, 0x3800, 0x3C00]);
-/// # Ok::<(), stallbrook::Error>(())
+/// # Ok::<(), stallbrook::Refusal>(())
 /// ```
-pub fn decode_float16(file: &[u8], out: &mut [u16]) -> Result<Tally, Error> {
+pub fn decode_float16(file: &[u8], out: &mut [u16]) -> Result<Tally, Refusal> {
     let mut tally = [0; 3];
     let number = raw::decode_file_float16(file, out, &mut tally);
-    tally_of(number, tally)
+    Tally::told(number, tally)
 }

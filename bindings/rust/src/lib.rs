@@ -1,119 +1,107 @@
-//! ASTC blocks and images (2D, LDR and HDR) to texels, and symbolic blocks to blocks and back: safe wrappers over the proved archive.
+//! Compressed textures read exactly: ASTC blocks, images and .astc files (2D, LDR and HDR) to texels, ASTC settings to blocks and back, the best
+//! grey [captions](caption), [clips](clip) of ASTC frames piece by piece, [BC7](bc7) blocks and pictures, and [PVRTC1](pvrtc) images.
+//!
+//! These are safe wrappers over `libstallbrook`, in which every function is proved to meet its contract: for every input, wrong ones included, it is
+//! fixed what a call answers and what it leaves in the memory that it was lent.
 //!
 //! ```
-//! // 01's program block: one partition, luminance, a 4x4 footprint
-//! let block = [0x42, 0, 0, 0xFE, 1, 0, 0, 0, 0, 0, 0, 0, 0, 0, 0, 0x80];
-//! let mut texels = [0u8; 4 * 16];
-//! stallbrook::decode_block_srgb8(0, &block, &mut texels)?;
+//! use stallbrook::{Fault, Footprint, Refusal, view::View};
+//! // two blocks of 4x4, side by side: a grey one, and one of zeros, which is damaged
+//! let mut blocks = [0; 32];
+//! blocks[..16].copy_from_slice(&[0x42, 0, 0, 0xFE, 1, 0, 0, 0, 0, 0, 0, 0, 0, 0, 0, 0x80]);
+//! let view = View::new(&blocks, Footprint::F4x4, 8, 4)?;
+//!
+//! // the whole picture, and which block is the first bad one
+//! let (texels, tally) = view.to_srgb8();
 //! assert_eq!(texels[..4], [84, 84, 84, 255]);
+//! assert_eq!(tally.faulty, 1);
+//! assert_eq!(tally.first.map(|first| (first.block, first.fault)), Some((1, Fault::Reserved)));
 //!
-//! let settings = stallbrook::read_symbolic(0, &block)?;
-//! assert_eq!(settings.partitions, 1);
-//! assert_eq!(stallbrook::write_symbolic(0, &settings)?, block);
-//! # Ok::<(), stallbrook::Error>(())
+//! // one texel
+//! let asked = view.srgb8(4, 0)?;
+//! assert_eq!((asked.texel, asked.fault), ([255, 0, 255, 255], Some(Fault::Reserved)));
+//! # Ok::<(), Refusal>(())
 //! ```
+//!
+//! # What calls tell
+//!
+//! A call that cannot do what it is asked is *refused*, and leaves result buffers as they were: `Err(`[`Refusal`]`)`. A damaged block is no refusal:
+//! its texels are the error colour (magenta, in half floats NaN), and its [`Fault`] is told: of a block as `Option<Fault>`, of a picture as a [`Tally`].
+//! Calls that read a block's settings have none to give where it has a fault: their [`Error`] is either.
+//!
+//! Texels are four numbers R, G, B, A, rows first, in three [kinds](Kind). The calls may run on any number of threads at once.
+//!
+//! # The library
+//!
+//! The environment variable `STALLBROOK_LIB` names the folder of `libstallbrook.a` when this package is built. Where it is not set, `target/staticlib`
+//! of the repository is taken, and else the system's library. The modules `raw` are the same calls with plain numbers, as they stand in `stallbrook.h`.
+
+#![deny(missing_docs)]
 
 pub mod bc7;
 pub mod caption;
 pub mod clip;
 mod ffi;
 pub mod file;
+mod numbers;
 pub mod pvrtc;
 pub mod raw;
 pub mod view;
 
-/// Why a call has no result, with 01's number.
-#[derive(Clone, Copy, PartialEq, Eq, Debug)]
-pub enum Error {
-    /// The call was refused and wrote nothing.
-    Refused(u8),
-    /// The block has a fault (11 to 20; half floats have no 13 and 20). A decoding call has filled its buffer with magenta, in half floats
-    /// with 65535 (NaN).
-    Faulty(u8),
+use numbers::of_block;
+pub use numbers::{Error, Fault, FirstFault, Footprint, Kind, Refusal, Tally, UnknownNumber};
+
+/// The version of the library that is linked.
+///
+/// ```
+/// assert_eq!(stallbrook::version(), env!("CARGO_PKG_VERSION"));
+/// ```
+pub fn version() -> &'static str {
+    unsafe { std::ffi::CStr::from_ptr(ffi::stallbrook_version()) }.to_str().expect("digits and dots")
 }
 
-impl Error {
-    /// 01's number.
-    pub fn number(self) -> u8 {
-        match self {
-            Error::Refused(number) | Error::Faulty(number) => number,
-        }
-    }
-}
-
-impl std::fmt::Display for Error {
-    fn fmt(&self, f: &mut std::fmt::Formatter) -> std::fmt::Result {
-        match self {
-            Error::Refused(number) => write!(f, "refused by {number}: {}", words(*number)),
-            Error::Faulty(number) => write!(f, "faulty block, {number}: {}", words(*number)),
-        }
-    }
-}
-
-impl std::error::Error for Error {}
-
-/// What a number means.
-fn words(number: u8) -> &'static str {
-    match number {
-        1 => "footprint above 13",
-        2 => "kind above 2",
-        3 => "a side is 0 or above 16,384",
-        4 => "block bytes not exactly 16 for each block",
-        5 => "a buffer is not exactly as long as said",
-        11 => "reserved block mode",
-        12 => "void extent with bad bits or extents",
-        13 => "HDR void extent, which half floats alone show",
-        14 => "weight grid larger than the footprint",
-        15 => "more than 64 weights",
-        16 => "weight bits below 24 or above 96",
-        17 => "two planes with four partitions",
-        18 => "more than 18 endpoint numbers",
-        19 => "too few endpoint bits",
-        20 => "an HDR endpoint mode, which half floats alone show; of a symbolic block: with a clear HDR mark",
-        31 => "a field outside its limits, or an unused one not 0",
-        32 => "no block mode has this grid, range and planes",
-        33 => "endpoint modes that do not fit the selector",
-        34 => "an endpoint number or weight above its range, or an unused one not 0",
-        35 => "the HDR mark is set, and no partition's mode is HDR",
-        41 => "a file of fewer than 16 bytes",
-        42 => "a file that does not begin as .astc files do",
-        43 => "a footprint that is not in the list, or a depth or third size other than 1",
-        44 => "a texel outside the picture",
-        51 => "a clip of another version",
-        52 => "a frame's length is not 6 plus 16 for each block",
-        53 => "the clip ends inside a frame or before its version byte",
-        61 => "a side is not a power of two from 4 to 4,096",
-        _ => "unknown",
-    }
-}
-
-/// What an image call tells of blocks with a fault: their count, and the raster index and fault of the first (0 where there is none).
-#[derive(Clone, Copy, PartialEq, Eq, Debug, Default)]
-pub struct Tally {
-    pub faulty: u64,
-    pub first: u64,
-    pub fault: u64,
-}
-
-/// A block's settings and stored numbers (01: sheet); unused fields are 0.
-#[derive(Clone, PartialEq, Eq, Debug)]
+/// A block's settings and stored numbers; unused fields are 0. The default is all 0, which no block has.
+///
+/// ```
+/// use stallbrook::{Footprint, SymbolicBlock, read_symbolic};
+/// let block = [0x42, 0, 0, 0xFE, 1, 0, 0, 0, 0, 0, 0, 0, 0, 0, 0, 0x80];
+/// let settings = read_symbolic(Footprint::F4x4, &block)?;
+/// assert_eq!((settings.width, settings.height, settings.partitions), (4, 4, 1));
+/// assert_eq!(settings.endpoints[..2], [0, 255]);
+/// let numbers = settings.to_numbers();
+/// assert_eq!(numbers[9..11], [4, 4]);
+/// assert_eq!(SymbolicBlock::from_numbers(&numbers), settings);
+/// # Ok::<(), stallbrook::Error>(())
+/// ```
+#[derive(Clone, PartialEq, Eq, Hash, Debug)]
 pub struct SymbolicBlock {
-    /// 1 for a void extent (01: solid), which uses the colours, the extents and the HDR mark only; 0 for any other.
+    /// 1 for a void extent (a solid block), which uses the colours, the extents and the HDR mark only; 0 for any other.
     pub mark: u16,
+    /// R, G, B, A of a void extent.
     pub colours: [u16; 4],
     /// Low s, high s, low t, high t.
     pub extents: [u16; 4],
+    /// Width of the weight grid.
     pub width: u16,
+    /// Height of the weight grid.
     pub height: u16,
+    /// Range of the weights.
     pub range: u16,
+    /// Weight planes, 1 or 2.
     pub planes: u16,
-    /// 01: plane channel.
+    /// The channel of the second plane.
     pub component: u16,
+    /// 1 to 4.
     pub partitions: u16,
+    /// Partition index.
     pub index: u16,
+    /// How the endpoint modes are stored.
     pub selector: u16,
+    /// The partitions' endpoint modes.
     pub modes: [u16; 4],
+    /// The endpoint numbers as stored.
     pub endpoints: [u16; 18],
+    /// The weights as stored; of two planes in turn.
     pub weights: [u16; 64],
     /// 1 for HDR: of a void extent its bit 9; of any other exactly where some partition's mode is HDR.
     pub hdr: u16,
@@ -166,97 +154,102 @@ impl SymbolicBlock {
     }
 }
 
-/// A block's number as a result: a decoding or reading call refuses by 1, 4 and 5, faults are 11 to 20.
-fn of_block(number: u8) -> Result<(), Error> {
-    match number {
-        0 => Ok(()),
-        1..=5 => Err(Error::Refused(number)),
-        _ => Err(Error::Faulty(number)),
+impl Default for SymbolicBlock {
+    fn default() -> SymbolicBlock {
+        SymbolicBlock::from_numbers(&[0; 104])
     }
-}
-
-/// Any number but 0 is a refusal.
-#[inline]
-fn refused(number: u8) -> Result<(), Error> {
-    if number == 0 { Ok(()) } else { Err(Error::Refused(number)) }
 }
 
 /// A block's texels as four 16-bit numbers each, rows first.
 ///
 /// ```
+/// use stallbrook::{Fault, Footprint};
 /// let mut texels = [7u16; 4 * 16];
 /// // a block of zeros has a reserved mode: magenta, and fault 11
-/// let answer = stallbrook::decode_block_unorm16(0, &[0; 16], &mut texels);
-/// assert_eq!(answer, Err(stallbrook::Error::Faulty(11)));
+/// let answer = stallbrook::decode_block_unorm16(Footprint::F4x4, &[0; 16], &mut texels);
+/// assert_eq!(answer, Ok(Some(Fault::Reserved)));
 /// assert_eq!(texels[..4], [65535, 0, 65535, 65535]);
 /// ```
-pub fn decode_block_unorm16(footprint: u8, block: &[u8], out: &mut [u16]) -> Result<(), Error> {
-    of_block(raw::decode_block_unorm16(footprint, block, out))
+pub fn decode_block_unorm16(footprint: Footprint, block: &[u8], out: &mut [u16]) -> Result<Option<Fault>, Refusal> {
+    of_block(raw::decode_block_unorm16(footprint.number(), block, out))
 }
 
 /// A block's texels as four bytes each, before the sRGB curve.
 ///
 /// ```
+/// use stallbrook::{Footprint, Refusal, decode_block_srgb8};
+/// let block = [0x42, 0, 0, 0xFE, 1, 0, 0, 0, 0, 0, 0, 0, 0, 0, 0, 0x80];
+/// let mut texels = [7; 4 * 16];
 /// // fifteen bytes are no block: refused by 4, and nothing is written
-/// let mut texels = [7u8; 4 * 16];
-/// let answer = stallbrook::decode_block_srgb8(0, &[0; 15], &mut texels);
-/// assert_eq!(answer, Err(stallbrook::Error::Refused(4)));
+/// assert_eq!(decode_block_srgb8(Footprint::F4x4, &block[..15], &mut texels), Err(Refusal::Blocks));
 /// assert_eq!(texels, [7; 4 * 16]);
+///
+/// let fault = decode_block_srgb8(Footprint::F4x4, &block, &mut texels)?;
+/// assert_eq!((fault, &texels[..4]), (None, &[84, 84, 84, 255][..]));
+/// # Ok::<(), Refusal>(())
 /// ```
-pub fn decode_block_srgb8(footprint: u8, block: &[u8], out: &mut [u8]) -> Result<(), Error> {
-    of_block(raw::decode_block_srgb8(footprint, block, out))
+pub fn decode_block_srgb8(footprint: Footprint, block: &[u8], out: &mut [u8]) -> Result<Option<Fault>, Refusal> {
+    of_block(raw::decode_block_srgb8(footprint.number(), block, out))
 }
 
 /// A block's texels as four half floats each, as 16-bit patterns; HDR blocks too.
 ///
 /// ```
+/// use stallbrook::{Fault, Footprint};
 /// // an HDR void extent shows its colours as they are stored: 1.0, infinity, 0.5, 2.0
 /// let colours = [0x3C00u16, 0x7C00, 0x3800, 0x4000];
 /// let mut block = [0xFF; 16];
 /// block[0] = 0xFC;
 /// block[8..].copy_from_slice(colours.map(u16::to_le_bytes).as_flattened());
 /// let mut texels = [0u16; 4 * 16];
-/// stallbrook::decode_block_float16(0, &block, &mut texels)?;
+/// assert_eq!(stallbrook::decode_block_float16(Footprint::F4x4, &block, &mut texels)?, None);
 /// assert_eq!(texels[..4], colours);
 /// // the other kinds have no such blocks: fault 13
-/// let answer = stallbrook::decode_block_unorm16(0, &block, &mut texels);
-/// assert_eq!(answer, Err(stallbrook::Error::Faulty(13)));
-/// # Ok::<(), stallbrook::Error>(())
+/// let answer = stallbrook::decode_block_unorm16(Footprint::F4x4, &block, &mut texels)?;
+/// assert_eq!(answer, Some(Fault::HdrVoidExtent));
+/// # Ok::<(), stallbrook::Refusal>(())
 /// ```
-pub fn decode_block_float16(footprint: u8, block: &[u8], out: &mut [u16]) -> Result<(), Error> {
-    of_block(raw::decode_block_float16(footprint, block, out))
-}
-
-fn tally_of(number: u8, tally: [u64; 3]) -> Result<Tally, Error> {
-    refused(number)?;
-    let [faulty, first, fault] = tally;
-    Ok(Tally { faulty, first, fault })
+pub fn decode_block_float16(footprint: Footprint, block: &[u8], out: &mut [u16]) -> Result<Option<Fault>, Refusal> {
+    of_block(raw::decode_block_float16(footprint.number(), block, out))
 }
 
 /// An image's texels as four 16-bit numbers each; blocks in raster order.
 ///
 /// ```
+/// use stallbrook::{Fault, FirstFault, Footprint};
 /// // three texels of a 4x4 block of zeros
 /// let mut texels = [0u16; 4 * 3];
-/// let tally = stallbrook::decode_image_unorm16(0, 3, 1, &[0; 16], &mut texels)?;
-/// assert_eq!((tally.faulty, tally.first, tally.fault), (1, 0, 11));
-/// # Ok::<(), stallbrook::Error>(())
+/// let tally = stallbrook::decode_image_unorm16(Footprint::F4x4, 3, 1, &[0; 16], &mut texels)?;
+/// assert_eq!((tally.faulty, tally.first), (1, Some(FirstFault { block: 0, fault: Fault::Reserved })));
+/// # Ok::<(), stallbrook::Refusal>(())
 /// ```
 pub fn decode_image_unorm16(
-    footprint: u8, width: u32, height: u32, blocks: &[u8], out: &mut [u16],
-) -> Result<Tally, Error> {
+    footprint: Footprint, width: u32, height: u32, blocks: &[u8], out: &mut [u16],
+) -> Result<Tally, Refusal> {
     let mut tally = [0; 3];
-    let number = raw::decode_image_unorm16(footprint, width, height, blocks, out, &mut tally);
-    tally_of(number, tally)
+    let number = raw::decode_image_unorm16(footprint.number(), width, height, blocks, out, &mut tally);
+    Tally::told(number, tally)
 }
 
 /// An image's texels as four bytes each, before the sRGB curve.
+///
+/// ```
+/// use stallbrook::{Footprint, Refusal, decode_image_srgb8};
+/// // an image of 5 by 4 texels has two blocks of 4x4: here the same, of which the second shows a column
+/// let block = [0x42, 0, 0, 0xFE, 1, 0, 0, 0, 0, 0, 0, 0, 0, 0, 0, 0x80];
+/// let mut texels = [0; 4 * 5 * 4];
+/// let tally = decode_image_srgb8(Footprint::F4x4, 5, 4, &[block, block].concat(), &mut texels)?;
+/// assert_eq!((tally.faulty, tally.first), (0, None));
+/// assert_eq!(texels[16..20], [84, 84, 84, 255]);
+/// assert_eq!(decode_image_srgb8(Footprint::F4x4, 5, 4, &block, &mut texels), Err(Refusal::Blocks));
+/// # Ok::<(), Refusal>(())
+/// ```
 pub fn decode_image_srgb8(
-    footprint: u8, width: u32, height: u32, blocks: &[u8], out: &mut [u8],
-) -> Result<Tally, Error> {
+    footprint: Footprint, width: u32, height: u32, blocks: &[u8], out: &mut [u8],
+) -> Result<Tally, Refusal> {
     let mut tally = [0; 3];
-    let number = raw::decode_image_srgb8(footprint, width, height, blocks, out, &mut tally);
-    tally_of(number, tally)
+    let number = raw::decode_image_srgb8(footprint.number(), width, height, blocks, out, &mut tally);
+    Tally::told(number, tally)
 }
 
 /// An image's texels as four half floats each, as 16-bit patterns; HDR blocks too.
@@ -264,48 +257,60 @@ pub fn decode_image_srgb8(
 /// ```
 /// // a block of zeros has a reserved mode: its texels are 65535, a NaN, in all four channels
 /// let mut texels = [0u16; 4 * 3];
-/// let tally = stallbrook::decode_image_float16(0, 3, 1, &[0; 16], &mut texels)?;
-/// assert_eq!((tally.faulty, tally.first, tally.fault), (1, 0, 11));
+/// let tally = stallbrook::decode_image_float16(stallbrook::Footprint::F4x4, 3, 1, &[0; 16], &mut texels)?;
+/// assert_eq!(tally.faulty, 1);
 /// assert_eq!(texels, [65535; 4 * 3]);
-/// # Ok::<(), stallbrook::Error>(())
+/// # Ok::<(), stallbrook::Refusal>(())
 /// ```
 pub fn decode_image_float16(
-    footprint: u8, width: u32, height: u32, blocks: &[u8], out: &mut [u16],
-) -> Result<Tally, Error> {
+    footprint: Footprint, width: u32, height: u32, blocks: &[u8], out: &mut [u16],
+) -> Result<Tally, Refusal> {
     let mut tally = [0; 3];
-    let number = raw::decode_image_float16(footprint, width, height, blocks, out, &mut tally);
-    tally_of(number, tally)
+    let number = raw::decode_image_float16(footprint.number(), width, height, blocks, out, &mut tally);
+    Tally::told(number, tally)
 }
 
 /// The symbolic block of a block without fault, LDR or HDR: faults are those of half floats, without 13 and 20.
-pub fn read_symbolic(footprint: u8, block: &[u8]) -> Result<SymbolicBlock, Error> {
+///
+/// ```
+/// use stallbrook::{Error, Fault, Footprint, read_symbolic};
+/// let block = [0x42, 0, 0, 0xFE, 1, 0, 0, 0, 0, 0, 0, 0, 0, 0, 0, 0x80];
+/// assert_eq!(read_symbolic(Footprint::F4x4, &block)?.weights[0], 1);
+/// assert_eq!(read_symbolic(Footprint::F4x4, &[0; 16]), Err(Error::Faulty(Fault::Reserved)));
+/// # Ok::<(), Error>(())
+/// ```
+pub fn read_symbolic(footprint: Footprint, block: &[u8]) -> Result<SymbolicBlock, Error> {
     let mut numbers = [0; 104];
-    of_block(raw::read_symbolic(footprint, block, &mut numbers))?;
+    if let Some(fault) = of_block(raw::read_symbolic(footprint.number(), block, &mut numbers))? {
+        return Err(Error::Faulty(fault));
+    }
     Ok(SymbolicBlock::from_numbers(&numbers))
 }
 
 /// The block of an acceptable symbolic block, with the smallest codes and spare bits 0.
 ///
 /// ```
+/// use stallbrook::{Fault, Footprint, Refusal, read_symbolic, write_symbolic};
 /// let block = [0x42, 0, 0, 0xFE, 1, 0, 0, 0, 0, 0, 0, 0, 0, 0, 0, 0x80];
-/// let mut settings = stallbrook::read_symbolic(0, &block)?;
+/// let mut settings = read_symbolic(Footprint::F4x4, &block)?;
+/// assert_eq!(write_symbolic(Footprint::F4x4, &settings)?, block);
 /// settings.endpoints[0] = 256;
-/// assert_eq!(stallbrook::write_symbolic(0, &settings), Err(stallbrook::Error::Refused(34)));
+/// assert_eq!(write_symbolic(Footprint::F4x4, &settings), Err(Refusal::Range));
 /// settings.planes = 3;
-/// assert_eq!(stallbrook::write_symbolic(0, &settings), Err(stallbrook::Error::Refused(31)));
+/// assert_eq!(write_symbolic(Footprint::F4x4, &settings), Err(Refusal::Field));
 ///
 /// // endpoint mode 2 is HDR: refused by 20 without the mark, and the mark by 35 without such a mode
-/// let mut settings = stallbrook::read_symbolic(0, &block)?;
+/// let mut settings = read_symbolic(Footprint::F4x4, &block)?;
 /// settings.hdr = 1;
-/// assert_eq!(stallbrook::write_symbolic(0, &settings), Err(stallbrook::Error::Refused(35)));
+/// assert_eq!(write_symbolic(Footprint::F4x4, &settings), Err(Refusal::HdrMark));
 /// settings.modes[0] = 2;
-/// assert!(stallbrook::write_symbolic(0, &settings).is_ok());
+/// assert!(write_symbolic(Footprint::F4x4, &settings).is_ok());
 /// settings.hdr = 0;
-/// assert_eq!(stallbrook::write_symbolic(0, &settings), Err(stallbrook::Error::Refused(20)));
+/// assert_eq!(write_symbolic(Footprint::F4x4, &settings), Err(Refusal::Settings(Fault::HdrMode)));
 /// # Ok::<(), stallbrook::Error>(())
 /// ```
-pub fn write_symbolic(footprint: u8, block: &SymbolicBlock) -> Result<[u8; 16], Error> {
+pub fn write_symbolic(footprint: Footprint, block: &SymbolicBlock) -> Result<[u8; 16], Refusal> {
     let mut bytes = [0; 16];
-    refused(raw::write_symbolic(footprint, &block.to_numbers(), &mut bytes))?;
+    Refusal::told(raw::write_symbolic(footprint.number(), &block.to_numbers(), &mut bytes))?;
     Ok(bytes)
 }

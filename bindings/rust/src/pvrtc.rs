@@ -1,9 +1,11 @@
 //! PVRTC1 at 4 bits per pixel: images of 64-bit words in reflected Morton order to texels.
 
-use crate::Error;
+use crate::Refusal;
 
-/// The call over slices, with its number as the answer.
+/// The call over slices, with plain numbers.
 pub mod raw {
+    #![allow(missing_docs)]
+
     unsafe extern "C" {
         /// 0, or the refusal 61, 4 or 5, nothing written.
         fn stallbrook_pvrtc_decode_image(
@@ -31,11 +33,11 @@ pub mod raw {
 /// // a side of 2 is refused by 61, and nothing is written
 /// let mut few = [7u8; 4 * 8];
 /// let refused = stallbrook::pvrtc::decode_image(4, 2, &word, &mut few).unwrap_err();
-/// assert_eq!(refused, stallbrook::Error::Refused(61));
-/// assert_eq!(refused.to_string(), "refused by 61: a side is not a power of two from 4 to 4,096");
+/// assert_eq!(refused, stallbrook::Refusal::PvrtcSide);
+/// assert_eq!(refused.to_string(), "a side is not a power of two from 4 to 4,096");
 /// assert_eq!(few, [7; 4 * 8]);
-/// # Ok::<(), stallbrook::Error>(())
+/// # Ok::<(), stallbrook::Refusal>(())
 /// ```
-pub fn decode_image(width: u32, height: u32, words: &[u8], out: &mut [u8]) -> Result<(), Error> {
-    crate::refused(raw::decode_image(width, height, words, out))
+pub fn decode_image(width: u32, height: u32, words: &[u8], out: &mut [u8]) -> Result<(), Refusal> {
+    Refusal::told(raw::decode_image(width, height, words, out))
 }

@@ -1,4 +1,6 @@
-//! The calls over slices, with 01's number as the answer.
+//! The calls over slices, with plain numbers: 0, a refusal's or a fault's. `stallbrook.h` says what each takes and leaves.
+
+#![allow(missing_docs)]
 
 use crate::ffi;
 

@@ -4,6 +4,7 @@
 //! 1 and 7 bytes are measured over ten frames.
 
 use library::clip::{Clip, Frame, write_frame};
+use library::{Footprint, Kind};
 
 use crate::{SIDE, blocks, median, timed};
 
@@ -45,7 +46,7 @@ pub fn measure(rounds: usize) {
     let blocks = blocks(FOOTPRINT);
     let n = blocks.len() / 16;
     let side = SIDE as u32;
-    let said = Frame { footprint: FOOTPRINT as u8, kind: 0, width: side, height: side };
+    let said = Frame { footprint: Footprint::F6x6, kind: Kind::Unorm16, width: side, height: side };
     let mut frame = vec![0; 10 + blocks.len()];
     write_frame(said, &blocks, &mut frame).expect("a sound frame");
 

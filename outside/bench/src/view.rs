@@ -24,11 +24,12 @@ pub fn run(rounds: usize) -> [f64; 2] {
             .iter()
             .flat_map(|&(x, y)| (0..WINDOW * WINDOW).map(move |i| ((x + i % WINDOW) as u32, (y + i / WINDOW) as u32)))
             .collect();
-        let view = library::view::View::new(&blocks, footprint as u8, side, side).unwrap();
+        let view = library::view::View::new(&blocks, (footprint as u8).try_into().unwrap(), side, side).unwrap();
         let sum = |texel: [u16; 4]| texel.iter().map(|&n| n as u64).sum::<u64>();
         let ours = || places.iter().map(|&(x, y)| sum(view.unorm16(x, y).unwrap().texel)).sum::<u64>();
-        let theirs =
-            || places.iter().map(|&(x, y)| sum(ask(footprint, Kind::Unorm16, side, side, &blocks, x, y).1)).sum::<u64>();
+        let theirs = || {
+            places.iter().map(|&(x, y)| sum(ask(footprint, Kind::Unorm16, side, side, &blocks, x, y).1)).sum::<u64>()
+        };
         assert_eq!(ours(), theirs(), "{w}x{h}, windows: not the same texels");
         let name = format!("{WINDOWS} windows of {WINDOW} by {WINDOW} texels, {w}x{h}");
         worst = largest(

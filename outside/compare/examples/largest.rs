@@ -3,6 +3,7 @@
 //! run it: cargo run --release --example largest
 use std::time::Instant;
 
+use library::{FirstFault, Footprint, Tally};
 use reference::random::{Random, symbolic_block};
 use reference::{FOOTPRINTS, Kind, decode_u8, decode_u16, fault, write};
 
@@ -19,15 +20,17 @@ fn main() {
     let blocks: Vec<[u8; 16]> = (0..ACROSS * ACROSS).map(|_| r.pick(&drawn)).collect();
     let faults: Vec<u8> = blocks.iter().map(|b| fault(f, Kind::Unorm16, b)).collect();
     let first = faults.iter().position(|&e| e != 0).unwrap();
-    let tally = (faults.iter().filter(|&&e| e != 0).count() as u64, first as u64, faults[first] as u64);
+    let first = FirstFault { block: first as u64, fault: faults[first].try_into().unwrap() };
+    let tally = Tally { faulty: faults.iter().filter(|&&e| e != 0).count() as u64, first: Some(first) };
+    let footprint = Footprint::try_from(f as u8).unwrap();
     let places = places(&mut r);
 
     let mut wide = vec![0u16; 4 * SIDE * SIDE];
     let began = Instant::now();
     let told =
-        library::decode_image_unorm16(f as u8, SIDE as u32, SIDE as u32, blocks.as_flattened(), &mut wide).unwrap();
+        library::decode_image_unorm16(footprint, SIDE as u32, SIDE as u32, blocks.as_flattened(), &mut wide).unwrap();
     println!("kind 0: {:.2} s", began.elapsed().as_secs_f64());
-    assert_eq!((told.faulty, told.first, told.fault), tally);
+    assert_eq!(told, tally);
     let mut block = [0u16; 576];
     for &(x, y) in &places {
         decode_u16(f, &blocks[y / 12 * ACROSS + x / 12], &mut block);
@@ -39,16 +42,16 @@ fn main() {
     let mut bytes = vec![0u8; 4 * SIDE * SIDE];
     let began = Instant::now();
     let told =
-        library::decode_image_srgb8(f as u8, SIDE as u32, SIDE as u32, blocks.as_flattened(), &mut bytes).unwrap();
+        library::decode_image_srgb8(footprint, SIDE as u32, SIDE as u32, blocks.as_flattened(), &mut bytes).unwrap();
     println!("kind 1: {:.2} s", began.elapsed().as_secs_f64());
-    assert_eq!((told.faulty, told.first, told.fault), tally);
+    assert_eq!(told, tally);
     let mut block = [0u8; 576];
     for &(x, y) in &places {
         decode_u8(f, &blocks[y / 12 * ACROSS + x / 12], &mut block);
         let (at, from) = (4 * (y * SIDE + x), 4 * (y % 12 * 12 + x % 12));
         assert_eq!(bytes[at..at + 4], block[from..from + 4], "kind 1 at {x}, {y}");
     }
-    println!("{} texels in each kind agree, {} faulty blocks, the first {}", places.len(), tally.0, tally.1);
+    println!("{} texels in each kind agree, {} faulty blocks, the first {}", places.len(), tally.faulty, first.block);
     let status = std::fs::read_to_string("/proc/self/status").unwrap_or_default();
     println!("{}", status.lines().find(|line| line.starts_with("VmHWM")).unwrap_or("no measure of memory"));
 }

@@ -13,7 +13,8 @@ fn main() -> std::io::Result<()> {
         for (n, (width, height)) in [(3 * columns + 1, 2 * rows + 3), (columns - 1, 2 * rows)].into_iter().enumerate() {
             let count = width.div_ceil(columns) * height.div_ceil(rows);
             let blocks = (0..count).flat_map(|_| write(footprint, &symbolic_block(&mut r, footprint)).unwrap());
-            let header = library::file::write_header(footprint as u8, width as u32, height as u32).unwrap();
+            let sort = library::Footprint::try_from(footprint as u8).unwrap();
+            let header = library::file::write_header(sort, width as u32, height as u32).unwrap();
             let file: Vec<u8> = header.into_iter().chain(blocks).collect();
             let (mut numbers, mut bytes) = (vec![0; 4 * width * height], vec![0; 4 * width * height]);
             assert_eq!(library::file::decode_unorm16(&file, &mut numbers).unwrap().faulty, 0);

@@ -110,7 +110,8 @@ fn by_calls(case: &ClipCase) -> Result<ParsedClip, String> {
 
 fn plain(b: &Block) -> (u32, u32, ClipFrame, [u8; 16]) {
     let Frame { footprint, kind, width, height } = b.frame;
-    (b.frame_index, b.index, ClipFrame { footprint, kind, width, height }, b.bytes)
+    let frame = ClipFrame { footprint: footprint.number(), kind: kind.number(), width, height };
+    (b.frame_index, b.index, frame, b.bytes)
 }
 
 /// What the Rust reader tells of a clip in pieces: its blocks and its end.

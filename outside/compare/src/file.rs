@@ -76,7 +76,8 @@ impl Case for FileCase {
             return Some(format!("read_header: {number}, {list:?}, expected {expected}, {after:?}"));
         }
         let opened = library::file::AstcFile::read(&self.bytes);
-        let parts = opened.map(|f| ([f.footprint as u32, f.width, f.height], f.blocks)).map_err(|e| e.number());
+        let parts =
+            opened.map(|f| ([f.footprint.number() as u32, f.width, f.height], f.blocks)).map_err(|e| e.number());
         if parts != read_file(&self.bytes).map(|(_, blocks)| (told, blocks)) {
             return Some(format!("AstcFile::read: {parts:?}"));
         }
@@ -232,6 +233,7 @@ fn vectors(run: &mut Run) {
     let mut agree = 0;
     for stored in vectors::file::stored() {
         let file = library::file::AstcFile::read(stored.bytes);
+        let footprint = library::Footprint::try_from(stored.footprint).unwrap();
         let said = file.map(|f| (f.footprint, f.width, f.height));
         let (mut numbers, mut bytes) = (vec![0; stored.numbers()], vec![0; stored.numbers()]);
         let mut halves = vec![0; stored.numbers()];
@@ -239,11 +241,10 @@ fn vectors(run: &mut Run) {
         let small = library::file::decode_srgb8(stored.bytes, &mut bytes);
         let half = library::file::decode_float16(stored.bytes, &mut halves);
         let sound = Ok(library::Tally::default());
-        let agrees = said == Ok((stored.footprint, stored.width, stored.height))
+        let agrees = said == Ok((footprint, stored.width, stored.height))
             && [wide, small, half] == [sound; 3]
             && stored.shows(&numbers, &bytes, &halves)
-            && library::file::write_header(stored.footprint, stored.width, stored.height).unwrap()
-                == stored.bytes[..16];
+            && library::file::write_header(footprint, stored.width, stored.height).unwrap() == stored.bytes[..16];
         if agrees {
             agree += 1;
         } else {

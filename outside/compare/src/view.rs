@@ -2,6 +2,7 @@
 
 use std::fmt;
 
+use library::Footprint;
 use library::view::{View, raw};
 use reference::random::Random;
 use reference::{FOOTPRINTS, Kind, ask, view_refusal};
@@ -79,14 +80,18 @@ impl ViewCase {
     /// The wrapper at a place, in kind 0.
     fn wrapped(&self, x: u32, y: u32) -> Option<String> {
         let refusal = self.refusal();
-        let given = match View::new(&self.blocks, self.footprint, self.width, self.height) {
+        let given = match Footprint::try_from(self.footprint)
+            .and_then(|f| View::new(&self.blocks, f, self.width, self.height))
+        {
             Err(e) => return (e.number() != refusal).then(|| format!("making a view answers {e}, expected {refusal}")),
             Ok(_) if refusal != 0 => return Some(format!("making a view is not refused by {refusal}")),
             Ok(view) => view.unorm16(x, y),
         };
         let (number, texel) = ask(self.footprint as usize, Kind::Unorm16, self.width, self.height, &self.blocks, x, y);
         let same = match given {
-            Ok(asked) => number != 44 && (asked.fault, asked.texel) == (number, texel),
+            Ok(asked) => {
+                number != 44 && (asked.fault.map_or(0, |fault| fault.number()), asked.texel) == (number, texel)
+            }
             Err(e) => e.number() == number,
         };
         (!same).then(|| format!("the view answers {given:?} at x {x} y {y}"))
@@ -161,7 +166,8 @@ fn places(r: &mut Random, width: u32, height: u32) -> Vec<(u32, u32)> {
     let mut places = vec![(0, 0), (right, 0), (0, bottom), (right, bottom), (width, 0), (0, height), (width, height)];
     places.push(r.pick(&[(u32::MAX, 0), (0, u32::MAX), (1 << 31, 1 << 31), (width.wrapping_add(4), 0)]));
     for _ in 0..12 {
-        places.push((r.below(width.clamp(1, 20_000) as usize) as u32, r.below(height.clamp(1, 20_000) as usize) as u32));
+        places
+            .push((r.below(width.clamp(1, 20_000) as usize) as u32, r.below(height.clamp(1, 20_000) as usize) as u32));
     }
     places
 }
