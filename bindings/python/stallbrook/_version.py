@@ -1,0 +1,3 @@
+"""The package's version, which the library's has to fit."""
+
+VERSION = "0.4.0"
