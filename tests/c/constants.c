@@ -28,6 +28,19 @@ int main(void)
         expect(answer == (footprint < STALLBROOK_FOOTPRINTS ? STALLBROOK_DONE : STALLBROOK_REFUSED_FOOTPRINT), "footprint", footprint);
         expect(header[4] == stallbrook_footprint_width((uint8_t)footprint), "width of footprint", footprint);
         expect(header[5] == stallbrook_footprint_height((uint8_t)footprint), "height of footprint", footprint);
+
+        /* sizes, by the header's own sides */
+        uint32_t w = stallbrook_footprint_width((uint8_t)footprint), h = stallbrook_footprint_height((uint8_t)footprint);
+        expect(stallbrook_astc_block_numbers((uint8_t)footprint) == STALLBROOK_TEXEL * w * h, "numbers of footprint", footprint);
+        static const uint32_t sides[] = {0, 1, 4, 5, 12, 13, 97, STALLBROOK_LARGEST_SIDE, STALLBROOK_LARGEST_SIDE + 1, UINT32_MAX};
+        for (size_t i = 0; i < sizeof sides / sizeof *sides; i++)
+            for (size_t k = 0; k < sizeof sides / sizeof *sides; k++) {
+                uint64_t x = sides[i], y = sides[k];
+                int refused = x == 0 || x > STALLBROOK_LARGEST_SIDE || y == 0 || y > STALLBROOK_LARGEST_SIDE;
+                uint64_t blocks = refused || w == 0 ? 0 : (x + w - 1) / w * ((y + h - 1) / h);
+                expect(stallbrook_astc_image_blocks((uint8_t)footprint, sides[i], sides[k]) == blocks, "blocks of footprint", footprint);
+                expect(stallbrook_astc_image_numbers(sides[i], sides[k]) == (refused ? 0 : STALLBROOK_TEXEL * x * y), "numbers", (int)x);
+            }
     }
     expect(stallbrook_footprint_width(STALLBROOK_10X8) == 10 && stallbrook_footprint_height(STALLBROOK_10X8) == 8, "10x8", STALLBROOK_10X8);
 

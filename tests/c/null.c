@@ -41,6 +41,10 @@ int main(void)
     ANSWERS(5, stallbrook_astc_decode_image_float16(0, 4, 4, block, 16, words, 64, NULL, 0));
     ANSWERS(3, stallbrook_astc_decode_image_srgb8(0, 0, 0, NULL, 0, NULL, 0, NULL, 0));
 
+    ANSWERS(4, stallbrook_astc_image_faults(0, 0, 4, 4, NULL, 0, bytes, 1, tally, 3));
+    ANSWERS(5, stallbrook_astc_image_faults(0, 0, 4, 4, block, 16, NULL, 0, tally, 3));
+    ANSWERS(5, stallbrook_astc_image_faults(0, 0, 4, 4, block, 16, bytes, 1, NULL, 0));
+
     ANSWERS(4, stallbrook_astc_view_refusal(0, 4, 4, NULL, 0));
     ANSWERS(44, stallbrook_astc_texel_unorm16(0, 4, 4, NULL, 0, 0, 0, words, 4));
     ANSWERS(5, stallbrook_astc_texel_unorm16(0, 4, 4, block, 16, 0, 0, NULL, 0));

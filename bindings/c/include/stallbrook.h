@@ -172,6 +172,17 @@ enum stallbrook_fault {
     STALLBROOK_FAULT_BC7_RESERVED = 71      /* BC7: a first byte of 0 */
 };
 
+/* ---- Sizes of ASTC images, so that no table is typed again. */
+
+/* How many blocks an image has, each of 16 bytes: 0 where the footprint is above 13 or a side is 0 or above 16384. */
+uint64_t stallbrook_astc_image_blocks(uint8_t footprint, uint32_t width, uint32_t height);
+
+/* How many numbers an image's texels are, 4 for each: 0 where a side is 0 or above 16384. */
+uint64_t stallbrook_astc_image_numbers(uint32_t width, uint32_t height);
+
+/* How many numbers a block's texels are, 4 for each: 0 where the footprint is above 13. */
+uint32_t stallbrook_astc_block_numbers(uint8_t footprint);
+
 /* ---- ASTC blocks and images. */
 
 /* A block's texels: 16 bytes to 4 numbers for each texel of the footprint.
@@ -191,6 +202,13 @@ uint8_t stallbrook_astc_decode_image_srgb8(uint8_t footprint, uint32_t width, ui
     uint8_t *out, size_t out_len, uint64_t *tally, size_t tally_len);
 uint8_t stallbrook_astc_decode_image_float16(uint8_t footprint, uint32_t width, uint32_t height, const uint8_t *blocks, size_t blocks_len,
     uint16_t *out, size_t out_len, uint64_t *tally, size_t tally_len);
+
+/* Which blocks of an image have a fault: one byte for each block in raster order, 0 or the fault that the image call of that kind tells of it. No
+ * texel is painted. A block has 0 exactly where the image call shows its own texels: magenta with 0 is a magenta picture.
+ * Answers 0, or the refusal 1, 2 (kind above 2), 3, 4 or 5 (faults not exactly one byte for each block), which leaves faults as they were. tally as
+ * in the image calls: a tally of another length is refused by 5, after 1, 2, 3 and 4, and nothing at all is written. */
+uint8_t stallbrook_astc_image_faults(uint8_t footprint, uint8_t kind, uint32_t width, uint32_t height, const uint8_t *blocks, size_t blocks_len,
+    uint8_t *faults, size_t faults_len, uint64_t *tally, size_t tally_len);
 
 /* One texel of an image, by column x and row y, no block unpacked: footprint, sides and blocks as in the image calls, whose number of that
  * place it is, to 4 numbers. float16: patterns of half floats, HDR taken, 65535 four times for a block with a fault.

@@ -15,6 +15,8 @@ A damaged block shows magenta (in half floats NaN), and its fault is told:
 
 >>> tally.faulty, tally.first.block, str(tally.first.fault)
 (1, 1, 'the block mode is reserved')
+>>> picture.faults("srgb8").tolist()
+[[0, 11]]
 >>> picture.texel(4, 0)
 Texel(rgba=(255, 0, 255, 255), fault=Fault(number=11))
 
@@ -42,7 +44,7 @@ import ctypes
 import enum
 import operator
 import os
-from typing import Any, List, Mapping, NamedTuple, Optional, Tuple, TypedDict, Union
+from typing import Any, Dict, List, Mapping, NamedTuple, Optional, Tuple, TypedDict, Union
 
 from . import _library
 from ._version import VERSION as __version__
@@ -367,6 +369,25 @@ class Picture:
         kind = Kind.of(kind)
         texels, tally = _Texels(kind, (self.height, self.width, 4)), (ctypes.c_uint64 * 3)()
         return _decoded(_library.DECODE_IMAGE[kind](*self._lent(), texels.address, texels.count, tally, 3), texels, tally)
+
+    def faults(self, kind: KindLike = Kind.SRGB8) -> Array:
+        """Each block's fault in a kind, as a number, 0 for none: an array of bytes, rows of blocks x blocks in a row. No texel is painted.
+
+        >>> Picture(bytes(16) + bytes([0xFC, 0xFD] + [0xFF] * 14), "4x4", 8, 4).faults().tolist()
+        [[11, 0]]
+        """
+        faults, tally = _Texels(Kind.SRGB8, (self.down, self.across)), (ctypes.c_uint64 * 3)()
+        footprint, *rest = self._lent()
+        _told(_library.IMAGE_FAULTS(footprint, Kind.of(kind), *rest, faults.address, faults.count, tally, 3))
+        return faults.array
+
+    def bad_blocks(self, kind: KindLike = Kind.SRGB8) -> Dict[int, Fault]:
+        """The blocks that have a fault in a kind, by index in raster order.
+
+        >>> Picture(bytes(16) + bytes([0xFC, 0xFD] + [0xFF] * 14), "4x4", 8, 4).bad_blocks()
+        {0: Fault(number=11)}
+        """
+        return {index: Fault(number) for index, number in enumerate(memoryview(self.faults(kind)).tobytes()) if number}
 
     def texel(self, x: int, y: int, kind: KindLike = Kind.SRGB8) -> Texel:
         """The texel in column x and row y; no block is unpacked. Refused by 44 outside the picture.

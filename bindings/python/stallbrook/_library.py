@@ -66,6 +66,7 @@ KINDS = ("unorm16", "srgb8", "float16")
 DECODE_BLOCK = [_call("astc_decode_block_" + kind, BYTE, LIST, LIST) for kind in KINDS]
 DECODE_IMAGE = [_call("astc_decode_image_" + kind, BYTE, SIDE, SIDE, LIST, LIST, LIST) for kind in KINDS]
 TEXEL = [_call("astc_texel_" + kind, BYTE, SIDE, SIDE, LIST, SIDE, SIDE, LIST) for kind in KINDS]
+IMAGE_FAULTS = _call("astc_image_faults", BYTE, BYTE, SIDE, SIDE, LIST, LIST, LIST)
 VIEW_REFUSAL = _call("astc_view_refusal", BYTE, SIDE, SIDE, LIST)
 READ_SYMBOLIC = _call("astc_read_symbolic", BYTE, LIST, LIST)
 WRITE_SYMBOLIC = _call("astc_write_symbolic", BYTE, LIST, LIST)

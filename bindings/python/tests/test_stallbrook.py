@@ -69,6 +69,16 @@ class Pictures(Told):
                 for x in range(16):
                     self.assertEqual(list(picture.texel(x, y, kind).rgba), rows[y][x])
 
+    def test_faults(self):
+        picture = Picture(SOUND + HDR + bytes(16) + HDR + SOUND + SOUND, "4x4", 9, 8)
+        self.assertEqual(picture.faults("unorm16").tolist(), [[0, 13, 11], [13, 0, 0]])
+        self.assertEqual(picture.faults(Kind.FLOAT16).tolist(), [[0, 0, 11], [0, 0, 0]])
+        self.assertEqual(picture.bad_blocks("srgb8"), {1: Fault(13), 2: Fault(11), 3: Fault(13)})
+        self.assertEqual(picture.bad_blocks("float16"), {2: Fault(11)})
+        self.refused(2, picture.faults, 3)
+        tally = picture.decode("srgb8").tally
+        self.assertEqual((tally.faulty, tally.first), (3, (1, Fault(13))))
+
     def test_refusals(self):
         self.refused(1, Picture, SOUND, 14, 4, 4)
         self.refused(1, Picture, SOUND, "4x5", 4, 4)

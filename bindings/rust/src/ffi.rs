@@ -31,6 +31,17 @@ unsafe extern "C" {
         tally: *mut u64, tally_len: usize,
     ) -> u8;
 
+    /// 0 or 1, 2, 3, 4, 5; one byte for each block, its fault or 0. Tally as above.
+    pub fn stallbrook_astc_image_faults(
+        footprint: u8, kind: u8, width: u32, height: u32, blocks: *const u8, blocks_len: usize, faults: *mut u8,
+        faults_len: usize, tally: *mut u64, tally_len: usize,
+    ) -> u8;
+
+    /// Sizes, 0 where a footprint or a side is refused.
+    pub fn stallbrook_astc_image_blocks(footprint: u8, width: u32, height: u32) -> u64;
+    pub fn stallbrook_astc_image_numbers(width: u32, height: u32) -> u64;
+    pub fn stallbrook_astc_block_numbers(footprint: u8) -> u32;
+
     /// 0, a fault of float16, or 1, 4; the 104 numbers are all 0 unless it answers 0. 5 where there are not 104, nothing written.
     pub fn stallbrook_astc_read_symbolic(
         footprint: u8, block: *const u8, block_len: usize, numbers: *mut u16, numbers_len: usize,

@@ -101,7 +101,7 @@ impl<'a> AstcFile<'a> {
 
     /// How many numbers its texels are.
     pub fn numbers(&self) -> usize {
-        4 * self.width as usize * self.height as usize
+        crate::image_numbers(self.width, self.height).expect("a file that was read has sides")
     }
 }
 

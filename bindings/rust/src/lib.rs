@@ -270,6 +270,51 @@ pub fn decode_image_float16(
     Tally::told(number, tally)
 }
 
+/// The fault of each block of an image in a kind, a byte for each block in raster order, 0 for none; no texel is painted. A block has 0 exactly where
+/// the image call shows its own texels.
+///
+/// ```
+/// use stallbrook::{Fault, Footprint, Kind, Refusal, image_faults};
+/// // a block of zeros beside one that is sound
+/// let mut blocks = [0; 32];
+/// blocks[16..].copy_from_slice(&[0x42, 0, 0, 0xFE, 1, 0, 0, 0, 0, 0, 0, 0, 0, 0, 0, 0x80]);
+/// let mut faults = [7; 2];
+/// let tally = image_faults(Footprint::F4x4, Kind::Srgb8, 8, 4, &blocks, &mut faults)?;
+/// assert_eq!((faults, tally.faulty), ([11, 0], 1));
+/// assert_eq!(Fault::try_from(faults[0]), Ok(Fault::Reserved));
+/// assert_eq!(image_faults(Footprint::F4x4, Kind::Srgb8, 8, 4, &blocks, &mut [0; 3]), Err(Refusal::Length));
+/// # Ok::<(), Refusal>(())
+/// ```
+pub fn image_faults(
+    footprint: Footprint, kind: Kind, width: u32, height: u32, blocks: &[u8], faults: &mut [u8],
+) -> Result<Tally, Refusal> {
+    let mut tally = [0; 3];
+    let number = raw::image_faults(footprint.number(), kind.number(), width, height, blocks, faults, &mut tally);
+    Tally::told(number, tally)
+}
+
+/// How many blocks an image has, each of 16 bytes; none where a side is 0 or above 16,384.
+///
+/// ```
+/// use stallbrook::{Footprint, image_blocks};
+/// assert_eq!(image_blocks(Footprint::F6x6, 13, 6), Some(3));
+/// assert_eq!(image_blocks(Footprint::F6x6, 0, 6), None);
+/// ```
+pub fn image_blocks(footprint: Footprint, width: u32, height: u32) -> Option<usize> {
+    Some(raw::image_blocks(footprint.number(), width, height) as usize).filter(|&blocks| blocks != 0)
+}
+
+/// How many numbers an image's texels are, 4 for each; none where a side is 0 or above 16,384.
+///
+/// ```
+/// use stallbrook::image_numbers;
+/// assert_eq!(image_numbers(16_384, 16_384), Some(1 << 30));
+/// assert_eq!(image_numbers(16_385, 1), None);
+/// ```
+pub fn image_numbers(width: u32, height: u32) -> Option<usize> {
+    Some(raw::image_numbers(width, height) as usize).filter(|&numbers| numbers != 0)
+}
+
 /// The symbolic block of a block without fault, LDR or HDR: faults are those of half floats, without 13 and 20.
 ///
 /// ```

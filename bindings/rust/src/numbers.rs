@@ -131,6 +131,15 @@ impl Footprint {
         Footprint::SIDES[self as usize].1
     }
 
+    /// How many numbers a block's texels are, 4 for each.
+    ///
+    /// ```
+    /// assert_eq!(stallbrook::Footprint::F12x12.numbers(), 576);
+    /// ```
+    pub fn numbers(self) -> usize {
+        crate::raw::block_numbers(self.number()) as usize
+    }
+
     /// The footprint of these sides, if there is one.
     ///
     /// ```

@@ -70,6 +70,37 @@ pub fn decode_image_float16(
     }
 }
 
+pub fn image_faults(
+    footprint: u8, kind: u8, width: u32, height: u32, blocks: &[u8], faults: &mut [u8], tally: &mut [u64],
+) -> u8 {
+    unsafe {
+        ffi::stallbrook_astc_image_faults(
+            footprint,
+            kind,
+            width,
+            height,
+            blocks.as_ptr(),
+            blocks.len(),
+            faults.as_mut_ptr(),
+            faults.len(),
+            tally.as_mut_ptr(),
+            tally.len(),
+        )
+    }
+}
+
+pub fn image_blocks(footprint: u8, width: u32, height: u32) -> u64 {
+    unsafe { ffi::stallbrook_astc_image_blocks(footprint, width, height) }
+}
+
+pub fn image_numbers(width: u32, height: u32) -> u64 {
+    unsafe { ffi::stallbrook_astc_image_numbers(width, height) }
+}
+
+pub fn block_numbers(footprint: u8) -> u32 {
+    unsafe { ffi::stallbrook_astc_block_numbers(footprint) }
+}
+
 pub fn read_symbolic(footprint: u8, block: &[u8], numbers: &mut [u16]) -> u8 {
     unsafe { ffi::stallbrook_astc_read_symbolic(footprint, block.as_ptr(), block.len(), numbers.as_mut_ptr(), numbers.len()) }
 }

@@ -1,6 +1,6 @@
 //! A picture over lent blocks: a view keeps them beside footprint and sides. It is decoded whole, or asked for one texel by x and y, no block unpacked.
 
-use crate::{Fault, Footprint, Refusal, Tally};
+use crate::{Fault, Footprint, Kind, Refusal, Tally};
 
 /// The calls over slices, with plain numbers.
 pub mod raw {
@@ -142,6 +142,24 @@ impl<'a> View<'a> {
     /// The same as four half floats each, as 16-bit patterns (kind 2), HDR taken.
     pub fn to_float16(&self) -> (Vec<u16>, Tally) {
         self.decoded(crate::decode_image_float16)
+    }
+
+    /// The fault of each block in a kind, in raster order; no texel is painted.
+    ///
+    /// ```
+    /// use stallbrook::{Fault, Footprint, Kind, view::View};
+    /// // an HDR void extent is sound in half floats alone
+    /// let block = [0xFC, 0xFF, 0xFF, 0xFF, 0xFF, 0xFF, 0xFF, 0xFF, 0, 0x3C, 0, 0x40, 0, 0x38, 0, 0x3C];
+    /// let view = View::new(&block, Footprint::F4x4, 4, 4)?;
+    /// assert_eq!(view.faults(Kind::Srgb8), [Some(Fault::HdrVoidExtent)]);
+    /// assert_eq!(view.faults(Kind::Float16), [None]);
+    /// # Ok::<(), stallbrook::Refusal>(())
+    /// ```
+    pub fn faults(&self, kind: Kind) -> Vec<Option<Fault>> {
+        let mut faults = vec![0; self.blocks.len() / 16];
+        crate::image_faults(self.footprint, kind, self.width, self.height, self.blocks, &mut faults)
+            .expect("a view's picture is not refused");
+        faults.into_iter().map(Fault::told).collect()
     }
 
     fn decoded<T: Copy + Default>(

@@ -45,7 +45,8 @@ fn sides_are_the_librarys() {
         let header = file::write_header(footprint, 1, 1).unwrap();
         assert_eq!((header[4] as u32, header[5] as u32), (footprint.width(), footprint.height()));
         assert_eq!(Footprint::of_sides(footprint.width(), footprint.height()), Some(footprint));
-        let texels = vec![0; 4 * (footprint.width() * footprint.height()) as usize];
+        let texels = vec![0; footprint.numbers()];
+        assert_eq!(texels.len() as u32, 4 * footprint.width() * footprint.height());
         assert_eq!(raw::decode_block_unorm16(footprint.number(), &[0; 16], &mut texels.clone()), 11);
         assert_eq!(raw::decode_block_unorm16(footprint.number(), &[0; 16], &mut texels[1..].to_vec()), 5);
     }
