@@ -164,7 +164,7 @@ class Faulty(Error):
 class Fault(NamedTuple):
     """What is wrong with a block.
 
-    >>> str(Fault(14))
+    >>> Fault(14).text
     'the weight grid is larger than the footprint'
     """
 
@@ -317,6 +317,12 @@ class Picture:
     """A picture's blocks, in raster order, with its footprint and sides in texels. Refused by 1, 3 (sides) and 4 (length of the blocks).
 
     The blocks are lent, not copied, where they are bytes; of what may change a copy is kept.
+
+    >>> picture = Picture(bytes(range(64)), "10x8", 11, 9)
+    >>> picture, picture.across, picture.down
+    (<Picture 11 by 9, 10x8>, 2, 2)
+    >>> picture.block(1, 0)[0]
+    16
     """
 
     __slots__ = ("footprint", "width", "height", "blocks")

@@ -111,6 +111,13 @@ impl Clip {
     }
 
     /// The blocks that a piece completes, and a refusal as the last.
+    ///
+    /// ```
+    /// use stallbrook::{Refusal, clip::Clip};
+    /// // the version byte, and a frame whose footprint is 14: refused by 1 at its tenth byte
+    /// let piece = [1, 0, 0, 0, 22, 14, 0, 0, 4, 0, 4];
+    /// assert_eq!(Clip::new().blocks(&piece).collect::<Vec<_>>(), [Err(Refusal::Footprint)]);
+    /// ```
     #[inline]
     pub fn blocks<'a>(&'a mut self, piece: &'a [u8]) -> Blocks<'a> {
         Blocks { clip: self, rest: piece, over: false }

@@ -100,6 +100,13 @@ impl<'a> AstcFile<'a> {
     }
 
     /// How many numbers its texels are.
+    ///
+    /// ```
+    /// use stallbrook::{Footprint, Refusal, file::AstcFile, file::write_header};
+    /// let bytes = [write_header(Footprint::F12x12, 3, 2)?, [0; 16]].concat();
+    /// assert_eq!(AstcFile::read(&bytes)?.numbers(), 24);
+    /// # Ok::<(), Refusal>(())
+    /// ```
     pub fn numbers(&self) -> usize {
         crate::image_numbers(self.width, self.height).expect("a file that was read has sides")
     }
