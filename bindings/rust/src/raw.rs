@@ -5,15 +5,21 @@
 use crate::ffi;
 
 pub fn decode_block_unorm16(footprint: u8, block: &[u8], out: &mut [u16]) -> u8 {
-    unsafe { ffi::stallbrook_astc_decode_block_unorm16(footprint, block.as_ptr(), block.len(), out.as_mut_ptr(), out.len()) }
+    unsafe {
+        ffi::stallbrook_astc_decode_block_unorm16(footprint, block.as_ptr(), block.len(), out.as_mut_ptr(), out.len())
+    }
 }
 
 pub fn decode_block_srgb8(footprint: u8, block: &[u8], out: &mut [u8]) -> u8 {
-    unsafe { ffi::stallbrook_astc_decode_block_srgb8(footprint, block.as_ptr(), block.len(), out.as_mut_ptr(), out.len()) }
+    unsafe {
+        ffi::stallbrook_astc_decode_block_srgb8(footprint, block.as_ptr(), block.len(), out.as_mut_ptr(), out.len())
+    }
 }
 
 pub fn decode_block_float16(footprint: u8, block: &[u8], out: &mut [u16]) -> u8 {
-    unsafe { ffi::stallbrook_astc_decode_block_float16(footprint, block.as_ptr(), block.len(), out.as_mut_ptr(), out.len()) }
+    unsafe {
+        ffi::stallbrook_astc_decode_block_float16(footprint, block.as_ptr(), block.len(), out.as_mut_ptr(), out.len())
+    }
 }
 
 pub fn decode_image_unorm16(
@@ -102,11 +108,15 @@ pub fn block_numbers(footprint: u8) -> u32 {
 }
 
 pub fn read_symbolic(footprint: u8, block: &[u8], numbers: &mut [u16]) -> u8 {
-    unsafe { ffi::stallbrook_astc_read_symbolic(footprint, block.as_ptr(), block.len(), numbers.as_mut_ptr(), numbers.len()) }
+    unsafe {
+        ffi::stallbrook_astc_read_symbolic(footprint, block.as_ptr(), block.len(), numbers.as_mut_ptr(), numbers.len())
+    }
 }
 
 pub fn write_symbolic(footprint: u8, numbers: &[u16], block: &mut [u8]) -> u8 {
-    unsafe { ffi::stallbrook_astc_write_symbolic(footprint, numbers.as_ptr(), numbers.len(), block.as_mut_ptr(), block.len()) }
+    unsafe {
+        ffi::stallbrook_astc_write_symbolic(footprint, numbers.as_ptr(), numbers.len(), block.as_mut_ptr(), block.len())
+    }
 }
 
 // ---- clips

@@ -7,8 +7,9 @@
 
 mod bc7;
 mod caption;
-mod pvrtc;
 mod clip;
+mod faults;
+mod pvrtc;
 mod symbolic;
 mod view;
 
@@ -59,7 +60,8 @@ fn blocks(footprint: usize) -> Vec<u8> {
 
 /// LDR and HDR mode blocks in turn.
 fn mixed_blocks(footprint: usize) -> Vec<u8> {
-    let draw = |r: &mut Random, index| if index % 2 == 0 { mode_block(r, footprint) } else { hdr_mode_block(r, footprint) };
+    let draw =
+        |r: &mut Random, index| if index % 2 == 0 { mode_block(r, footprint) } else { hdr_mode_block(r, footprint) };
     blocks_by(footprint, draw)
 }
 
@@ -186,6 +188,7 @@ fn main() {
     worst = largest(worst, bc7::run(rounds));
     worst = largest(worst, symbolic::run(rounds));
     worst = largest(worst, view::run(rounds));
+    worst = largest(worst, faults::run(rounds));
     println!("largest ratio {:.2} (by rounds {:.2})", worst[0], worst[1]);
     clip::measure(rounds.min(7));
     caption::measure(rounds);

@@ -3,7 +3,8 @@
 use std::collections::BTreeMap;
 
 use reference::bc7::{
-    MODES, Sheet, block_refusal, decode, decode_image, fault, image_refusal, picture, random_sheet, read, refusal, write,
+    MODES, Sheet, block_refusal, decode, decode_image, fault, image_refusal, picture, random_sheet, read, refusal,
+    write,
 };
 use reference::random::Random;
 

@@ -4,6 +4,7 @@ mod bc7;
 mod caption;
 mod cases;
 mod clip;
+mod faults;
 mod file;
 mod make;
 mod pvrtc;
@@ -176,6 +177,7 @@ fn main() {
     clip::cases(&mut run, &mut r, blocks / 50);
     file::cases(&mut run, &mut r, blocks / 200);
     view::run(&mut run, &mut r, blocks / 200);
+    faults::run(&mut run, &mut r, blocks / 100);
     let never = run.seen.report();
     for line in &never {
         println!("{line}");

@@ -81,6 +81,7 @@ impl Seen {
         crate::pvrtc::require(&mut seen);
         crate::caption::require(&mut seen);
         crate::view::require(&mut seen);
+        crate::faults::require(&mut seen);
         for (sort, numbers) in crate::clip::SORTS {
             seen.require(sort, numbers.iter().copied());
         }

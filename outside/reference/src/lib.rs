@@ -4,8 +4,8 @@
 //! its "widen" is unquantise (stored numbers) or expand (endpoints to 16 bits).
 
 pub mod bc7;
-pub mod caption;
 mod block;
+pub mod caption;
 mod clip;
 mod colour;
 mod decode;

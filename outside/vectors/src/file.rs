@@ -33,7 +33,9 @@ impl StoredFile {
     /// Whether these are its texels: all channels of kind 0, as far as half floats tell them, of kind 1 and of kind 2.
     pub fn shows(&self, unorm16: &[u16], srgb8: &[u8], float16: &[u16]) -> bool {
         let halves = self.half_floats();
-        halves.iter().copied().eq(unorm16.iter().map(|&c| crate::half_float(c))) && srgb8 == self.srgb && float16 == halves
+        halves.iter().copied().eq(unorm16.iter().map(|&c| crate::half_float(c)))
+            && srgb8 == self.srgb
+            && float16 == halves
     }
 }
 

@@ -1,8 +1,8 @@
 //! Blocks and what astcenc shows of them. README.md tells how its output relates to 01's kinds.
 
 pub mod bc7;
-pub mod file;
 pub mod caption;
+pub mod file;
 pub mod pvrtc;
 
 /// Width and height of the footprints in 01's order.
