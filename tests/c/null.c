@@ -19,7 +19,7 @@ int main(void)
 {
     const uint8_t block[16] = {0x42, 0, 0, 0xfe, 1, 0, 0, 0, 0, 0, 0, 0, 0, 0, 0, 0x80};
     uint8_t bytes[64], file[32], written[16], bc7[STALLBROOK_BC7_SHEET] = {0}, wanted[16] = {0};
-    uint16_t words[64], numbers[STALLBROOK_SYMBOLIC];
+    uint16_t words[64], numbers[STALLBROOK_SYMBOLIC], spare[STALLBROOK_SPARE];
     uint64_t tally[STALLBROOK_TALLY], told[STALLBROOK_CLIP_TOLD];
     uint32_t state[STALLBROOK_CLIP_STATE], header[STALLBROOK_HEADER];
 
@@ -53,9 +53,10 @@ int main(void)
     ANSWERS(44, stallbrook_astc_texel_float16(0, 4, 4, NULL, 0, 0, 0, words, 4));
     ANSWERS(5, stallbrook_astc_texel_float16(0, 4, 4, block, 16, 0, 0, NULL, 0));
 
-    ANSWERS(4, stallbrook_astc_read_symbolic(0, NULL, 0, numbers, STALLBROOK_SYMBOLIC));
-    ANSWERS(5, stallbrook_astc_read_symbolic(0, block, 16, NULL, 0));
-    ANSWERS(0, stallbrook_astc_read_symbolic(0, block, 16, numbers, STALLBROOK_SYMBOLIC));
+    ANSWERS(4, stallbrook_astc_read_symbolic(0, NULL, 0, numbers, STALLBROOK_SYMBOLIC, spare, STALLBROOK_SPARE));
+    ANSWERS(5, stallbrook_astc_read_symbolic(0, block, 16, NULL, 0, spare, STALLBROOK_SPARE));
+    ANSWERS(5, stallbrook_astc_read_symbolic(0, block, 16, numbers, STALLBROOK_SYMBOLIC, NULL, 0));
+    ANSWERS(0, stallbrook_astc_read_symbolic(0, block, 16, numbers, STALLBROOK_SYMBOLIC, spare, STALLBROOK_SPARE));
     ANSWERS(5, stallbrook_astc_write_symbolic(0, NULL, 0, written, 16));
     ANSWERS(4, stallbrook_astc_write_symbolic(0, numbers, STALLBROOK_SYMBOLIC, NULL, 0));
 

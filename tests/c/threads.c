@@ -13,7 +13,7 @@ struct seen {
     uint16_t unorm16[NUMBERS], float16[NUMBERS], symbolic[STALLBROOK_SYMBOLIC];
     uint8_t srgb8[NUMBERS], bc7[NUMBERS], pvrtc[NUMBERS], written[16], caption[BLOCKS * 16], clip_block[16], faults[BLOCKS], answers[12];
     uint64_t tally[5][STALLBROOK_TALLY], told[STALLBROOK_CLIP_TOLD];
-    uint16_t texel[4];
+    uint16_t texel[4], spare[STALLBROOK_SPARE];
 };
 struct picture {
     uint8_t blocks[BLOCKS * 16], frame[1 + STALLBROOK_FRAME_HEADER + BLOCKS * 16];
@@ -50,7 +50,7 @@ static void see(const struct picture *p, struct seen *s)
     s->answers[2] = stallbrook_astc_decode_image_float16(0, SIDE, SIDE, p->blocks, sizeof p->blocks, s->float16, NUMBERS, s->tally[2], 3);
     s->answers[3] = stallbrook_bc7_decode_image(SIDE, SIDE, p->blocks, sizeof p->blocks, s->bc7, NUMBERS, s->tally[3], 3);
     s->answers[4] = stallbrook_pvrtc_decode_image(SIDE, SIDE, p->blocks, sizeof p->blocks / 2, s->pvrtc, NUMBERS);
-    s->answers[5] = stallbrook_astc_read_symbolic(0, p->blocks + 16, 16, s->symbolic, STALLBROOK_SYMBOLIC);
+    s->answers[5] = stallbrook_astc_read_symbolic(0, p->blocks + 16, 16, s->symbolic, STALLBROOK_SYMBOLIC, s->spare, STALLBROOK_SPARE);
     s->answers[6] = stallbrook_astc_write_symbolic(0, s->symbolic, STALLBROOK_SYMBOLIC, s->written, 16);
     s->answers[7] = stallbrook_astc_caption_image(3, 200, SIDE, SIDE, p->blocks, SIDE * SIDE, s->caption, sizeof s->caption);
     s->answers[8] = stallbrook_astc_texel_unorm16(0, SIDE, SIDE, p->blocks, sizeof p->blocks, SIDE / 2, SIDE - 1, s->texel, 4);

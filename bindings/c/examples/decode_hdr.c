@@ -22,9 +22,9 @@ int main(void) {
     answer = stallbrook_astc_decode_block_unorm16(STALLBROOK_4X4, block, sizeof block, texels, 4 * 16);
     printf("unorm16 %d: %d %d %d %d\n", answer, texels[0], texels[1], texels[2], texels[3]);
 
-    uint16_t numbers[STALLBROOK_SYMBOLIC];
+    uint16_t numbers[STALLBROOK_SYMBOLIC], spare[STALLBROOK_SPARE];
     uint8_t written[16];
-    answer = stallbrook_astc_read_symbolic(STALLBROOK_4X4, block, sizeof block, numbers, STALLBROOK_SYMBOLIC);
+    answer = stallbrook_astc_read_symbolic(STALLBROOK_4X4, block, sizeof block, numbers, STALLBROOK_SYMBOLIC, spare, STALLBROOK_SPARE);
     printf("read %d: mode %d, HDR mark %d\n", answer, numbers[STALLBROOK_SYMBOLIC_MODES], numbers[STALLBROOK_SYMBOLIC_HDR]);
     numbers[STALLBROOK_SYMBOLIC_MODES] = 0; /* an LDR mode, which the mark does not fit */
     answer = stallbrook_astc_write_symbolic(STALLBROOK_4X4, numbers, STALLBROOK_SYMBOLIC, written, sizeof written);

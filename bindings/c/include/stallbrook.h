@@ -78,6 +78,7 @@ enum {
     STALLBROOK_TEXEL = 4,         /* numbers of a texel */
     STALLBROOK_TALLY = 3,         /* numbers of a tally */
     STALLBROOK_SYMBOLIC = 104,    /* numbers of a symbolic block */
+    STALLBROOK_SPARE = 2,         /* numbers told of a block's spare bits */
     STALLBROOK_HEADER = 3,        /* numbers of a file's header as it is read */
     STALLBROOK_FILE_HEADER = 16,  /* bytes of it as it is written */
     STALLBROOK_CLIP_STATE = 26,   /* numbers of a clip's state */
@@ -88,8 +89,9 @@ enum {
     STALLBROOK_PVRTC_WORD = 8     /* bytes of a PVRTC1 word */
 };
 
-/* Places in a tally, in a file's header, and in what a feed tells. */
+/* Places in a tally, in what is told of spare bits, in a file's header, and in what a feed tells. */
 enum { STALLBROOK_TALLY_FAULTY = 0, STALLBROOK_TALLY_FIRST = 1, STALLBROOK_TALLY_FAULT = 2 };
+enum { STALLBROOK_SPARE_COUNT = 0, STALLBROOK_SPARE_SET = 1 };
 enum { STALLBROOK_HEADER_FOOTPRINT = 0, STALLBROOK_HEADER_WIDTH = 1, STALLBROOK_HEADER_HEIGHT = 2 };
 enum {
     STALLBROOK_TOLD_TAKEN = 0,
@@ -228,9 +230,12 @@ uint8_t stallbrook_astc_view_refusal(uint8_t footprint, uint32_t width, uint32_t
  * (1 to 4), 4 extents (5 to 8), grid width (9), grid height (10), weight range (11), planes (12), plane channel (13), partitions (14),
  * partition index (15), selector (16), 4 endpoint modes (17 to 20), 18 endpoint numbers (21 to 38), 64 weights (39 to 102), HDR mark (103); unused
  * ones are 0. The HDR mark is a void extent's bit 9; of any other block it is 1 exactly where some partition's endpoint mode is HDR.
- * Answers 0, or the block's fault in float16 (11, 12, 14 to 19) or the refusal 1 or 4, all 104 numbers being 0 then. Where numbers is not of 104
- * numbers it answers 1, 4 or else 5, and leaves them as they were. */
-uint8_t stallbrook_astc_read_symbolic(uint8_t footprint, const uint8_t *block, size_t block_len, uint16_t *numbers, size_t numbers_len);
+ * And its spare bits, those between endpoint numbers and weights that no field has, as 2 numbers: how many there are (0), which is 128 less the
+ * bits of all fields, then 1 where any of them is set, else 0 (1). A void extent has none: 0, 0. The writer below sets none.
+ * Answers 0, or the block's fault in float16 (11, 12, 14 to 19) or the refusal 1 or 4, all 104 and 2 numbers being 0 then. Where numbers is not
+ * of 104 numbers or spare not of 2 it answers 1, 4 or else 5, and leaves both as they were. */
+uint8_t stallbrook_astc_read_symbolic(uint8_t footprint, const uint8_t *block, size_t block_len, uint16_t *numbers, size_t numbers_len,
+    uint16_t *spare, size_t spare_len);
 
 /* The block of a symbolic block, with the smallest codes and spare bits 0: 104 numbers in the order above, whatever they are, to 16 bytes.
  * Answers 0, or the first refusal in the order 1, 4 (block not of 16 bytes), 5 (numbers not of 104), 31, 32, 14 to 17, 33, 18 to 20, 34, 35

@@ -55,8 +55,8 @@ except ImportError:
     numpy = None  # type: ignore[assignment]
 
 __all__ = [
-    "Bc7Sheet", "Clip", "Decoded", "Error", "Fault", "Faulty", "FirstFault", "Footprint", "Frame", "Kind", "Picture", "Refused", "Sheet", "Tally", "Texel",
-    "caption", "decode_bc7", "decode_block", "decode_pvrtc", "open", "read_bc7_sheet", "read_sheet", "write_bc7_sheet", "write_frame", "write_sheet",
+    "Bc7Sheet", "Clip", "Decoded", "Error", "Fault", "Faulty", "FirstFault", "Footprint", "Frame", "Kind", "Picture", "Refused", "Sheet", "Spare", "Tally", "Texel",
+    "caption", "decode_bc7", "decode_block", "decode_pvrtc", "open", "read_bc7_sheet", "read_sheet", "spare_bits", "write_bc7_sheet", "write_frame", "write_sheet",
 ]
 
 Bytes = Union[bytes, bytearray, memoryview, Any]
@@ -506,8 +506,29 @@ def _numbers(sheet: Mapping[str, Any], fields: Mapping[str, int], most: int) -> 
 
 def read_sheet(footprint: FootprintLike, block: Bytes) -> Sheet:
     """A block's settings and stored numbers. Refused by 4; Faulty where the block has a fault in half floats."""
-    numbers = (ctypes.c_uint16 * 104)()
-    return _read(_library.READ_SYMBOLIC(Footprint.of(footprint), *_lent(block), numbers, 104), numbers, _SHEET)
+    return _read_symbolic(footprint, block)[0]
+
+
+class Spare(NamedTuple):
+    """The bits of a block that no field has: how many, and whether any is set."""
+
+    count: int
+    set: bool
+
+
+def spare_bits(footprint: FootprintLike, block: Bytes) -> Spare:
+    """What is told of a block's spare bits, between endpoint numbers and weights; a solid block has none. Refused and Faulty as `read_sheet`.
+
+    >>> spare_bits("4x4", bytes([0x42, 0, 0, 0xFE, 1, 1, 0, 0, 0, 0, 0, 0, 0, 0, 0, 0x80]))
+    Spare(count=63, set=True)
+    """
+    return _read_symbolic(footprint, block)[1]
+
+
+def _read_symbolic(footprint: FootprintLike, block: Bytes) -> Tuple[Sheet, Spare]:
+    numbers, spare = (ctypes.c_uint16 * 104)(), (ctypes.c_uint16 * 2)()
+    number = _library.READ_SYMBOLIC(Footprint.of(footprint), *_lent(block), numbers, 104, spare, 2)
+    return _read(number, numbers, _SHEET), Spare(spare[0], spare[1] == 1)
 
 
 def write_sheet(footprint: FootprintLike, sheet: Sheet) -> bytes:

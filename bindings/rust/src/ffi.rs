@@ -42,9 +42,11 @@ unsafe extern "C" {
     pub fn stallbrook_astc_image_numbers(width: u32, height: u32) -> u64;
     pub fn stallbrook_astc_block_numbers(footprint: u8) -> u32;
 
-    /// 0, a fault of float16, or 1, 4; the 104 numbers are all 0 unless it answers 0. 5 where there are not 104, nothing written.
+    /// 0, a fault of float16, or 1, 4; the 104 numbers and the two of the spare bits are all 0 unless it answers 0. 5 where there are not 104
+    /// and 2, nothing written.
     pub fn stallbrook_astc_read_symbolic(
-        footprint: u8, block: *const u8, block_len: usize, numbers: *mut u16, numbers_len: usize,
+        footprint: u8, block: *const u8, block_len: usize, numbers: *mut u16, numbers_len: usize, spare: *mut u16,
+        spare_len: usize,
     ) -> u8;
 
     /// 0 or the first refusal; the 16 bytes are all 0 unless it answers 0. Where there are not 16 bytes or not 104 numbers, 1, 4 or 5,

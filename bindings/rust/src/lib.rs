@@ -325,11 +325,43 @@ pub fn image_numbers(width: u32, height: u32) -> Option<usize> {
 /// # Ok::<(), Error>(())
 /// ```
 pub fn read_symbolic(footprint: Footprint, block: &[u8]) -> Result<SymbolicBlock, Error> {
-    let mut numbers = [0; 104];
-    if let Some(fault) = of_block(raw::read_symbolic(footprint.number(), block, &mut numbers))? {
+    Ok(read_symbolic_spare(footprint, block)?.block)
+}
+
+/// What the reader tells of a block.
+#[derive(Clone, PartialEq, Eq, Hash, Debug)]
+pub struct SymbolicReading {
+    /// The settings.
+    pub block: SymbolicBlock,
+    /// Spare bits between endpoints and weights: 128 less the bits of all fields, 0 of a void extent.
+    pub spare_count: u8,
+    /// Some spare bit is set.
+    pub spare_set: bool,
+}
+
+/// The same with the spare bits: an encoder leaves them 0, as [`write_symbolic`] does.
+///
+/// ```
+/// use stallbrook::{Footprint, read_symbolic_spare};
+/// let mut block = [0x42, 0, 0, 0xFE, 1, 0, 0, 0, 0, 0, 0, 0, 0, 0, 0, 0x80];
+/// let reading = read_symbolic_spare(Footprint::F4x4, &block)?;
+/// assert_eq!((reading.spare_count, reading.spare_set), (63, false));
+/// block[5] = 1;
+/// let other = read_symbolic_spare(Footprint::F4x4, &block)?;
+/// assert_eq!((other.spare_count, other.spare_set), (63, true));
+/// assert_eq!(other.block, reading.block);
+/// # Ok::<(), stallbrook::Error>(())
+/// ```
+pub fn read_symbolic_spare(footprint: Footprint, block: &[u8]) -> Result<SymbolicReading, Error> {
+    let (mut numbers, mut spare) = ([0; 104], [0; 2]);
+    if let Some(fault) = of_block(raw::read_symbolic(footprint.number(), block, &mut numbers, &mut spare))? {
         return Err(Error::Faulty(fault));
     }
-    Ok(SymbolicBlock::from_numbers(&numbers))
+    Ok(SymbolicReading {
+        block: SymbolicBlock::from_numbers(&numbers),
+        spare_count: spare[0] as u8,
+        spare_set: spare[1] == 1,
+    })
 }
 
 /// The block of an acceptable symbolic block, with the smallest codes and spare bits 0.

@@ -107,9 +107,17 @@ pub fn block_numbers(footprint: u8) -> u32 {
     unsafe { ffi::stallbrook_astc_block_numbers(footprint) }
 }
 
-pub fn read_symbolic(footprint: u8, block: &[u8], numbers: &mut [u16]) -> u8 {
+pub fn read_symbolic(footprint: u8, block: &[u8], numbers: &mut [u16], spare: &mut [u16]) -> u8 {
     unsafe {
-        ffi::stallbrook_astc_read_symbolic(footprint, block.as_ptr(), block.len(), numbers.as_mut_ptr(), numbers.len())
+        ffi::stallbrook_astc_read_symbolic(
+            footprint,
+            block.as_ptr(),
+            block.len(),
+            numbers.as_mut_ptr(),
+            numbers.len(),
+            spare.as_mut_ptr(),
+            spare.len(),
+        )
     }
 }
 

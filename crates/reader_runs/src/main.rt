@@ -1,10 +1,11 @@
 // Runs of the reader. Each record of standard input is a footprint and a block. For each a line "refused N" or "fault N", or the
-// symbolic block's fields in 01's order and its HDR mark, then "block" and the sixteen bytes that are written for it, and whether they show
-// the same texels in kind 2.
+// symbolic block's fields in 01's order and its HDR mark, "spare", how many bits are spare and 1 where any is set, then "block" and the
+// sixteen bytes that are written for it, and whether they show the same texels in kind 2.
 use block_answer::Answer;
 use encoding::Stored;
 use libc::STDIN_FILENO;
 use libc::STDOUT_FILENO;
+use spare_bits::Spare;
 use symbolic_block::SymbolicBlock;
 
 fn next(n: u16) {
@@ -120,8 +121,15 @@ fn compared(fp: u8, block: &[u8], bytes: [u8; 16]) {
     end_line();
 }
 
-fn rewritten(fp: u8, block: &[u8], s: SymbolicBlock) {
+fn unused(spare: Spare) {
+    io::write_all(STDOUT_FILENO, b" spare");
+    byte(spare.count);
+    byte(if spare.set { 1 } else { 0 });
+}
+
+fn rewritten(fp: u8, block: &[u8], s: SymbolicBlock, spare: Spare) {
     fields(s);
+    unused(spare);
     let w = symbolic_calls::write_symbolic(fp, s);
     let bytes = w.bytes;
     all(bytes);
@@ -132,10 +140,11 @@ fn read(fp: u8, block: &[u8]) {
     let r = symbolic_reader::read_symbolic(fp, block);
     let a = r.answer;
     let s = r.block;
+    let spare = r.spare;
     match a {
         Answer::Refused(n) => told(b"refused", n),
         Answer::Faulty(n) => told(b"fault", n),
-        Answer::Done => rewritten(fp, block, s),
+        Answer::Done => rewritten(fp, block, s, spare),
     }
 }
 

@@ -34,9 +34,10 @@ use Rattle.symbolic_block.specs.Writing.{blockOf}
 use Rattle.symbolic_block.specs.Reading.{readBlock}
 use Rattle.laws.specs.Reasons.{reasonAt}
 use Rattle.symbolic_block.proofs.Demand.{demand-3}
-use Rattle.symbolic_reader.specs.declared.Reading.{Reading}
+use Rattle.symbolic_reader.specs.declared.SymbolicReading.{SymbolicReading}
 use Rattle.symbolic_reader.specs.Answers.{readingIn, readingOf, done}
 use Rattle.symbolic_reader.proofs.Laws as reader
+use Rattle.symbolic_reader.proofs.SpareTold.{written-clear}
 use Rattle.symbolic_calls.specs.declared.Writing.{Writing}
 use Rattle.symbolic_calls.specs.Writing.{writingOf}
 use Rattle.symbolic_calls.proofs.Laws as writer
@@ -75,11 +76,11 @@ module _ (fp : ℕ) (s : SymbolicBlock) where
 -- ---- a block without fault
 
 module _ (fp : ℕ) (block : List ℕ) (h : Sound fp block) where
-  sound-in : readingIn fp (numberOf block) ≡ done (readBlock (numberOf block))
+  sound-in : readingIn fp (numberOf block) ≡ done (numberOf block) (readBlock (numberOf block))
   unfolding readingIn
   sound-in = rw (eq-eqb _ _ (h .no-fault))
 
-  sound-read : readingOf fp block ≡ done (readBlock (numberOf block))
+  sound-read : readingOf fp block ≡ done (numberOf block) (readBlock (numberOf block))
   sound-read = sym (reader.passed-reading fp block (sym (reader.accepted fp _ (h .known) (h .sixteen)))) ∙ sound-in
 
   module _ (old : List ℕ) (size : length old ≡ 4 * texelsOf fp) where
@@ -110,8 +111,8 @@ module _ (fp : ℕ) (s : SymbolicBlock) (z : Sized s) (a : Acceptable fp s) wher
   }
 
   -- the reader tells what was written
-  pub back : readingOf fp (writingOf fp s .bytes) ≡ done s
-  back = sound-read fp _ sound ∙ ap (λ (B : ℕ). done (readBlock B)) number ∙ ap done (demand-3 .written-reads-back fp s z a)
+  pub back : readingOf fp (writingOf fp s .bytes) ≡ done (blockOf s) s
+  back = sound-read fp _ sound ∙ ap (λ (B : ℕ). done B (readBlock B)) number ∙ ap (done (blockOf s)) (demand-3 .written-reads-back fp s z a)
 
   -- its fault in a kind is that of the definition's block
   in-kind : (kind : Kind) → faultOf (takesHdr kind) fp (numberOf (writingOf fp s .bytes)) ≡ faultOf (takesHdr kind) fp (blockOf s)
@@ -146,8 +147,9 @@ module _ (kind : Kind) (fp : ℕ) (s : SymbolicBlock) (z : Sized s) (old out : L
       written = accepted-answer fp s a;
       sixteen = sound fp s z a .sixteen;
       no-fault = sound fp s z a .no-fault;
-      read = ap (λ (r : Reading). r .answer) (back fp s z a);
-      same = ap (λ (r : Reading). r .block) (back fp s z a);
+      read = ap (λ (r : SymbolicReading). r .answer) (back fp s z a);
+      same = ap (λ (r : SymbolicReading). r .block) (back fp s z a);
+      spare-clear = ap (λ (r : SymbolicReading). r .spare .set) (back fp s z a) ∙ written-clear fp s z a;
       shown = λ k size. sound-answer fp _ (sound fp s z a) old size kind k;
       picture = λ k size. e ∙ picture fp s z a kind k old size;
       kinds-ldr = ldr fp s z a kind;
@@ -161,14 +163,14 @@ module _ (kind : Kind) (fp : ℕ) (s : SymbolicBlock) (z : Sized s) (old out : L
       subst (λ (q : RoundTrip). out ≡ blockOut kind fp (q .writing .bytes) old → Demanded kind fp s old q out) (sym e) definitions-kept
 
 -- the answers one by one are those of the definition
-abbrev answers : Writing → Reading → Answer → RoundTrip
+abbrev answers : Writing → SymbolicReading → Answer → RoundTrip
 answers w r a = record { writing = w; reading = r; shown = a }
 
-pub together : (kind : Kind) (fp : ℕ) (s : SymbolicBlock) (numbers : ℕ) (w : Writing) (r : Reading) (a : Answer) → w ≡ writingOf fp s
+pub together : (kind : Kind) (fp : ℕ) (s : SymbolicBlock) (numbers : ℕ) (w : Writing) (r : SymbolicReading) (a : Answer) → w ≡ writingOf fp s
     → r ≡ readingOf fp (w .bytes) → a ≡ blockAnswer kind fp (w .bytes) numbers → answers w r a ≡ roundTripOf kind fp s numbers
 unfolding roundTripOf
 together kind fp s numbers w r a e f g =
-    ap (λ (x : Reading). answers w x a) f ∙ ap (answers w (readingOf fp (w .bytes))) g
+    ap (λ (x : SymbolicReading). answers w x a) f ∙ ap (answers w (readingOf fp (w .bytes))) g
     ∙ ap (λ (x : Writing). answers x (readingOf fp (x .bytes)) (blockAnswer kind fp (x .bytes) numbers)) e
 
 -- ---- a block read and written anew
@@ -181,7 +183,7 @@ module _ (kind : Kind) (fp : ℕ) (block old old2 out again : List ℕ) (h : Sou
       (λ i p. demand-3 .rewritten-shows-numbers fp (numberOf block) (h .known) kind k (i / 4 % widthOf fp) (i / 4 / widthOf fp) (i % 4))
 
   rewritten-done : out ≡ blockOut kind fp block old → again ≡ blockOut kind fp (writingOf fp (readBlock (numberOf block)) .bytes) old2
-      → Rewritten kind fp block old old2 (rewriting kind fp block (length old) (length old2) (done (readBlock (numberOf block)))) out again
+      → Rewritten kind fp block old old2 (rewriting kind fp block (length old) (length old2) (done (numberOf block) (readBlock (numberOf block)))) out again
   rewritten-done e f =
       let B = numberOf block in
       let z = demand-3 .read-sized fp B (h .no-fault) in
@@ -209,10 +211,10 @@ module _ (kind : Kind) (fp : ℕ) (block old old2 out again : List ℕ) (h : Sou
       (sym (e ∙ ap (rewriting kind fp block (length old) (length old2)) (sound-read fp block h))) (rewritten-done g)
 
 -- the answers one by one
-abbrev four-answers : Reading → Writing → Answer → Answer → Rewriting
+abbrev four-answers : SymbolicReading → Writing → Answer → Answer → Rewriting
 four-answers r w a b = record { reading = r; writing = w; shown = a; again = b }
 
-pub four-together : (kind : Kind) (fp : ℕ) (block : List ℕ) (numbers numbers2 : ℕ) (r : Reading) (w : Writing) (a b : Answer) → r ≡ readingOf fp block
+pub four-together : (kind : Kind) (fp : ℕ) (block : List ℕ) (numbers numbers2 : ℕ) (r : SymbolicReading) (w : Writing) (a b : Answer) → r ≡ readingOf fp block
     → w ≡ writingOf fp (r .block) → a ≡ blockAnswer kind fp block numbers → b ≡ blockAnswer kind fp (w .bytes) numbers2
     → four-answers r w a b ≡ rewritingOf kind fp block numbers numbers2
 unfolding rewritingOf

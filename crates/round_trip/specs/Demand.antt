@@ -23,7 +23,7 @@ use Rattle.symbolic_block.specs.Refusals.{refusals, Acceptable}
 use Rattle.symbolic_block.specs.Picture.{pictureNumber}
 use Rattle.symbolic_block.specs.Reading.{ReadsAs}
 use Rattle.laws.specs.Reasons.{reasonAt}
-use Rattle.symbolic_reader.specs.declared.Reading.{Reading}
+use Rattle.symbolic_reader.specs.declared.SymbolicReading.{SymbolicReading}
 use Rattle.symbolic_reader.specs.Answers.{readingOf}
 use Rattle.symbolic_calls.specs.Writing.{writingOf}
 use Rattle.round_trip.specs.declared.RoundTrip.{RoundTrip}
@@ -59,6 +59,8 @@ pub record Kept (kind : Kind) (fp : ℕ) (s : SymbolicBlock) (old : List ℕ) (r
   -- that reads back as the same
   pub read : r .reading .answer ≡ Done
   pub same : r .reading .block ≡ s
+  -- with no spare bit set (02, g)
+  pub spare-clear : r .reading .spare .set ≡ false
   -- and shows its picture, at every texel, where it has no fault in the kind
   pub shown : FineIn kind fp (r .writing .bytes) → length old ≡ 4 * texelsOf fp → r .shown ≡ Done
   pub picture : FineIn kind fp (r .writing .bytes) → length old ≡ 4 * texelsOf fp → out ≡ pictureNumbers fp kind s
@@ -79,7 +81,7 @@ pub record Demanded (kind : Kind) (fp : ℕ) (s : SymbolicBlock) (old : List ℕ
 -- ---- a block read and written anew
 
 -- with what was read of it
-abbrev pub rewriting : Kind → ℕ → List ℕ → ℕ → ℕ → Reading → Rewriting
+abbrev pub rewriting : Kind → ℕ → List ℕ → ℕ → ℕ → SymbolicReading → Rewriting
 rewriting kind fp block numbers numbers2 r = record {
   reading = r;
   writing = writingOf fp (r .block);

@@ -2,7 +2,7 @@
 use block_answer::Answer;
 use symbolic_block::SymbolicBlock;
 use symbolic_calls::Writing;
-use symbolic_reader::Reading;
+use symbolic_reader::SymbolicReading;
 ghost use mathlib.Core.Path.{_≡_};
 ghost use lib.ListN.{length};
 ghost use Rattle.interpolation.specs.declared.Kind.the-variants.{Srgb8};
@@ -12,7 +12,7 @@ ghost use Rattle.round_trip.specs.Demand.{wordKind, roundTripOf, Demande
 // What the writer, the reader and the one-block call answered.
 pub struct RoundTrip {
     pub writing: Writing,
-    pub reading: Reading,
+    pub reading: SymbolicReading,
     pub shown: Answer,
 }
 
@@ -63,7 +63,7 @@ pub fn round_trip_srgb8(fp: u8, s: SymbolicBlock, out: &mut [u8]) -> RoundTrip
 
 // What the reader, the writer and the one-block calls of both blocks answered.
 pub struct Rewriting {
-    pub reading: Reading,
+    pub reading: SymbolicReading,
     pub writing: Writing,
     pub shown: Answer,
     pub again: Answer,

@@ -2,19 +2,22 @@
 // mark.
 ghost use mathlib.Core.Path.{_≡_};
 ghost use lib.ListN.{length};
-ghost use Rattle.symbolic_numbers.specs.Calls.{readNumber, readNumbers, writeNumber, writeBlock};
+ghost use Rattle.symbolic_numbers.specs.Calls.{readNumber, readNumbers, readSpare, writeNumber, writeBlock};
 
-// A block's symbolic block: the fault's number or the refusal's with zeros in `numbers`, 5 with `numbers` as it was, or 0.
+// A block's symbolic block and its spare bits: the fault's number or the refusal's with zeros in `numbers` and `spare`, 5 with both as they
+// were, or 0.
 #[no_mangle]
 pub extern "C" fn stallbrook_astc_read_symbolic(
     footprint: u8,
     block: &[u8],
     numbers: &mut [u16],
+    spare: &mut [u16],
 ) -> u8
-    ensures { λ r. ⌜ r ≡ readNumber footprint (now (block .entry)) (length (now (numbers .entry))) ⌝ }
-    ensures { λ r. ⌜ now (numbers .exit) ≡ readNumbers footprint (now (block .entry)) (now (numbers .entry)) ⌝ }
+    ensures { λ r. ⌜ r ≡ readNumber footprint (now (block .entry)) (length (now (numbers .entry))) (length (now (spare .entry))) ⌝ }
+    ensures { λ r. ⌜ now (numbers .exit) ≡ readNumbers footprint (now (block .entry)) (now (numbers .entry)) (length (now (spare .entry))) ⌝ }
+    ensures { λ r. ⌜ now (spare .exit) ≡ readSpare footprint (now (block .entry)) (length (now (numbers .entry))) (now (spare .entry)) ⌝ }
 {
-    symbolic_numbers::read_numbers(footprint, block, numbers)
+    symbolic_numbers::read_numbers(footprint, block, numbers, spare)
 }
 
 // The block of a symbolic block: 0, the refusal with zeros in `block`, or 1, 4 or 5 with `block` as it was where a length is wrong.

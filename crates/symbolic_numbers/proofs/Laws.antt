@@ -2,18 +2,20 @@
 -- Assumes nothing.
 use mathlib.Core.Path.{_≡_, refl, sym, ap, _∙_}
 use mathlib.Core.List.{List}
+use mathlib.Core.Logic.{_⊎_, inl, inr}
 use mathlib.Core.Bool.{Bool, true, false}
 use Prim.Native.Nat.{ℕ}
 use native.Mathlib.Omega.{arith}
 use lib.Dec.{eqb}
 use lib.ListN.{length, getD}
 use borrow.Author.Tests.{eq-eqb, ne-eqb}
-use Rattle.laws.specs.Choice.{pick}
+use Rattle.laws.specs.Choice.{pick, both}
 use Rattle.laws.specs.Table.{tab, tabFrom}
 use Rattle.laws.proofs.Filling.{Filled, filled-all, length-tab}
 use Rattle.bits.proofs.Blocks.{bytes-length}
 use Rattle.integer_sequence.specs.Reading.{stored}
 use Rattle.block_answer.specs.Told.{numberTold}
+use Rattle.spare_bits.specs.Spare.{spareNumbers}
 use Rattle.symbolic_block.specs.declared.SymbolicBlock.{SymbolicBlock}
 use Rattle.symbolic_block.specs.Fields.{colourIn, extentIn, modeIn, endpointIn, weightIn, Sized}
 use Rattle.symbolic_block.specs.Refusals.{unknownFootprint, refusalOf}
@@ -23,7 +25,7 @@ use Rattle.symbolic_calls.specs.Writing.{wrote, wroteNothing, writingOf}
 use Rattle.symbolic_calls.proofs.Laws.{told-number}
 use Rattle.symbolic_reader.specs.Answers.{readingOf}
 use Rattle.symbolic_numbers.specs.Numbers.{settingsWith, settingsOf, flatAt, flatOf, blockOver, blockFrom, clippedNumbers, endpointsFit}
-use Rattle.symbolic_numbers.specs.Calls.{refusedOr5, readNumber, readNumbers, lentRefusal, writeNumber, writeBlock}
+use Rattle.symbolic_numbers.specs.Calls.{refusedOr5, roomFor, readNumber, readNumbers, readSpare, lentRefusal, writeNumber, writeBlock}
 use Rattle.symbolic_clip.proofs.Clip.{clip, fits, refused-1}
 
 -- ---- the reader's call
@@ -40,24 +42,40 @@ pub flat-by-position : (s : SymbolicBlock) → tab (flatAt (settingsOf s) (s .en
 unfolding flatOf tab tabFrom
 flat-by-position s = refl
 
-module _ (fp : ℕ) (s old : List ℕ) where
-  module _ (h : length old ≡ 104 → ⊥) where
-    pub number-5 : refusedOr5 (readingOf fp s .answer) ≡ readNumber fp s (length old)
+-- a list of another length
+no-room : (n m : ℕ) → (n ≡ 104 → ⊥) ⊎ (m ≡ 2 → ⊥) → roomFor n m ≡ false
+no-room n m (inl h) = rw (ne-eqb n 104 h)
+no-room n m (inr h) = rw (ne-eqb m 2 h) (off (eqb n 104)) where
+  off : (b : Bool) → both b false ≡ false
+  off true = refl
+  off false = refl
+
+module _ (fp : ℕ) (s old spare : List ℕ) where
+  module _ (h : (length old ≡ 104 → ⊥) ⊎ (length spare ≡ 2 → ⊥)) where
+    pub number-5 : refusedOr5 (readingOf fp s .answer) ≡ readNumber fp s (length old) (length spare)
     unfolding readNumber
-    number-5 = rw (ne-eqb _ _ h)
+    number-5 = rw (no-room (length old) (length spare) h)
 
-    pub numbers-kept : old ≡ readNumbers fp s old
+    pub numbers-kept : old ≡ readNumbers fp s old (length spare)
     unfolding readNumbers
-    numbers-kept = rw (ne-eqb _ _ h)
+    numbers-kept = rw (no-room (length old) (length spare) h)
 
-  module _ (e : length old ≡ 104) where
-    pub number-read : numberTold (readingOf fp s .answer) ≡ readNumber fp s (length old)
+    pub spare-kept : spare ≡ readSpare fp s (length old) spare
+    unfolding readSpare
+    spare-kept = rw (no-room (length old) (length spare) h)
+
+  module _ (e : length old ≡ 104) (f : length spare ≡ 2) where
+    pub number-read : numberTold (readingOf fp s .answer) ≡ readNumber fp s (length old) (length spare)
     unfolding readNumber
-    number-read = rw (eq-eqb _ _ e)
+    number-read = rw (eq-eqb _ _ e, eq-eqb _ _ f)
 
-    pub numbers-read : flatOf (readingOf fp s .block) ≡ readNumbers fp s old
+    pub numbers-read : flatOf (readingOf fp s .block) ≡ readNumbers fp s old (length spare)
     unfolding readNumbers
-    numbers-read = rw (eq-eqb _ _ e)
+    numbers-read = rw (eq-eqb _ _ e, eq-eqb _ _ f)
+
+    pub spare-read : spareNumbers (readingOf fp s .spare) ≡ readSpare fp s (length old) spare
+    unfolding readSpare
+    spare-read = rw (eq-eqb _ _ e, eq-eqb _ _ f)
 
 -- ---- a list's symbolic block
 

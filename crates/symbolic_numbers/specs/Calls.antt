@@ -1,16 +1,17 @@
 -- What the calls that read and write a symbolic block (01: sheet) as a list of 104 numbers answer, and what they leave.
 -- Assumes nothing.
 use Prim.Native.Nat.{ℕ}
-use mathlib.Core.Bool.{not}
+use mathlib.Core.Bool.{Bool, not}
 use mathlib.Core.List.{List, [], _∷_}
 use lib.Dec.{eqb}
 use lib.ListN.{length}
-use Rattle.laws.specs.Choice.{pick}
+use Rattle.laws.specs.Choice.{pick, both}
 use Rattle.laws.specs.Table.{tab}
 use Rattle.laws.specs.Reasons.{when, firstOf}
 use Rattle.block_answer.specs.declared.Answer.{Answer}
 use Rattle.block_answer.specs.declared.Answer.the-variants.{Refused, Faulty, Done}
 use Rattle.block_answer.specs.Told.{numberTold}
+use Rattle.spare_bits.specs.Spare.{spareNumbers}
 use Rattle.symbolic_block.specs.Refusals.{unknownFootprint}
 use Rattle.symbolic_calls.specs.Writing.{writingOf}
 use Rattle.symbolic_reader.specs.Answers.{readingOf}
@@ -18,21 +19,31 @@ use Rattle.symbolic_numbers.specs.Numbers.{flatOf, blockOver, blockFrom}
 
 -- ---- the reader
 
--- the number told where the list lent is not of 104 numbers: 5, after the refusals 1 and 4
+-- the number told where a list lent has another length: 5, after the refusals 1 and 4
 abbrev pub refusedOr5 : Answer → ℕ
 refusedOr5 (Refused n) = n
 refusedOr5 (Faulty n) = 5
 refusedOr5 Done = 5
 
--- what the call answers for the bytes s and a list of so many numbers
-unfoldable pub readNumber : ℕ → List ℕ → ℕ → ℕ
-unfolding readingOf
-readNumber fp s n = pick (eqb n 104) (numberTold (readingOf fp s .answer)) (refusedOr5 (readingOf fp s .answer))
+-- 104 numbers for the symbolic block, two for the spare bits (02, g)
+abbrev pub roomFor : ℕ → ℕ → Bool
+roomFor numbers spare = both (eqb numbers 104) (eqb spare 2)
 
--- what the list holds then: the symbolic block, zeros on a fault and on the refusals 1 and 4; what it held where it is not of 104 numbers
-unfoldable pub readNumbers : ℕ → List ℕ → List ℕ → List ℕ
+-- what the call answers for the bytes s and two lists of so many numbers
+unfoldable pub readNumber : ℕ → List ℕ → ℕ → ℕ → ℕ
+unfolding readingOf
+readNumber fp s n m = pick (roomFor n m) (numberTold (readingOf fp s .answer)) (refusedOr5 (readingOf fp s .answer))
+
+-- what the first list holds then: the symbolic block, zeros on a fault and on the refusals 1 and 4; what it held where it is not of 104 numbers
+-- or the other not of two
+unfoldable pub readNumbers : ℕ → List ℕ → List ℕ → ℕ → List ℕ
 unfolding flatOf readingOf
-readNumbers fp s old = pick (eqb (length old) 104) (flatOf (readingOf fp s .block)) old
+readNumbers fp s old m = pick (roomFor (length old) m) (flatOf (readingOf fp s .block)) old
+
+-- and the second: the spare bits, two zeros where the first holds zeros; what it held where that does
+unfoldable pub readSpare : ℕ → List ℕ → ℕ → List ℕ → List ℕ
+unfolding readingOf
+readSpare fp s n old = pick (roomFor n (length old)) (spareNumbers (readingOf fp s .spare)) old
 
 -- ---- the writer
 

@@ -15,7 +15,7 @@ ghost use Rattle.symbolic_block.specs.Refusals.{unknownFootprint};
 ghost use Rattle.symbolic_refusal.specs.inner.Stages.{or34};
 ghost use Rattle.symbolic_calls.specs.Writing.{writingOf};
 ghost use Rattle.symbolic_numbers.specs.Numbers.{settingsOf, flatOf, blockOver, blockFrom, clippedNumbers, endpointsFit};
-ghost use Rattle.symbolic_numbers.specs.Calls.{refusedOr5, readNumber, readNumbers, writeNumber, writeBlock};
+ghost use Rattle.symbolic_numbers.specs.Calls.{refusedOr5, readNumber, readNumbers, readSpare, writeNumber, writeBlock};
 
 // ---- a symbolic block's list
 
@@ -96,17 +96,23 @@ fn refused_or_5(a: Answer) -> u8
     }
 }
 
-// A block's symbolic block: the fault's number or the refusal's with zeros in `numbers`, 5 with `numbers` as it was, or 0.
-pub fn read_numbers(footprint: u8, block: &[u8], numbers: &mut [u16]) -> u8
-    ensures { λ r. ⌜ r ≡ readNumber footprint (now (block .entry)) (length (now (numbers .entry))) ⌝ }
-    ensures { λ r. ⌜ now (numbers .exit) ≡ readNumbers footprint (now (block .entry)) (now (numbers .entry)) ⌝ }
+// A block's symbolic block and its spare bits: the fault's number or the refusal's with zeros in `numbers` and `spare`, 5 with both as they
+// were, or 0.
+pub fn read_numbers(footprint: u8, block: &[u8], numbers: &mut [u16], spare: &mut [u16]) -> u8
+    ensures { λ r. ⌜ r ≡ readNumber footprint (now (block .entry)) (length (now (numbers .entry))) (length (now (spare .entry))) ⌝ }
+    ensures { λ r. ⌜ now (numbers .exit) ≡ readNumbers footprint (now (block .entry)) (now (numbers .entry)) (length (now (spare .entry))) ⌝ }
+    ensures { λ r. ⌜ now (spare .exit) ≡ readSpare footprint (now (block .entry)) (length (now (numbers .entry))) (now (spare .entry)) ⌝ }
 {
     let reading = symbolic_reader::read_symbolic(footprint, block);
     let answer = reading.answer;
     if numbers.len() != 104 {
         return refused_or_5(answer);
     }
+    if spare.len() != 2 {
+        return refused_or_5(answer);
+    }
     put(reading.block, numbers);
+    spare_bits::put_spare(reading.spare, spare);
     block_answer::number_told(answer)
 }
 

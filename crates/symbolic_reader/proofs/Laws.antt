@@ -31,8 +31,9 @@ use Rattle.block_answer.specs.Told.{numberTold}
 use Rattle.block_fault.specs.inner.Stages.{stageIn}
 use Rattle.symbolic_block.specs.Reading.{modeBlock, voidBlock, readBlock}
 use Rattle.symbolic_block.proofs.Opened.{read-void, read-mode}
-use Rattle.symbolic_reader.specs.Answers.{readRefusal, nothing, done, readingIn, readingOf, readTold}
-use Rattle.symbolic_reader.specs.declared.Reading.{Reading}
+use Rattle.spare_bits.specs.Spare.{spareIn, noSpare}
+use Rattle.symbolic_reader.specs.Answers.{readRefusal, nothing, doneWith, done, readingIn, readingOf, readTold}
+use Rattle.symbolic_reader.specs.declared.SymbolicReading.{SymbolicReading}
 
 -- ---- refusals one by one
 
@@ -75,14 +76,14 @@ module _ (fp B : ℕ) where
       let k = told-fault true fp B n e in
       rw (ne-eqb (faultOf true fp B) 0 (k .1), k .0)
 
-  pub void-reading : verdictOf true fp B ≡ verdict.VoidExtent → done (voidBlock (field B 9 1) (colourAt B) (extentAt B)) ≡ readingIn fp B
-  unfolding readingIn
+  pub void-reading : verdictOf true fp B ≡ verdict.VoidExtent → doneWith (voidBlock (field B 9 1) (colourAt B) (extentAt B)) noSpare ≡ readingIn fp B
+  unfolding readingIn voidBlock
   void-reading e =
       let k = told-void true fp B e in
       rw (eq-eqb (faultOf true fp B) 0 (k .0), read-void B (k .1))
 
-  pub coded-reading : verdictOf true fp B ≡ verdict.Coded → done (modeBlock (headerAt B) (endpointAt B (headerAt B)) (weightAt B (headerAt B))) ≡ readingIn fp B
-  unfolding readingIn
+  pub coded-reading : verdictOf true fp B ≡ verdict.Coded → doneWith (modeBlock (headerAt B) (endpointAt B (headerAt B)) (weightAt B (headerAt B))) (spareIn B (headerAt B)) ≡ readingIn fp B
+  unfolding readingIn modeBlock
   coded-reading e =
       let k = told-coded true fp B e in
       rw (eq-eqb (faultOf true fp B) 0 (k .0), read-mode B (k .1))
@@ -113,15 +114,15 @@ module _ (fp : ℕ) (s : List ℕ) where
   unfolding readingOf readingIn readTold
   number-told = go (eqb (readRefusal fp (length s)) 0) (eqb (faultOf true fp (numberOf s)) 0) refl where
     go : (a b : Bool) → eqb (faultOf true fp (numberOf s)) 0 ≡ b
-        → numberTold ((pick a (pick b (done (readBlock (numberOf s))) (nothing (Faulty (faultOf true fp (numberOf s))))) (nothing (Refused (readRefusal fp (length s))))) .answer)
+        → numberTold ((pick a (pick b (done (numberOf s) (readBlock (numberOf s))) (nothing (Faulty (faultOf true fp (numberOf s))))) (nothing (Refused (readRefusal fp (length s))))) .answer)
         ≡ pick a (faultOf true fp (numberOf s)) (readRefusal fp (length s))
     go true true e = sym (eqb-true (faultOf true fp (numberOf s)) 0 e)
     go true false e = refl
     go false b e = refl
 
   -- all that a call promises, from what it returns
-  pub promised : (r : Reading) → r ≡ readingOf fp s → (r ≡ readingOf fp s) × (numberTold (r .answer) ≡ readTold fp s)
-  promised r e = (e, ap (λ (q : Reading). numberTold (q .answer)) e ∙ number-told)
+  pub promised : (r : SymbolicReading) → r ≡ readingOf fp s → (r ≡ readingOf fp s) × (numberTold (r .answer) ≡ readTold fp s)
+  promised r e = (e, ap (λ (q : SymbolicReading). numberTold (q .answer)) e ∙ number-told)
 
 -- ---- the verdict, by the stage of faults
 

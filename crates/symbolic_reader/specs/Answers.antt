@@ -14,26 +14,32 @@ use Rattle.block_answer.specs.declared.Answer.the-variants.{Refused, Faulty, Do
 use Rattle.block_answer.specs.Told.{answerFor}
 use Rattle.symbolic_block.specs.declared.SymbolicBlock.{SymbolicBlock}
 use Rattle.symbolic_block.specs.Reading.{zeroBlock, readBlock}
-use Rattle.symbolic_reader.specs.declared.Reading.{Reading}
+use Rattle.symbolic_reader.specs.declared.SymbolicReading.{SymbolicReading}
+use Rattle.spare_bits.specs.declared.Spare.{Spare}
+use Rattle.spare_bits.specs.Spare.{noSpare, spareOf}
 
 -- "The reader of sheets refuses 1 and 4"; 0 where it does not
 unfoldable pub readRefusal : ℕ → ℕ → ℕ
 readRefusal fp bytes = firstOf (when (ltb 13 fp) 1 ∷ when (not (eqb bytes 16)) 4 ∷ [])
 
--- an answer with "a sheet of zeros"
-abbrev pub nothing : Answer → Reading
-nothing a = record { answer = a; block = zeroBlock }
+-- an answer with "a sheet of zeros"; 02, g: its spare bits are "0 and clear for faults and refusals"
+abbrev pub nothing : Answer → SymbolicReading
+nothing a = record { answer = a; block = zeroBlock; spare = noSpare }
 
-abbrev pub done : SymbolicBlock → Reading
-done s = record { answer = Done; block = s }
+abbrev pub doneWith : SymbolicBlock → Spare → SymbolicReading
+doneWith s spare = record { answer = Done; block = s; spare = spare }
+
+-- the symbolic block s that the 128 bits B read as, and the spare bits
+abbrev pub done : ℕ → SymbolicBlock → SymbolicReading
+done B s = doneWith s (spareOf B s)
 
 -- of 128 bits: "else tells the block's fault, with a sheet of zeros in both events", else the symbolic block
-unfoldable pub readingIn : ℕ → ℕ → Reading
+unfoldable pub readingIn : ℕ → ℕ → SymbolicReading
 unfolding answerFor readBlock zeroBlock
-readingIn fp B = pick (eqb (faultOf true fp B) 0) (done (readBlock B)) (nothing (Faulty (faultOf true fp B)))
+readingIn fp B = pick (eqb (faultOf true fp B) 0) (done B (readBlock B)) (nothing (Faulty (faultOf true fp B)))
 
 -- what the reader answers for the bytes s
-unfoldable pub readingOf : ℕ → List ℕ → Reading
+unfoldable pub readingOf : ℕ → List ℕ → SymbolicReading
 unfolding readRefusal readingIn
 readingOf fp s = pick (eqb (readRefusal fp (length s)) 0) (readingIn fp (numberOf s)) (nothing (Refused (readRefusal fp (length s))))
 

@@ -5,6 +5,7 @@ use block_fault::Verdict;
 use block_header::Header;
 use block_header::Stage;
 use encoding::Stored;
+use spare_bits::Spare;
 use symbolic_block::SymbolicBlock;
 ghost use mathlib.Core.Path.{_≡_};
 ghost use Prim.Native.Nat.{_+_, _*_, _≤_, _<_};
@@ -18,13 +19,14 @@ ghost use Rattle.block_header.specs.Stages.{stageOf};
 ghost use Rattle.block_answer.specs.Told.{numberTold};
 ghost use Rattle.block_fault.specs.Bits.{endpointAt, weightAt, colourAt, extentAt, endpointsFrom};
 ghost use Rattle.symbolic_block.specs.Reading.{markOf, modeBlock, voidBlock, zeroBlock};
-ghost use Rattle.symbolic_reader.specs.Answers.{readRefusal, readingOf, readTold, nothing, done};
+ghost use Rattle.symbolic_reader.specs.Answers.{readRefusal, readingOf, readTold, nothing, doneWith};
 ghost use Rattle.symbolic_reader.specs.inner.Stages.{refusedAt, faultyAt};
 
-// The answer, and the symbolic block: zeros unless the answer is Done.
-pub struct Reading {
+// The answer, the symbolic block and the spare bits: zeros unless the answer is Done.
+pub struct SymbolicReading {
     pub answer: Answer,
     pub block: SymbolicBlock,
+    pub spare: Spare,
 }
 
 fn zero_block() -> SymbolicBlock
@@ -49,21 +51,23 @@ fn zero_block() -> SymbolicBlock
     }
 }
 
-fn told(answer: Answer) -> Reading
+fn told(answer: Answer) -> SymbolicReading
     ensures { λ r. ⌜ r ≡ nothing answer ⌝ }
 {
-    Reading {
+    SymbolicReading {
         answer,
         block: zero_block(),
+        spare: spare_bits::no_spare(),
     }
 }
 
-fn read(block: SymbolicBlock) -> Reading
-    ensures { λ r. ⌜ r ≡ done block ⌝ }
+fn read(block: SymbolicBlock, spare: Spare) -> SymbolicReading
+    ensures { λ r. ⌜ r ≡ doneWith block spare ⌝ }
 {
-    Reading {
+    SymbolicReading {
         answer: Answer::Done,
         block,
+        spare,
     }
 }
 
@@ -210,7 +214,7 @@ fn mode_block(b: PhysicalBlock, h: Header, numbers: u8, range: u8) -> SymbolicBl
 }
 
 // A block's symbolic block at a footprint. Each stage that stops tells its number at once.
-pub fn read_symbolic(fp: u8, block: &[u8]) -> Reading
+pub fn read_symbolic(fp: u8, block: &[u8]) -> SymbolicReading
     ensures { λ r. ⌜ r ≡ readingOf fp (now (block .entry)) ⌝ }
     ensures { λ r. ⌜ numberTold (r .answer) ≡ readTold fp (now (block .entry)) ⌝ }
 {
@@ -226,7 +230,8 @@ pub fn read_symbolic(fp: u8, block: &[u8]) -> Reading
         return told(faulty(sound));
     };
     if let Verdict::VoidExtent = v {
-        return read(void_block(b));
+        return read(void_block(b), spare_bits::no_spare());
     }
-    read(mode_block(b, s.header, s.numbers, s.range))
+    let spare = spare_bits::spare_in(b, s.header, s.numbers, s.range);
+    read(mode_block(b, s.header, s.numbers, s.range), spare)
 }

@@ -55,12 +55,12 @@ fn case(name: &str, rounds: usize, cases: &[Case]) -> [f64; 2] {
     let (mut ours, mut theirs) = (vec![[1u16; NUMBERS]; cases.len()], vec![[2u16; NUMBERS]; cases.len()]);
     let read = |lists: &mut [[u16; NUMBERS]]| {
         for (((footprint, _), block), numbers) in cases.iter().zip(&blocks).zip(lists) {
-            library::raw::read_symbolic(*footprint, block, numbers);
+            library::raw::read_symbolic(*footprint, block, numbers, &mut [0; 2]);
         }
     };
     let reference_read = |lists: &mut [[u16; NUMBERS]]| {
         for (((footprint, _), block), numbers) in cases.iter().zip(&blocks).zip(lists) {
-            *numbers = reference::read(*footprint as usize, block).map_or([0; NUMBERS], |s| s.to_numbers());
+            *numbers = reference::read_spare(*footprint as usize, block).map_or([0; NUMBERS], |(s, _)| s.to_numbers());
         }
     };
     read(&mut ours);

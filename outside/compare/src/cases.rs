@@ -4,7 +4,7 @@ use std::fmt;
 
 use reference::{
     FOOTPRINTS, Kind, NUMBERS, SymbolicBlock, Tally, block_refusal, decode_f16, decode_image_f16, decode_image_u8,
-    decode_image_u16, decode_u8, decode_u16, image_refusal, read, read_refusal, write,
+    decode_image_u16, decode_u8, decode_u16, image_refusal, read, read_refusal, read_spare, write,
 };
 
 /// A case that can be run, printed and made smaller.
@@ -121,14 +121,15 @@ pub struct BlockCase {
     pub footprint: u8,
     pub block: Vec<u8>,
     pub out_len: usize,
-    /// Of the list that the reader gets.
+    /// Of the lists that the reader gets.
     pub numbers_len: usize,
+    pub spare_len: usize,
 }
 
 impl BlockCase {
     pub fn new(footprint: usize, block: [u8; 16]) -> BlockCase {
         let (w, h) = FOOTPRINTS[footprint];
-        BlockCase { footprint: footprint as u8, block: block.to_vec(), out_len: 4 * w * h, numbers_len: NUMBERS }
+        BlockCase { footprint: footprint as u8, block: block.to_vec(), out_len: 4 * w * h, numbers_len: NUMBERS, spare_len: 2 }
     }
 
     /// The block, where the call isn't refused.
@@ -177,27 +178,40 @@ impl BlockCase {
         })
     }
 
-    /// The reader's refusal: 1, 4, and 5 where its list is not of 104 numbers.
+    /// Both lists of the reader have their lengths.
+    fn has_lists(&self) -> bool {
+        self.numbers_len == NUMBERS && self.spare_len == 2
+    }
+
+    /// The reader's refusal: 1, 4, and 5 where its lists are not of 104 and of two numbers.
     pub fn read_refusal(&self) -> u8 {
         match read_refusal(self.footprint as usize, self.block.len()) {
-            0 if self.numbers_len != NUMBERS => 5,
+            0 if !self.has_lists() => 5,
             refusal => refusal,
         }
     }
 
     fn read_difference(&self) -> Option<String> {
         let expected = match self.read_refusal() {
-            0 => read(self.footprint as usize, self.block.as_slice().try_into().unwrap()),
+            0 => read_spare(self.footprint as usize, self.block.as_slice().try_into().unwrap()),
             refusal => Err(refusal),
         };
-        let (answer, numbers) = match expected {
-            Ok(s) => (0, s.to_numbers()),
-            Err(number) => (number, [0; NUMBERS]),
+        let (answer, numbers, spare) = match expected {
+            Ok((s, spare)) => (0, s.to_numbers(), spare.to_numbers()),
+            Err(number) => (number, [0; NUMBERS], [0; 2]),
         };
-        let wanted = (self.numbers_len == NUMBERS).then_some(numbers.as_slice());
+        let wanted = self.has_lists().then_some(numbers.as_slice());
+        let wanted_spare = self.has_lists().then_some(spare.as_slice());
+        let mut inner = None;
         lend(self.numbers_len, wanted, None, "read_symbolic", answer, |given| {
-            library::raw::read_symbolic(self.footprint, &self.block, given)
+            let mut told = 0;
+            inner = lend(self.spare_len, wanted_spare, None, "read_symbolic, spare bits", answer, |spare| {
+                told = library::raw::read_symbolic(self.footprint, &self.block, given, spare);
+                told
+            });
+            told
         })
+        .or(inner)
         .or_else(|| (answer == 0).then(|| SymbolicCase::new(self.footprint, &numbers).write_difference()).flatten())
     }
 }
@@ -241,6 +255,9 @@ impl Case for BlockCase {
                     cases.push(BlockCase { numbers_len, ..self.clone() });
                 }
             }
+            if self.spare_len > 0 {
+                cases.push(BlockCase { spare_len: self.spare_len - 1, ..self.clone() });
+            }
         }
         cases
     }
@@ -249,7 +266,8 @@ impl Case for BlockCase {
 impl fmt::Display for BlockCase {
     fn fmt(&self, f: &mut fmt::Formatter) -> fmt::Result {
         let name = size_name(self.footprint);
-        writeln!(f, "block call, {name}, out length {}, list of {} numbers", self.out_len, self.numbers_len)?;
+        let (out, numbers, spare) = (self.out_len, self.numbers_len, self.spare_len);
+        writeln!(f, "block call, {name}, out length {out}, lists of {numbers} and {spare} numbers")?;
         writeln!(f, "block {}", hex(&self.block))?;
         if let Some(block) = self.whole() {
             match read(self.footprint as usize, block) {

@@ -14,7 +14,7 @@ mod view;
 use std::time::{SystemTime, UNIX_EPOCH};
 
 use cases::{BlockCase, Case, ImageCase, SymbolicCase, shrink};
-use reference::block_refusal;
+use reference::{NUMBERS, block_refusal};
 use reference::random::Random;
 use seen::Seen;
 
@@ -50,6 +50,9 @@ impl Run {
         let (f, len) = (case.footprint as usize, case.block.len());
         self.seen.count("block call, refusal", block_refusal(f, len, case.out_len) as u32);
         self.seen.count("read call, refusal", case.read_refusal() as u32);
+        if case.spare_len != 2 && case.numbers_len == NUMBERS {
+            self.seen.count("read call, spare list not of 2 numbers, refusal", case.read_refusal() as u32);
+        }
         if let Some(block) = case.whole() {
             self.seen.block(f, block);
             self.blocks += 1;
@@ -146,6 +149,9 @@ fn main() {
     let mut run = Run { seen: Seen::new(), passed: 0, failed: 0, printed: 0, blocks: 0 };
     vectors(&mut run);
     for case in make::every_mode(&mut r).into_iter().chain(make::hdr_edges(&mut r)) {
+        run.block(case);
+    }
+    for case in make::spare_bits(&mut r) {
         run.block(case);
     }
     for case in make::hdr_marks(&mut r) {

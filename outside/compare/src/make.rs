@@ -46,6 +46,20 @@ pub fn every_mode(r: &mut Random) -> Vec<BlockCase> {
     cases
 }
 
+/// 02, g: blocks of every block mode with only the lowest spare bit set, only the highest, and all, with any fitting codes in their groups.
+pub fn spare_bits(r: &mut Random) -> Vec<BlockCase> {
+    let f = FOOTPRINTS.len() - 1;
+    let mut cases = Vec::new();
+    for mode in 0..2048 {
+        for _ in 0..8 {
+            let Some(s) = block_of_mode(r, f, mode) else { continue };
+            let loose = loose_block(r, f, &s);
+            cases.extend(spare_edges(f, loose).into_iter().map(|block| BlockCase::new(f, block)));
+        }
+    }
+    cases
+}
+
 /// HDR: every endpoint mode with every submode and every block mode, at every footprint; ends and weights all least and all greatest; void
 /// extents with infinities and NaN, and LDR ones with the least and greatest colours.
 pub fn hdr_edges(r: &mut Random) -> Vec<BlockCase> {
@@ -127,7 +141,7 @@ fn other_length(r: &mut Random, right: usize) -> usize {
 /// A block call that is refused; several reasons may hold at once.
 pub fn refused_block(r: &mut Random) -> BlockCase {
     let mut case = block(r);
-    let reason = 1 + r.below(15);
+    let reason = 1 + r.below(31);
     if reason & 1 != 0 {
         case.footprint = bad_footprint(r);
     }
@@ -140,6 +154,9 @@ pub fn refused_block(r: &mut Random) -> BlockCase {
     }
     if reason & 8 != 0 {
         case.numbers_len = other_length(r, NUMBERS);
+    }
+    if reason & 16 != 0 {
+        case.spare_len = other_length(r, 2);
     }
     case
 }

@@ -1,15 +1,50 @@
 //! How often each fault, refusal, mode, footprint and setting occurred.
 
-use std::collections::BTreeMap;
+use std::collections::{BTreeMap, BTreeSet};
 
 use reference::hdr::submodes;
-use reference::random::HDR_MODES;
-use reference::tables::{BLOCK_MODES, BlockMode, ENDPOINT_RANGES};
-use reference::{Kind, NUMBERS, SymbolicBlock, fault, read, write};
+use reference::random::{HDR_MODES, spare_edges};
+use reference::tables::{BLOCK_MODES, BlockMode, Digit, ENDPOINT_RANGES};
+use reference::{Kind, NUMBERS, SymbolicBlock, endings, fault, present, read, read_spare, write};
 
 const FAULTS: [u32; 10] = [11, 12, 13, 14, 15, 16, 17, 18, 19, 20];
 /// Those of kind 2.
 const HDR_FAULTS: [u32; 8] = [11, 12, 14, 15, 16, 17, 18, 19];
+
+/// Digits present in the cut group, plus 10 for trits and 20 for quints, plus 100 where a missing digit is not zero.
+const CUT: [&str; 2] = [
+    "cut group of endpoint numbers: digits present, plus 10 for trits, 20 for quints, plus 100 where a missing one is not zero",
+    "cut group of weights: digits present, plus 10 for trits, 20 for quints, plus 100 where a missing one is not zero",
+];
+
+/// Every count of spare bits that some block without fault has.
+fn possible_spare() -> BTreeSet<u32> {
+    let mut counts = BTreeSet::new();
+    for mode in (0..2048).filter(|&m| possible(m)) {
+        let mut s = grid_of(mode).expect("a grid");
+        for partitions in 1..=4 {
+            s.partitions = partitions;
+            for selector in 0..if partitions == 1 { 1 } else { 4u16 } {
+                s.selector = selector;
+                // Classes of the first partitions, all alike but for the selector's own class in some of them.
+                for class in 0..4u16 {
+                    for upper in 0..=partitions {
+                        let (low, high) = if selector == 0 { (class, class) } else { (selector - 1, selector) };
+                        s.modes = std::array::from_fn(|i| match i as u16 {
+                            i if i >= partitions => 0,
+                            i if i < upper => 4 * high,
+                            _ => 4 * low,
+                        });
+                        if reference::refusal(13, &s) == 0 {
+                            counts.insert(s.spare_count() as u32);
+                        }
+                    }
+                }
+            }
+        }
+    }
+    counts
+}
 
 /// A submode of an HDR endpoint mode as one number.
 fn submode_number(mode: u8, submode: usize) -> u32 {
@@ -28,6 +63,12 @@ impl Seen {
         seen.require("block without fault in kind 2, fault in kinds 0 and 1", [0, 13, 20]);
         seen.require("block call, refusal", [0, 1, 4, 5]);
         seen.require("read call, refusal", [0, 1, 4, 5]);
+        seen.require("read call, spare list not of 2 numbers, refusal", [1, 4, 5]);
+        seen.require("spare bits, how many", possible_spare());
+        seen.require("spare bits, set: 0 none, 1 the lowest alone, 2 the highest alone, 3 others", 0..4);
+        for sort in CUT {
+            seen.require(sort, (11..15).chain(21..23).flat_map(|n| [n, 100 + n]));
+        }
         seen.require("image call, refusal", [0, 1, 3, 4, 5]);
         seen.require("image call, tally not of 3 numbers, refusal", [1, 3, 4, 5]);
         seen.require("image, footprint", 0..14);
@@ -111,6 +152,7 @@ impl Seen {
         let mode = block[0] as u32 | (block[1] as u32 & 7) << 8;
         self.count("any block mode", mode);
         let Ok(s) = read(footprint, block) else { return };
+        self.spare(footprint, block);
         self.count("block is what the writer makes", (write(footprint, &s) == Ok(*block)) as u32);
         self.count("void extent", s.mark as u32);
         if s.mark == 1 {
@@ -148,6 +190,25 @@ impl Seen {
         }
         self.count("weight range", s.range as u32);
         self.count("endpoint range", s.endpoint_most() as u32);
+    }
+
+    /// 02, g: the spare bits of a block without fault, and where its two sequences ended.
+    fn spare(&mut self, footprint: usize, block: &[u8; 16]) {
+        let Some(ends) = endings(footprint, block) else { return };
+        let (_, spare) = read_spare(footprint, block).expect("a block without fault");
+        self.count("spare bits, how many", spare.count as u32);
+        if spare.count > 0 {
+            let edges = spare_edges(footprint, *block);
+            let sort = if !spare.set { 0 } else { 1 + edges[..2].iter().position(|e| e == block).unwrap_or(2) };
+            self.count("spare bits, set: 0 none, 1 the lowest alone, 2 the highest alone, 3 others", sort as u32);
+        }
+        for ((encoding, n, ending), sort) in ends.into_iter().zip(CUT) {
+            let present = present(encoding, n) as u32;
+            if present > 0 {
+                let kind = if encoding.digit == Digit::Trit { 10 } else { 20 };
+                self.count(sort, kind + present + if ending.zero { 0 } else { 100 });
+            }
+        }
     }
 
     /// The colours of an HDR void extent.
@@ -253,12 +314,17 @@ impl Seen {
 
 /// A block mode that some block without fault has, at the largest footprint.
 fn possible(mode: u32) -> bool {
-    let BlockMode::Grid(g) = BLOCK_MODES[mode as usize] else { return false };
+    grid_of(mode).is_some_and(|s| reference::refusal(13, &s) == 0)
+}
+
+/// The grid of a block mode, with one partition.
+fn grid_of(mode: u32) -> Option<SymbolicBlock> {
+    let BlockMode::Grid(g) = BLOCK_MODES[mode as usize] else { return None };
     let mut s = SymbolicBlock::ZERO;
     s.width = g.width as u16;
     s.height = g.height as u16;
     s.range = g.range as u16;
     s.planes = g.planes as u16;
     s.partitions = 1;
-    reference::refusal(13, &s) == 0
+    Some(s)
 }

@@ -1,10 +1,11 @@
-//! Makes the inputs of the programs writer_runs and reader_runs and the outputs they must have: runs DIR
+//! Makes the inputs of the programs writer_runs, reader_runs and sequence_runs and the outputs they must have: runs DIR
 use std::fmt::Write;
 use std::fs::write as store;
 use std::path::Path;
 
 use reference::random::*;
-use reference::{FOOTPRINTS, Kind, NUMBERS, SymbolicBlock, fault, read, refusal, write};
+use reference::tables::{ENDPOINT_RANGES, Encoding, WEIGHT_RANGES};
+use reference::{FOOTPRINTS, Kind, NUMBERS, SymbolicBlock, bit_count, ending, fault, read_spare, refusal, unpack, write};
 
 /// 01's numbers of a writer's refusals.
 const REFUSALS: [u8; 15] = [0, 1, 12, 14, 15, 16, 17, 18, 19, 20, 31, 32, 33, 34, 35];
@@ -16,6 +17,7 @@ fn main() {
     let mut r = Random(2026);
     writer_runs(&mut r, Path::new(&dir));
     reader_runs(&mut r, Path::new(&dir));
+    sequence_runs(&mut r, Path::new(&dir));
 }
 
 fn writer_runs(r: &mut Random, dir: &Path) {
@@ -130,13 +132,59 @@ fn told(footprint: usize, block: &[u8; 16]) -> String {
     if footprint > 13 {
         return "refused 1\n".into();
     }
-    match read(footprint, block) {
+    match read_spare(footprint, block) {
         Err(number) => format!("fault {number}\n"),
-        Ok(s) => {
+        Ok((s, spare)) => {
             let bytes = write(footprint, &s).expect("what was read is acceptable");
-            format!("fields{} block{} same texels\n", spaced(&s.to_numbers()), spaced(&bytes))
+            let (fields, spare) = (spaced(&s.to_numbers()), spaced(&spare.to_numbers()));
+            format!("fields{fields} spare{spare} block{} same texels\n", spaced(&bytes))
         }
     }
+}
+
+/// Every code of a cut group of trits and of quints without other bits, all bits past it set; then numbers of every range in random blocks.
+fn sequence_runs(r: &mut Random, dir: &Path) {
+    let (mut input, mut output) = (Vec::new(), String::new());
+    let mut put = |range: usize, n: usize, from: u32, block: u128| {
+        input.extend([range as u8, n as u8, from as u8]);
+        input.extend(block.to_le_bytes());
+        let (encoding, stream) = (encoding_of(range), block >> from);
+        let ending = ending(encoding, n, stream);
+        let mut numbers = vec![0; n];
+        unpack(encoding, n, stream, |i, v| numbers[i] = v);
+        let numbers = spaced(&numbers[..n.min(64)]);
+        output += &format!("end {} zero {} numbers{numbers}\n", ending.end, ending.zero as u8);
+    };
+    for (range, size) in [(1, 5), (3, 3)] {
+        for n in 1..size {
+            let bits = bit_count(encoding_of(range), n);
+            for code in 0..1 << bits {
+                put(range, n as usize, 0, code | u128::MAX << bits);
+            }
+        }
+    }
+    for range in 0..21 {
+        let most = (0..128).rev().find(|&n| bit_count(encoding_of(range), n) < 128).expect("a count") as usize;
+        put(range, 0, 0, u128::MAX);
+        put(range, most, 0, u128::from_le_bytes(r.bytes()));
+        for _ in 0..EACH {
+            let n = r.below(most + 1);
+            let room = 128 - bit_count(encoding_of(range), n as u32) as usize;
+            put(range, n, r.below(room + 1) as u32 % 128, u128::from_le_bytes(r.bytes()));
+        }
+        // Whole groups before a cut one, where there are digits.
+        let size = [1, 5, 3][encoding_of(range).digit as usize];
+        for present in 1..size {
+            put(range, size + present, 3, u128::from_le_bytes(r.bytes()));
+        }
+    }
+    store(dir.join("sequence.in"), input).expect("sequence.in");
+    store(dir.join("sequence.out"), output).expect("sequence.out");
+}
+
+/// Of the list of 21, by growing size: the weight ranges are the first 12, the endpoint ranges the last 17.
+fn encoding_of(range: usize) -> Encoding {
+    if range < 12 { WEIGHT_RANGES[range] } else { ENDPOINT_RANGES[range - 4] }
 }
 
 fn spaced<T: std::fmt::Display>(numbers: &[T]) -> String {

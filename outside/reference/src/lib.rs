@@ -24,7 +24,8 @@ pub use clip::{ClipBlock, ClipFrame, ParsedClip, clip_frame, parse_clip};
 pub use decode::{decode, decode_f16, decode_image_f16, decode_image_u8, decode_image_u16, decode_u8, decode_u16};
 pub use file::{FileHeader, file_header, read_file};
 pub use refusals::{block_refusal, image_refusal, read_refusal, view_refusal};
-pub use symbolic::{NUMBERS, SymbolicBlock, picture, read, refusal, write};
+pub use sequence::{Ending, bit_count, ending, present, unpack};
+pub use symbolic::{NUMBERS, Spare, SymbolicBlock, endings, picture, read, read_spare, refusal, write};
 pub use texel::ask;
 
 /// Width and height of footprints 0 to 13.

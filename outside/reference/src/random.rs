@@ -271,6 +271,19 @@ pub fn loose_block(r: &mut Random, footprint: usize, s: &SymbolicBlock) -> [u8; 
     block.to_le_bytes()
 }
 
+/// The block with only its lowest spare bit set, only its highest, and all of them, where there are any.
+pub fn spare_edges(footprint: usize, block: [u8; 16]) -> Vec<[u8; 16]> {
+    let block = u128::from_le_bytes(block);
+    let Ok(Settings::Mode(m)) = parse(footprint, true, block) else { return Vec::new() };
+    let from = m.endpoint_start + bit_count(ENDPOINT_RANGES[m.endpoint_range], m.endpoint_count as u32);
+    if from == m.spare_end {
+        return Vec::new();
+    }
+    let all = ((1u128 << (m.spare_end - from)) - 1) << from;
+    let clear = block & !all;
+    [1 << from, 1 << (m.spare_end - 1), all].map(|bits: u128| (clear | bits).to_le_bytes()).to_vec()
+}
+
 /// A random block whose low bits give any block mode, void extents included, equally often.
 pub fn block_of_any_mode(r: &mut Random) -> [u8; 16] {
     let mut bytes = r.bytes();

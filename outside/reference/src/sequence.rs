@@ -66,6 +66,46 @@ pub fn unpack(encoding: Encoding, n: usize, stream: u128, mut put: impl FnMut(us
     }
 }
 
+/// Where a sequence ended (02, g).
+#[derive(Clone, Copy, PartialEq, Eq, Debug)]
+pub struct Ending {
+    /// The position after its last bit, counted from its first.
+    pub end: u32,
+    /// The cut group's missing digits came out as zero; also where no group is cut.
+    pub zero: bool,
+}
+
+/// Digits that the last group of n numbers has: 0 where it is whole or there are no digits.
+pub fn present(encoding: Encoding, n: usize) -> usize {
+    match encoding.digit {
+        Digit::None => 0,
+        Digit::Trit => n % 5,
+        Digit::Quint => n % 3,
+    }
+}
+
+/// Of n numbers that start at bit 0 of `stream`. The missing digits are those of the cut group's code, bits past the end being read as 0.
+pub fn ending(encoding: Encoding, n: usize, stream: u128) -> Ending {
+    let end = bit_count(encoding, n as u32);
+    let present = present(encoding, n);
+    if present == 0 {
+        return Ending { end, zero: true };
+    }
+    let steps: &[u32] = if encoding.digit == Digit::Trit { &TRIT_STEPS } else { &QUINT_STEPS };
+    let mut at = bit_count(encoding, (n - present) as u32);
+    let (mut code, mut width) = (0, 0);
+    for step in &steps[..present] {
+        at += encoding.bits;
+        code |= (stream >> at & ((1 << step) - 1)) << width;
+        at += step;
+        width += step;
+    }
+    assert_eq!(at, end);
+    let digits: &[u8] =
+        if encoding.digit == Digit::Trit { &TRITS[code as usize] } else { &QUINTS[code as usize] };
+    Ending { end, zero: digits[present..].iter().all(|&d| d == 0) }
+}
+
 /// Packs numbers from bit 0 on; `code` picks the code of a group's present digits.
 pub fn pack_by(encoding: Encoding, numbers: &[u16], mut code: impl FnMut(Digit, &[u8]) -> u8) -> u128 {
     let b = encoding.bits;
@@ -119,6 +159,26 @@ mod tests {
         for count in 0..=18 {
             assert_eq!(bit_count(ENDPOINT_RANGES[0], count), (13 * count).div_ceil(5));
         }
+    }
+
+    /// 02, g: digits, not bits. One trit of code 3 leaves 0, 2, 0, 0; four with T[4:2] = 111 leave 2; so do eight of our own smallest codes.
+    #[test]
+    fn endings() {
+        let (trits, quints) = (WEIGHT_RANGES[1], WEIGHT_RANGES[3]);
+        assert_eq!(ending(trits, 0, u128::MAX), Ending { end: 0, zero: true });
+        assert_eq!(ending(trits, 5, u128::MAX), Ending { end: 8, zero: true });
+        assert_eq!(ending(trits, 1, 2), Ending { end: 2, zero: true });
+        assert_eq!(ending(trits, 1, 3), Ending { end: 2, zero: false });
+        assert_eq!(ending(trits, 4, 28), Ending { end: 7, zero: false });
+        assert_eq!(ending(quints, 1, 7), Ending { end: 3, zero: false });
+        assert_eq!(ending(quints, 2, 0b01111), Ending { end: 5, zero: false });
+        let ours = |n: usize| {
+            let numbers: Vec<u16> = (0..4).map(|k| (n / 3usize.pow(k) % 3) as u16).collect();
+            !ending(trits, 4, pack_by(trits, &numbers, smallest_code)).zero
+        };
+        assert_eq!((0..81).filter(|&n| ours(n)).count(), 8);
+        // 2, 1, 0, 2
+        assert!(ours(2 + 3 + 2 * 27));
     }
 
     /// The table's code is the first of all codes in order, and fits into the bits present.

@@ -3,8 +3,8 @@
 use crate::block::{Settings, bad_extents, endpoint_range, is_hdr, numbers_of_mode, parse};
 use crate::colour::{Pattern, endpoint_pair, expand, grid_factors, grid_place};
 use crate::hdr::{expanded_pair, half, hdr_channels, submode};
-use crate::sequence::{bit_count, pack_by, smallest_code, unpack};
-use crate::tables::{Digit, ENDPOINT_RANGES, ENDPOINTS, WEIGHT_RANGES, WEIGHTS, mode_number};
+use crate::sequence::{Ending, bit_count, ending, pack_by, smallest_code, unpack};
+use crate::tables::{Digit, ENDPOINT_RANGES, ENDPOINTS, Encoding, WEIGHT_RANGES, WEIGHTS, mode_number};
 use crate::{FOOTPRINTS, Kind};
 
 /// Numbers of the flat form.
@@ -144,6 +144,58 @@ impl SymbolicBlock {
     pub fn endpoint_most(&self) -> u16 {
         ENDPOINT_RANGES[self.endpoint_range()].most
     }
+}
+
+/// The spare bits between endpoints and weights (02, g).
+#[derive(Clone, Copy, PartialEq, Eq, Debug, Default)]
+pub struct Spare {
+    pub count: u16,
+    /// Any of them is set.
+    pub set: bool,
+}
+
+impl Spare {
+    /// As numbers, in the order of the C call.
+    pub fn to_numbers(self) -> [u16; 2] {
+        [self.count, self.set as u16]
+    }
+}
+
+impl SymbolicBlock {
+    /// The count by the fields alone: 128 less the bits of all named ones. For an acceptable symbolic block; 0 of a void extent.
+    pub fn spare_count(&self) -> u16 {
+        if self.mark == 1 {
+            return 0;
+        }
+        let endpoints = bit_count(ENDPOINT_RANGES[self.endpoint_range()], self.endpoint_count() as u32);
+        // The endpoint mode; or index, selector and the other four mode bits.
+        let modes = if self.partitions == 1 { 4 } else { 10 + 2 + 4 };
+        let channel = if self.planes == 2 { 2 } else { 0 };
+        (128 - (11 + 2 + modes + endpoints + channel + self.extra_mode_bits() + self.weight_bits())) as u16
+    }
+}
+
+/// The symbolic block and the spare bits of a block without fault by kind 2's list, else the fault.
+pub fn read_spare(footprint: usize, block: &[u8; 16]) -> Result<(SymbolicBlock, Spare), u8> {
+    let s = read(footprint, block)?;
+    let block = u128::from_le_bytes(*block);
+    let Settings::Mode(m) = parse(footprint, true, block)? else { return Ok((s, Spare::default())) };
+    let from = m.endpoint_start + bit_count(ENDPOINT_RANGES[m.endpoint_range], m.endpoint_count as u32);
+    let count = s.spare_count();
+    assert_eq!(from + count as u32, m.spare_end);
+    Ok((s, Spare { count, set: block >> from & ((1 << count) - 1) != 0 }))
+}
+
+/// Of a mode block without fault: the encodings of endpoint numbers and weights, how many there are, and where the sequences ended.
+pub fn endings(footprint: usize, block: &[u8; 16]) -> Option<[(Encoding, usize, Ending); 2]> {
+    let block = u128::from_le_bytes(*block);
+    let Ok(Settings::Mode(m)) = parse(footprint, true, block) else { return None };
+    let endpoints = ENDPOINT_RANGES[m.endpoint_range];
+    let weights = WEIGHT_RANGES[m.grid.range as usize];
+    Some([
+        (endpoints, m.endpoint_count, ending(endpoints, m.endpoint_count, block >> m.endpoint_start)),
+        (weights, m.weight_count, ending(weights, m.weight_count, block.reverse_bits())),
+    ])
 }
 
 /// The symbolic block of a block without fault by kind 2's list, else the fault.

@@ -5,11 +5,12 @@ use types.Run.{OneOf, miss}
 use denote.Enum.Declared.{tagOf}
 use Rattle.block_fault.specs.declared.Verdict.{Verdict}
 use Rattle.block_fault.proofs.Verdict.{the-type}
-use mathlib.Core.Path.{_≡_, refl, sym, ap, _∙_, subst}
+use mathlib.Core.Path.{_≡_, refl, sym, ap, ap₂, _∙_, subst}
+use Prim.Native.Nat.{_≤_}
 use lib.ListN.{length}
 use Rattle.bits.specs.Block.{numberOf, blockNumber}
 use Rattle.bits.proofs.Blocks.{Bytes}
-use Rattle.block_header.specs.Counts.{endpointCount, endpointRangeOf}
+use Rattle.block_header.specs.Counts.{weightCount, endpointCount, endpointRangeOf}
 use Rattle.block_fault.specs.declared.Settings.{Settings}
 use Rattle.block_header.specs.declared.Stage.the-variants.{Passed}
 use Rattle.block_fault.specs.declared.Verdict.the-variants as verdict
@@ -18,7 +19,8 @@ use Rattle.block_fault.specs.Settings.{verdictOf}
 use Rattle.block_header.specs.Stages.{stageOf}
 use Rattle.block_fault.proofs.Verdicts.{settings-verdict, told-coded, coded-header, coded-counts, coded-numbers}
 use Rattle.bits.proofs.Halves.{loaded}
-use Rattle.symbolic_reader.specs.Answers.{readRefusal, nothing, done, readingIn, readingOf}
+use Rattle.spare_bits.specs.Spare.{spareIn}
+use Rattle.symbolic_reader.specs.Answers.{readRefusal, nothing, doneWith, readingIn, readingOf}
 use Rattle.symbolic_reader.specs.inner.Stages.{refusedAt, faultyAt}
 use Rattle.symbolic_reader.proofs.Laws.{coded-reading, void-reading, fault-reading, stopped-reading, passed-reading, sixteen, promised, stopped-verdict, coded-verdict}
 use borrow.Author.Needs.{needs}
@@ -77,13 +79,19 @@ returns-2 c =
 
 returns-3 : tie.Need-returns-3
 returns-3 c =
-    let r = c .before .before .before .before .before .before .before in
+    let k = c .before .before in
+    let r = k .before .before .before .before .before .before in
     let s = r .before .before .before .before .before .before .args in
     promised (s .fp) (now (s .block)) _
-    (c .read .ensures ∙ ap done (c .before .void-block .ensures) ∙ void-reading _ _ (verdict-is r ∙ c .before .before .enum-told5 .given .1) ∙ whole (r .before))
+    (c .read .ensures
+    ∙ ap₂ doneWith (k .void-block .ensures) (c .before .no-spare .ensures)
+    ∙ void-reading _ _ (verdict-is r ∙ k .before .enum-told5 .given .1)
+    ∙ whole (r .before))
 
-mode-block-requires : tie.Need-mode-block-requires
-mode-block-requires c κs =
+-- the counts of a coded block
+known : (c : tie.At-match3-keys2) → let s = c .before .before .before .before .read-settings .result in
+    (weightCount (s .header .grid) ≤ 64) × (endpointCount (s .header) ≤ 18) × (s .numbers ≡ endpointCount (s .header)) × (s .range ≡ endpointRangeOf (s .header))
+known c =
     let r = c .before .before .before .before in
     let v = verdict-is r ∙ coded c in
     let k = told-coded true _ _ v in
@@ -91,13 +99,23 @@ mode-block-requires c κs =
     let m = carried r (coded c) in
     (rw (header-is r v) (n .0), rw (header-is r v) (n .1), m .0, m .1)
 
+spare-in-requires : tie.Need-spare-in-requires
+spare-in-requires c κs = (known c .1, known c .2, known c .3)
+
+mode-block-requires : tie.Need-mode-block-requires
+mode-block-requires c κs = known (c .before)
+
 returns-4 : tie.Need-returns-4
 returns-4 c =
-    let r = c .before .before .before .before .before .before in
+    let k = c .before .before .before in
+    let r = k .before .before .before .before in
     let s = r .before .before .before .before .before .before .args in
-    let v = verdict-is r ∙ coded (c .before .before) in
+    let v = verdict-is r ∙ coded k in
     promised (s .fp) (now (s .block)) _
-    (c .read2 .ensures ∙ ap done (c .before .mode-block .ensures ∙ rw (header-is r v)) ∙ coded-reading _ _ v ∙ whole (r .before))
+    (c .read2 .ensures
+    ∙ ap₂ doneWith (c .before .mode-block .ensures ∙ rw (header-is r v)) (c .before .before .spare-in .ensures ∙ ap (spareIn _) (header-is r v))
+    ∙ coded-reading _ _ v
+    ∙ whole (r .before))
 
 pub read-symbolic-spec : {M : Type 1} → statement M
 read-symbolic-spec =
@@ -120,7 +138,9 @@ read-symbolic-spec =
     (λ c. search needs)
     (λ c κs. search needs)
     (λ c κs. search needs)
+    (λ c κs. search needs)
     returns-3
+    spare-in-requires
     mode-block-requires
     (λ c κs. search needs)
     returns-4)
