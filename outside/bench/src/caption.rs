@@ -36,11 +36,11 @@ pub fn measure(rounds: usize) {
         writes.push(writer);
         beyond.push(time - writer);
     }
-    let each = |times: &mut [f64]| median(times) * 1e3 / BLOCKS as f64;
+    let each = |times: Vec<f64>| median(times) * 1e3 / BLOCKS as f64;
     println!(
         "captions, {WIDTH} by {HEIGHT}: {:.3} microseconds for each block, the writer alone {:.3}, beyond it {:.3}",
-        each(&mut calls),
-        each(&mut writes),
-        each(&mut beyond),
+        each(calls),
+        each(writes),
+        each(beyond),
     );
 }

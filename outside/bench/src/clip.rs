@@ -68,7 +68,7 @@ pub fn measure(rounds: usize) {
             fed.push(time);
             ratios.push(time / decoded);
         }
-        let (time, ratio) = (median(&mut fed), median(&mut ratios));
+        let (time, ratio) = (median(fed), median(ratios));
         println!(
             "clip, pieces of {size}: {:.2} ns for each byte, {:.1} ns for each block; feeding / decoding the blocks {ratio:.4}",
             time * 1e6 / frame.len() as f64,

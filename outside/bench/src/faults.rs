@@ -41,7 +41,7 @@ pub fn run(rounds: usize) -> [f64; 2] {
                 library::raw::decode_image_srgb8(footprint as u8, side, side, &blocks, &mut frame, &mut tally);
             }));
         }
-        let [faults, image] = times.map(|mut times| median(&mut times));
+        let [faults, image] = times.map(median);
         println!("{w}x{h}: the faults of an image take 1/{:.1} of the image call's time in kind 1", image / faults);
     }
     worst

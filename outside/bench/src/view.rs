@@ -62,7 +62,7 @@ pub fn run(rounds: usize) -> [f64; 2] {
                 }
             }));
         }
-        let [windows, frame, decoded] = times.map(|mut t| median(&mut t));
+        let [windows, frame, decoded] = times.map(median);
         let (window, texel) = (windows / WINDOWS as f64, windows / places.len() as f64);
         println!(
             "{w}x{h}: a window {:.1} microseconds, 1/{:.0} of the frame; a texel {:.0} ns, {:.2} of a block by the block call",
