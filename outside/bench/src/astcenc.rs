@@ -1,4 +1,4 @@
-//! Arm's codec by its C interface (versions 4 and 5), loaded when the benchmark runs; nothing links to it.
+//! Arm's codec by the C interface of its version 4, loaded when the benchmark runs; nothing links to it.
 
 use std::ffi::{CString, c_char, c_int, c_void};
 use std::mem::transmute;
@@ -53,7 +53,7 @@ impl Library {
             transmute(self.symbol("astcenc_decompress_image"))
         };
         move |blocks, out| {
-            assert_eq!(size_of_val(out), 4 * side * side << texels);
+            assert_eq!(size_of_val(out), (4 * side * side) << texels);
             let mut layer = out.as_mut_ptr() as *mut c_void;
             let mut image = Image { sizes: [side as u32, side as u32, 1], texels, layers: &mut layer };
             let answer = unsafe { decompress(context, blocks.as_ptr(), blocks.len(), &mut image, &[0, 1, 2, 3], 0) };

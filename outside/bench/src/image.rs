@@ -1,15 +1,16 @@
 //! The image calls of ASTC against the reference's and, where asked, against Arm's codec, as a table.
 
+use library::raw::{decode_image_float16, decode_image_srgb8, decode_image_unorm16};
 use reference::random::{Random, block_of_any_mode, hdr_mode_block, mode_block, void_extent};
 use reference::{FOOTPRINTS, Kind, SymbolicBlock, Tally, decode_image_f16, decode_image_u8, decode_image_u16, fault};
 
 use crate::astcenc::Library;
-use crate::{SEED, SIDE, in_turns, median};
+use crate::{SEED, SIDE, in_turns, largest, median};
 
 /// Sixteen bytes for each block of the image, by the block's index.
-fn blocks_by(footprint: usize, mut block: impl FnMut(usize) -> [u8; 16]) -> Vec<u8> {
+fn blocks_by(footprint: usize, block: impl FnMut(usize) -> [u8; 16]) -> Vec<u8> {
     let (w, h) = FOOTPRINTS[footprint];
-    (0..SIDE.div_ceil(w) * SIDE.div_ceil(h)).flat_map(|index| block(index)).collect()
+    (0..SIDE.div_ceil(w) * SIDE.div_ceil(h)).flat_map(block).collect()
 }
 
 /// Blocks that the library wrote.
@@ -64,8 +65,24 @@ fn pictures(footprint: usize) -> Vec<u8> {
     blocks_by(footprint, |index| stored[index / across % n * n + index % across % n])
 }
 
+type Draw = fn(usize) -> Vec<u8>;
 type Ours<T> = fn(u8, u32, u32, &[u8], &mut [T], &mut [u64]) -> u8;
 type Theirs<T> = fn(usize, usize, usize, &[u8], &mut [T]) -> Tally;
+
+struct Calls<T> {
+    kind: u8,
+    ours: Ours<T>,
+    theirs: Theirs<T>,
+    /// Shows what Arm's codec does: half floats or bytes.
+    shown: Ours<T>,
+}
+
+const UNORM16: Calls<u16> =
+    Calls { kind: 0, ours: decode_image_unorm16, theirs: decode_image_u16, shown: decode_image_float16 };
+const SRGB8: Calls<u8> =
+    Calls { kind: 1, ours: decode_image_srgb8, theirs: decode_image_u8, shown: decode_image_srgb8 };
+const FLOAT16: Calls<u16> =
+    Calls { kind: 2, ours: decode_image_float16, theirs: decode_image_f16, shown: decode_image_float16 };
 
 pub struct Table<'a> {
     pub rounds: usize,
@@ -77,9 +94,9 @@ pub struct Table<'a> {
 impl Table<'_> {
     /// A row of the table; answers the ratio of the medians and the median of the rounds' ratios.
     fn row<T: Copy + PartialEq + From<u8>>(
-        &self, sort: &str, footprint: usize, kind: u8, draw: fn(usize) -> Vec<u8>, ours: Ours<T>, theirs: Theirs<T>,
-        shown: Ours<T>,
+        &self, sort: &str, footprint: usize, draw: Draw, calls: Calls<T>,
     ) -> [f64; 2] {
+        let Calls { kind, ours, theirs, shown } = calls;
         let (w, h) = FOOTPRINTS[footprint];
         let name = format!("{sort} {w}x{h} kind {kind}");
         if !name.contains(self.only) {
@@ -89,7 +106,7 @@ impl Table<'_> {
         let [mut a, mut b, mut c] = [1, 2, 3].map(|n| vec![T::from(n); 4 * SIDE * SIDE]);
         let mut tally = [0; 3];
 
-        // Arm's half floats are those of kind 2; it spoils a part only of some faulty blocks.
+        // Arm's codec spoils a part only of some faulty blocks.
         let arm = self.arm.filter(|_| sort != "faulty").map(|arm| arm.decoder(FOOTPRINTS[footprint], SIDE, kind));
         if let Some(decode) = &arm {
             assert_eq!(shown(footprint as u8, side, side, &blocks, &mut a, &mut tally), 0);
@@ -124,29 +141,22 @@ impl Table<'_> {
     }
 
     /// Kinds 0 and 1.
-    fn rows(&self, sort: &str, footprints: &[usize], draw: fn(usize) -> Vec<u8>) -> [f64; 2] {
-        use library::raw::{decode_image_float16, decode_image_srgb8, decode_image_unorm16};
-        let mut worst = [0f64; 2];
-        for &f in footprints {
-            let words = self.row(sort, f, 0, draw, decode_image_unorm16, decode_image_u16, decode_image_float16);
-            let bytes = self.row(sort, f, 1, draw, decode_image_srgb8, decode_image_u8, decode_image_srgb8);
-            worst = crate::largest(worst, crate::largest(words, bytes));
-        }
-        worst
+    fn rows(&self, sort: &str, footprints: &[usize], draw: Draw) -> [f64; 2] {
+        let ratios =
+            footprints.iter().flat_map(|&f| [self.row(sort, f, draw, UNORM16), self.row(sort, f, draw, SRGB8)]);
+        ratios.fold([0.0; 2], largest)
     }
 
     /// The largest ratios: of mode blocks and pictures, and of solid and faulty blocks.
     pub fn run(&self) -> [[f64; 2]; 2] {
-        use library::raw::decode_image_float16 as float16;
         print!("{:24}  library reference    ratio by round frames/s", "ms for an image");
         println!("{}", if self.arm.is_some() { "    Arm's by round" } else { "" });
         let mut textures = self.rows("mode blocks", &[0, 4, 7, 13], mode_blocks);
-        textures = crate::largest(textures, self.rows("pictures", &[0, 4, 7, 13], pictures));
+        textures = largest(textures, self.rows("pictures", &[0, 4, 7, 13], pictures));
         for f in [4, 13] {
-            let ratio = self.row("LDR and HDR", f, 2, mixed_blocks, float16, decode_image_f16, float16);
-            textures = crate::largest(textures, ratio);
+            textures = largest(textures, self.row("LDR and HDR", f, mixed_blocks, FLOAT16));
         }
         let plain = self.rows("solid", &[4, 13], solid_blocks);
-        [textures, crate::largest(plain, self.rows("faulty", &[4, 13], faulty_blocks))]
+        [textures, largest(plain, self.rows("faulty", &[4, 13], faulty_blocks))]
     }
 }

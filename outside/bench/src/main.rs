@@ -87,7 +87,7 @@ thread CPU time. ROUNDS of each measure, 61 unless given. It is no test: it fail
 
 --only=WORDS      rows of the image calls that have these words in their name, such as \"pictures 4x4\"; \"kind\" stands in all of them
 --astcenc[=FILE]  Arm's codec decodes the images too, on one thread: libastcenc of Debian's package libastcenc3d, or the shared library FILE
-                  (version 4 or 5); kind 0 as half floats, the nearest that it has";
+                  with the C interface of version 4; kind 0 as half floats, the nearest that it has";
 
 fn usage() -> ! {
     eprintln!("{HELP}");
