@@ -125,13 +125,14 @@ fn main() {
     if only.is_some() {
         return;
     }
-    println!("largest ratio {:.2} (by rounds {:.2})", textures[0], textures[1]);
-    println!("of solid and faulty blocks {:.2} (by rounds {:.2})", plain[0], plain[1]);
+    println!("images: largest ratio {:.2} (by rounds {:.2})", textures[0], textures[1]);
+    println!("solid and faulty blocks: largest ratio {:.2} (by rounds {:.2})", plain[0], plain[1]);
     let mut worst = pvrtc::ratios(rounds);
-    for ratio in [bc7::run(rounds), symbolic::run(rounds), view::run(rounds), faults::run(rounds)] {
-        worst = largest(worst, ratio);
-    }
-    println!("largest ratio of these {:.2} (by rounds {:.2})", worst[0], worst[1]);
+    worst = largest(worst, bc7::run(rounds));
+    worst = largest(worst, symbolic::run(rounds));
+    worst = largest(worst, view::run(rounds));
+    worst = largest(worst, faults::run(rounds));
+    println!("largest ratio {:.2} (by rounds {:.2})", worst[0], worst[1]);
     clip::measure(rounds.min(7));
     caption::measure(rounds);
 }
