@@ -1,0 +1,3 @@
+pub mod Sixteenths
+pub mod Simplex
+pub mod Reading

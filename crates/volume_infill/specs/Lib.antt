@@ -1,0 +1,2 @@
+pub mod Simplex
+pub mod inner
