@@ -1,0 +1,4 @@
+pub mod Covering
+pub mod Regions
+pub mod Volumes
+pub mod Sizes

@@ -1,0 +1,194 @@
+-- The refusals of a volume picture call one by one, and what holds once none does: no count wraps.
+-- Assumes nothing.
+use mathlib.Core.Path.{_≡_, refl, sym, ap, _∙_}
+use mathlib.Core.Bool.{Bool, true, false, true≢false}
+use Prim.Native.Nat.{ℕ, _+_, _-_, _*_, _/_, _≤_, _<_}
+use native.Mathlib.Nat.{mul-le-mul, div-lt-iff-lt-mul, add-mul}
+use native.Mathlib.Decide.{decLe, decLt, ℕ-discrete}
+use native.Mathlib.Omega.{arith}
+use borrow.Author.Tests.{eq-eqb, ne-eqb, lt-ltb, le-ltb}
+use Rattle.laws.specs.Choice.{either}
+use Rattle.footprint.proofs.Laws as flat
+use Rattle.volume_footprint.specs.Footprints.{footprints, widthOf, heightOf, depthOf}
+use Rattle.volume_footprint.proofs.Laws.{bounds, flat-sides, flat-depth, volume-depth}
+use Rattle.image_size.specs.Sides.{sideLimit, badSide, blocksAcross}
+use Rattle.image_size.proofs.Laws.{limit-le, side-fine, across-le}
+use Rattle.volume_layout.specs.declared.VolumeGrid.{VolumeGrid}
+use Rattle.volume_layout.specs.declared.CheckedVolume.{CheckedVolume}
+use Rattle.volume_layout.specs.declared.CheckedVolume.the-variants.{Rejected, Accepted}
+use Rattle.volume_layout.specs.Call.{depthLimit, badDepth, badSizes, blocksOf, texelsIn, volumeRefusal, gridOf, checkedOf}
+
+-- ---- sizes that are not refused
+
+pub depth-le : depthLimit ≤ 2048
+unfolding depthLimit
+depth-le = omega arith
+
+depth-zero : (n : ℕ) → n ≡ 0 → badDepth n ≡ true
+unfolding badDepth
+depth-zero n e = rw (eq-eqb n 0 e)
+
+depth-long : (n : ℕ) → depthLimit < n → badDepth n ≡ true
+unfolding badDepth
+depth-long n k = rw (ne-eqb n 0 (λ e. omega (arith, e)), lt-ltb depthLimit n k)
+
+pub depth-fine : (n : ℕ) → badDepth n ≡ false → (0 < n) × (n ≤ depthLimit)
+depth-fine n h = (
+  elim (ℕ-discrete n 0) [ yes e ↦ absurd (true≢false (sym (depth-zero n e) ∙ h)) | no e ↦ omega (arith, e) ],
+  elim (decLe n depthLimit) [ yes k ↦ k | no k ↦ absurd (true≢false (sym (depth-long n (omega arith)) ∙ h)) ],
+)
+
+-- sides and depth of an accepted volume
+pub record Sized (w h d : ℕ) : Type 0 where
+  pub width-least : 0 < w
+  pub width-most : w ≤ 16384
+  pub height-least : 0 < h
+  pub height-most : h ≤ 16384
+  pub depth-least : 0 < d
+  pub depth-most : d ≤ 2048
+
+three-no : (a b c : Bool) → either a (either b c) ≡ false → (a ≡ false) × (b ≡ false) × (c ≡ false)
+three-no true b c e = absurd (true≢false e)
+three-no false true c e = absurd (true≢false e)
+three-no false false true e = absurd (true≢false e)
+three-no false false false e = (refl, refl, refl)
+
+pub sized : (w h d : ℕ) → badSizes w h d ≡ false → Sized w h d
+unfolding badSizes
+sized w h d e =
+    let k = three-no (badSide w) (badSide h) (badDepth d) e in
+    let x = side-fine w (k .0) in
+    let y = side-fine h (k .1) in
+    let z = depth-fine d (k .2) in
+    let l = limit-le in
+    let m = depth-le in
+    record { width-least = x .0; width-most = omega arith; height-least = y .0; height-most = omega arith; depth-least = z .0; depth-most = omega arith }
+
+-- ---- the refusals in their order
+
+module _ (fp w h d bytes places : ℕ) where
+  pub refused-1 : 23 < fp → volumeRefusal fp w h d bytes places ≡ 1
+  unfolding volumeRefusal
+  refused-1 a = rw (lt-ltb 23 fp a)
+
+  module _ (a : fp ≤ 23) where
+    pub refused-3 : badSizes w h d ≡ true → volumeRefusal fp w h d bytes places ≡ 3
+    unfolding volumeRefusal
+    refused-3 b = rw (le-ltb 23 fp a, b)
+
+    module _ (b : badSizes w h d ≡ false) where
+      pub refused-4 : (bytes ≡ 16 * blocksOf fp w h d → ⊥) → volumeRefusal fp w h d bytes places ≡ 4
+      unfolding volumeRefusal
+      refused-4 c = rw (le-ltb 23 fp a, b, ne-eqb bytes (16 * blocksOf fp w h d) c)
+
+      module _ (c : bytes ≡ 16 * blocksOf fp w h d) where
+        pub refused-5 : (places ≡ 4 * texelsIn w h d → ⊥) → volumeRefusal fp w h d bytes places ≡ 5
+        unfolding volumeRefusal
+        refused-5 e = rw (le-ltb 23 fp a, b, eq-eqb bytes (16 * blocksOf fp w h d) c, ne-eqb places (4 * texelsIn w h d) e)
+
+        pub refused-none : places ≡ 4 * texelsIn w h d → volumeRefusal fp w h d bytes places ≡ 0
+        unfolding volumeRefusal
+        refused-none e = rw (le-ltb 23 fp a, b, eq-eqb bytes (16 * blocksOf fp w h d) c, eq-eqb places (4 * texelsIn w h d) e)
+
+  pub rejected : (e : ℕ) → volumeRefusal fp w h d bytes places ≡ e → (e ≡ 0 → ⊥) → checkedOf fp w h d bytes places ≡ Rejected e
+  unfolding checkedOf
+  rejected e r n = rw (r, ne-eqb e 0 n)
+
+  pub accepted : volumeRefusal fp w h d bytes places ≡ 0 → checkedOf fp w h d bytes places ≡ Accepted (gridOf fp w h d)
+  unfolding checkedOf
+  accepted r = rw r
+
+-- ---- counts
+
+-- the layout of an accepted volume
+pub record Sound (g : VolumeGrid) : Type 0 where
+  pub columns-least : 0 < g .columns
+  pub rows-least : 0 < g .rows
+  pub layers-least : 0 < g .layers
+  pub width-most : g .width ≤ 16384
+  pub height-most : g .height ≤ 16384
+  pub depth-most : g .depth ≤ 2048
+  pub across-most : g .across ≤ 16384
+  pub down-most : g .down ≤ 16384
+  pub deep-most : g .deep ≤ 2048
+
+pub sound : (fp w h d : ℕ) → fp < 24 → badSizes w h d ≡ false → Sound (gridOf fp w h d)
+unfolding gridOf
+sound fp w h d f e =
+    let s = sized w h d e in
+    let b = bounds fp f in
+    let p : 0 < widthOf fp = let z = b .width-least in omega arith in
+    let q : 0 < heightOf fp = let z = b .height-least in omega arith in
+    let r : 0 < depthOf fp = let z = b .depth-least in omega arith in
+    record {
+      columns-least = p;
+      rows-least = q;
+      layers-least = r;
+      width-most = s .width-most;
+      height-most = s .height-most;
+      depth-most = s .depth-most;
+      across-most = omega (arith, across-le w (widthOf fp) p, s .width-most);
+      down-most = omega (arith, across-le h (heightOf fp) q, s .height-most);
+      deep-most = omega (arith, across-le d (depthOf fp) r, s .depth-most);
+    }
+
+-- at most k blocks of n cover a side of at most k * n
+pub across-most : (side n k : ℕ) → 0 < n → side ≤ k * n → blocksAcross side n ≤ k
+unfolding blocksAcross
+across-most side n k p l =
+    let e : (k + 1) * n ≡ k * n + 1 * n = add-mul k 1 n in
+    let m : (side + n - 1) / n < k + 1 = div-lt-iff-lt-mul p .1 (omega arith) in
+    omega arith
+
+pub three : (a b c k m n : ℕ) → a ≤ k → b ≤ m → c ≤ n → a * b * c ≤ k * m * n
+three a b c k m n p q r = mul-le-mul (mul-le-mul p q) r
+
+-- 2^35 blocks, 2^39 texels, and so 2^39 bytes of blocks and 2^41 numbers
+pub record Counts (fp w h d : ℕ) : Type 0 where
+  pub blocks : blocksOf fp w h d ≤ 34359738368
+  pub texels : texelsIn w h d ≤ 549755813888
+
+pub counts : (fp w h d : ℕ) → fp < 24 → badSizes w h d ≡ false → Counts fp w h d
+unfolding blocksOf texelsIn
+counts fp w h d f e =
+    let s = sized w h d e in
+    let b = bounds fp f in
+    let x = s .width-most in
+    let y = s .height-most in
+    let z = s .depth-most in
+    let u = b .width-least in
+    let v = b .height-least in
+    record {
+      blocks = elim (decLt fp 14) [
+        | yes p ↦
+            let k = flat-sides fp p in
+            let m = flat.bounds fp p in
+            let i = m .width-least in
+            let j = m .height-least in
+            let t = flat-depth fp p in
+            let r = three (blocksAcross d (depthOf fp)) (blocksAcross h (heightOf fp)) (blocksAcross w (widthOf fp)) 2048 4096 4096 (across-most d (depthOf fp) 2048 (omega arith) (omega arith))
+            (across-most h (heightOf fp) 4096 (omega (arith, k .1)) (omega (arith, k .1))) (across-most w (widthOf fp) 4096 (omega (arith, k .0)) (omega (arith, k .0))) in
+            omega arith
+        | no p ↦
+            let t = volume-depth fp (omega arith) f in
+            let r = three (blocksAcross d (depthOf fp)) (blocksAcross h (heightOf fp)) (blocksAcross w (widthOf fp)) 683 5462 5462 (across-most d (depthOf fp) 683 (omega arith) (omega arith))
+            (across-most h (heightOf fp) 5462 (omega arith) (omega arith)) (across-most w (widthOf fp) 5462 (omega arith) (omega arith)) in
+            omega arith
+      ];
+      texels = let r = three d h w 2048 16384 16384 z y x in omega arith;
+    }
+
+-- both are reached: 16,384 x 16,384 x 2,048 at 4x4
+pub reached : (blocksOf 0 16384 16384 2048 ≡ 34359738368) × (texelsIn 16384 16384 2048 ≡ 549755813888)
+unfolding blocksOf texelsIn blocksAcross widthOf heightOf depthOf footprints
+reached = (refl, refl)
+
+-- the counts of a layout are the volume's
+module _ (fp w h d : ℕ) {g : VolumeGrid} (e : g ≡ gridOf fp w h d) where
+  pub block-count : {r : ℕ} → r ≡ g .deep * g .down * g .across → r ≡ blocksOf fp w h d
+  unfolding blocksOf gridOf
+  block-count k = rw (k, e)
+
+  pub texel-count : {r : ℕ} → r ≡ g .depth * g .height * g .width → r ≡ texelsIn w h d
+  unfolding texelsIn gridOf
+  texel-count k = rw (k, e)
