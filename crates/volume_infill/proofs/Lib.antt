@@ -1,3 +1,4 @@
 pub mod Sixteenths
 pub mod Simplex
 pub mod Reading
+pub mod Samples

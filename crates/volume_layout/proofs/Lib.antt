@@ -2,3 +2,4 @@ pub mod Covering
 pub mod Regions
 pub mod Volumes
 pub mod Sizes
+pub mod Samples
