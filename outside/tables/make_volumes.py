@@ -1,11 +1,12 @@
 #!/usr/bin/env python3
-"""Prints the values of the samples in crates/volume_infill/proofs/Samples.antt and crates/volume_layout/proofs/Samples.antt, reckoned from
-000 and 02 by other means: 000's table as it is printed, over positions in the list of weights, held to a walk along the sorted fractions;
-blocks and places by counting.
+"""Prints the values of the samples in proofs/Samples.antt of the crates volume_infill, volume_layout and volume_mode, reckoned from 000 and 02 by other means: 000's table as it is printed, over positions in the list of weights, held to a walk along the sorted fractions;
+blocks and places by counting; block modes by the rows of 000's table, bit by bit, and back by trying all.
 
 infill BLOCK GRID PLANES : WEIGHTS    the weights of the texels (0, 0, 0), (1, 2, 0), .. below, plane by plane
 block SIZE FOOTPRINT : INDEXES        which block shows these texels
 count SIZE FOOTPRINT : BLOCKS NUMBERS
+modes : DIGEST                        of what all 2,048 modes of a volume say
+bits : DIGEST                         of the smallest mode of each grid, range and planes
 """
 
 # fs > ft, ft > fr, fs > fr: s1, s2 and the four factors; an implied test is left out (None)
@@ -95,5 +96,57 @@ def layouts():
         print('count', size, block, ':', count, 4 * size[0] * size[1] * size[2])
 
 
+
+# "ASTC 3D block mode layout": bits 10 to 0, and width, height, depth; p is the dual-plane bit, q the precision bit, a, c and b the range's bits 0, 2 and 1
+ROWS = [
+    ('pqHHWWaDDcb', lambda f: (f['W'] + 2, f['H'] + 2, f['D'] + 2)),
+    ('HH00DDacb00', lambda f: (6, f['H'] + 2, f['D'] + 2)),
+    ('DD01WWacb00', lambda f: (f['W'] + 2, 6, f['D'] + 2)),
+    ('HH10WWacb00', lambda f: (f['W'] + 2, f['H'] + 2, 6)),
+    ('pq1100acb00', lambda f: (6, 2, 2)),
+    ('pq1101acb00', lambda f: (2, 6, 2)),
+    ('pq1110acb00', lambda f: (2, 2, 6)),
+]
+
+
+def mode(m):
+    """(width, height, depth, range, planes), 'void' or 'reserved'."""
+    text = format(m, '011b')
+    if text.endswith('111111100'):
+        return 'void'
+    if text.endswith('0000') or (text.endswith('00') and text[2:6] == '1111'):
+        return 'reserved'
+    for pattern, sides in (ROWS[1:] if text.endswith('00') else ROWS[:1]):
+        if all(c not in '01' or c == t for c, t in zip(pattern, text)):
+            fields = {}
+            for c, t in zip(pattern, text):
+                fields[c] = 2 * fields.get(c, 0) + int(t)
+            rho = 4 * fields['c'] + 2 * fields['b'] + fields['a']
+            return sides(fields) + (rho - 2 + 6 * fields.get('q', 0), 1 + fields.get('p', 0))
+    raise AssertionError(text)
+
+
+def digest(numbers):
+    total = 0
+    for n in numbers:
+        total = (31 * total + n) % 1000003
+    return total
+
+
+def modes():
+    said = [mode(m) for m in range(2048)]
+    number = lambda x: {'void': 1, 'reserved': 2}.get(x) or 3 + x[0] + 7 * (x[1] + 7 * (x[2] + 7 * (x[3] + 12 * x[4])))
+    print('modes :', digest(number(x) for x in said), 'void', said.count('void'), 'reserved', said.count('reserved'))
+    least = {}
+    for m in reversed(range(2048)):
+        least[said[m]] = m
+    grids = [(w, h, d, r, p) for p in (1, 2) for r in range(12) for d in range(2, 7) for h in range(2, 7) for w in range(2, 7)]
+    print('bits :', digest(1 + least[g] if g in least else 0 for g in grids))
+    doubles = [g for g in grids if said.count(g) == 2]
+    assert len(doubles) == 18 and all(said.count(g) <= 2 for g in grids)
+    print('doubles :', len(doubles), sorted({g[:3] for g in doubles}), sorted({g[3] for g in doubles}), {g[4] for g in doubles})
+
+
 samples()
 layouts()
+modes()

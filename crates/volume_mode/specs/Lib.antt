@@ -1,0 +1,2 @@
+pub mod Mode3D
+pub mod Back3D
