@@ -45,6 +45,35 @@ int main(void)
     ANSWERS(5, stallbrook_astc_image_faults(0, 0, 4, 4, block, 16, NULL, 0, tally, 3));
     ANSWERS(5, stallbrook_astc_image_faults(0, 0, 4, 4, block, 16, bytes, 1, NULL, 0));
 
+    ANSWERS(4, stallbrook_astc_strict_decode_block_unorm16(0, NULL, 0, words, 64));
+    ANSWERS(5, stallbrook_astc_strict_decode_block_unorm16(0, block, 16, NULL, 0));
+    ANSWERS(4, stallbrook_astc_strict_decode_image_unorm16(0, 4, 4, NULL, 0, words, 64, tally, 3));
+    ANSWERS(5, stallbrook_astc_strict_decode_image_unorm16(0, 4, 4, block, 16, NULL, 0, tally, 3));
+    ANSWERS(5, stallbrook_astc_strict_decode_image_unorm16(0, 4, 4, block, 16, words, 64, NULL, 0));
+    ANSWERS(4, stallbrook_astc_strict_decode_block_srgb8(0, NULL, 0, bytes, 64));
+    ANSWERS(5, stallbrook_astc_strict_decode_block_srgb8(0, block, 16, NULL, 0));
+    ANSWERS(4, stallbrook_astc_strict_decode_image_srgb8(0, 4, 4, NULL, 0, bytes, 64, tally, 3));
+    ANSWERS(5, stallbrook_astc_strict_decode_image_srgb8(0, 4, 4, block, 16, NULL, 0, tally, 3));
+    ANSWERS(5, stallbrook_astc_strict_decode_image_srgb8(0, 4, 4, block, 16, bytes, 64, NULL, 0));
+    ANSWERS(4, stallbrook_astc_strict_decode_block_float16(0, NULL, 0, words, 64));
+    ANSWERS(5, stallbrook_astc_strict_decode_block_float16(0, block, 16, NULL, 0));
+    ANSWERS(4, stallbrook_astc_strict_decode_image_float16(0, 4, 4, NULL, 0, words, 64, tally, 3));
+    ANSWERS(5, stallbrook_astc_strict_decode_image_float16(0, 4, 4, block, 16, NULL, 0, tally, 3));
+    ANSWERS(5, stallbrook_astc_strict_decode_image_float16(0, 4, 4, block, 16, words, 64, NULL, 0));
+    ANSWERS(4, stallbrook_astc_strict_image_faults(0, 0, 4, 4, NULL, 0, bytes, 1, tally, 3));
+    ANSWERS(5, stallbrook_astc_strict_image_faults(0, 0, 4, 4, block, 16, NULL, 0, tally, 3));
+    ANSWERS(5, stallbrook_astc_strict_image_faults(0, 0, 4, 4, block, 16, bytes, 1, NULL, 0));
+    ANSWERS(4, stallbrook_astc_strict_read_symbolic(0, NULL, 0, numbers, STALLBROOK_SYMBOLIC, spare, STALLBROOK_SPARE));
+    ANSWERS(5, stallbrook_astc_strict_read_symbolic(0, block, 16, NULL, 0, spare, STALLBROOK_SPARE));
+    ANSWERS(5, stallbrook_astc_strict_read_symbolic(0, block, 16, numbers, STALLBROOK_SYMBOLIC, NULL, 0));
+    ANSWERS(4, stallbrook_astc_canonical_block(0, NULL, 0, written, 16));
+    ANSWERS(5, stallbrook_astc_canonical_block(0, block, 16, NULL, 0));
+    ANSWERS(4, stallbrook_astc_canonical_image(0, 4, 4, NULL, 0, written, 16, tally, 3));
+    ANSWERS(5, stallbrook_astc_canonical_image(0, 4, 4, block, 16, NULL, 0, tally, 3));
+    ANSWERS(5, stallbrook_astc_canonical_image(0, 4, 4, block, 16, written, 16, NULL, 0));
+    ANSWERS(4, stallbrook_astc_canonical_in_place(0, 4, 4, NULL, 0, tally, 3));
+    ANSWERS(5, stallbrook_astc_canonical_in_place(0, 4, 4, written, 16, NULL, 0));
+
     ANSWERS(4, stallbrook_astc_view_refusal(0, 4, 4, NULL, 0));
     ANSWERS(44, stallbrook_astc_texel_unorm16(0, 4, 4, NULL, 0, 0, 0, words, 4));
     ANSWERS(5, stallbrook_astc_texel_unorm16(0, 4, 4, block, 16, 0, 0, NULL, 0));

@@ -28,9 +28,9 @@ extern "C" {
 
 /* ---- Version, constants, and what the numbers mean. */
 
-#define STALLBROOK_VERSION "0.4.0"
+#define STALLBROOK_VERSION "0.5.0"
 #define STALLBROOK_VERSION_MAJOR 0
-#define STALLBROOK_VERSION_MINOR 4
+#define STALLBROOK_VERSION_MINOR 5
 #define STALLBROOK_VERSION_PATCH 0
 
 /* STALLBROOK_VERSION of the library that is linked or loaded. */
@@ -158,8 +158,8 @@ enum stallbrook_refusal {
     STALLBROOK_REFUSED_BC7_FIELD = 73       /* a field or an anchor index beyond its bits in that mode, or an unused one not 0 */
 };
 
-/* Faults of a block, the first that holds; float16 has no 13 and no 20. 12 and 14 to 19 are refusals of a symbolic block too, and 20 where its
- * HDR mark is clear with an HDR endpoint mode. */
+/* Faults of a block, the first that holds; float16 has no 13 and no 20, and the strict calls alone tell 21. 12 and 14 to 19 are refusals of a
+ * symbolic block too, and 20 where its HDR mark is clear with an HDR endpoint mode. */
 enum stallbrook_fault {
     STALLBROOK_FAULT_RESERVED = 11,         /* reserved block mode */
     STALLBROOK_FAULT_VOID_EXTENT = 12,      /* void extent: bits 11..10 not both 1, or extents neither all ones nor low < high on both axes */
@@ -171,6 +171,7 @@ enum stallbrook_fault {
     STALLBROOK_FAULT_ENDPOINTS = 18,        /* more than 18 endpoint numbers */
     STALLBROOK_FAULT_ENDPOINT_BITS = 19,    /* too few endpoint bits */
     STALLBROOK_FAULT_HDR_MODE = 20,         /* a partition with an HDR endpoint mode */
+    STALLBROOK_FAULT_NOT_CANONICAL = 21,    /* strict calls only: not the block that the writer makes from its own symbolic block */
     STALLBROOK_FAULT_BC7_RESERVED = 71      /* BC7: a first byte of 0 */
 };
 
@@ -324,6 +325,37 @@ uint8_t stallbrook_astc_write_header(uint8_t footprint, uint32_t width, uint32_t
 uint8_t stallbrook_astc_decode_file_unorm16(const uint8_t *file, size_t file_len, uint16_t *out, size_t out_len, uint64_t *tally, size_t tally_len);
 uint8_t stallbrook_astc_decode_file_srgb8(const uint8_t *file, size_t file_len, uint8_t *out, size_t out_len, uint64_t *tally, size_t tally_len);
 uint8_t stallbrook_astc_decode_file_float16(const uint8_t *file, size_t file_len, uint16_t *out, size_t out_len, uint64_t *tally, size_t tally_len);
+
+/* ---- One agreed form of each block: strict reading, and the canonical form.
+ *
+ * Many blocks read as the same symbolic block (set spare bits, larger codes of trit or quint groups); exactly one of them is what
+ * stallbrook_astc_write_symbolic makes, the canonical one. The strict calls tell any other block by fault 21, the last of the list, which shows the
+ * error colour, is counted in a tally and gives zeros for a symbolic block, as every fault. In all else they are the calls without `strict`.
+ * Files of other encoders hold blocks that are not canonical: rewrite them first. */
+uint8_t stallbrook_astc_strict_decode_block_unorm16(uint8_t footprint, const uint8_t *block, size_t block_len, uint16_t *out, size_t out_len);
+uint8_t stallbrook_astc_strict_decode_block_srgb8(uint8_t footprint, const uint8_t *block, size_t block_len, uint8_t *out, size_t out_len);
+uint8_t stallbrook_astc_strict_decode_block_float16(uint8_t footprint, const uint8_t *block, size_t block_len, uint16_t *out, size_t out_len);
+uint8_t stallbrook_astc_strict_decode_image_unorm16(uint8_t footprint, uint32_t width, uint32_t height, const uint8_t *blocks, size_t blocks_len,
+    uint16_t *out, size_t out_len, uint64_t *tally, size_t tally_len);
+uint8_t stallbrook_astc_strict_decode_image_srgb8(uint8_t footprint, uint32_t width, uint32_t height, const uint8_t *blocks, size_t blocks_len,
+    uint8_t *out, size_t out_len, uint64_t *tally, size_t tally_len);
+uint8_t stallbrook_astc_strict_decode_image_float16(uint8_t footprint, uint32_t width, uint32_t height, const uint8_t *blocks, size_t blocks_len,
+    uint16_t *out, size_t out_len, uint64_t *tally, size_t tally_len);
+uint8_t stallbrook_astc_strict_image_faults(uint8_t footprint, uint8_t kind, uint32_t width, uint32_t height, const uint8_t *blocks,
+                                            size_t blocks_len, uint8_t *faults, size_t faults_len, uint64_t *tally, size_t tally_len);
+uint8_t stallbrook_astc_strict_read_symbolic(uint8_t footprint, const uint8_t *block, size_t block_len, uint16_t *numbers, size_t numbers_len,
+    uint16_t *spare, size_t spare_len);
+
+/* The canonical form of a block, 16 bytes: it shows the same texels in every kind. Answers 0; or the fault (of float16's list), and the block is
+ * copied as it is; or the refusal 1, 4 or 5 (out is not of 16 bytes), which leaves out as it was. */
+uint8_t stallbrook_astc_canonical_block(uint8_t footprint, const uint8_t *block, size_t block_len, uint8_t *out, size_t out_len);
+
+/* The same of all blocks of an image, into a buffer of as many bytes, or in place. Answers 0, or the refusal 1, 3, 4 or 5 (out has another length),
+ * which leaves the buffer as it was. tally is as in the image calls: blocks with a fault (of float16's list) are counted, and left as they are. */
+uint8_t stallbrook_astc_canonical_image(uint8_t footprint, uint32_t width, uint32_t height, const uint8_t *blocks, size_t blocks_len,
+    uint8_t *out, size_t out_len, uint64_t *tally, size_t tally_len);
+uint8_t stallbrook_astc_canonical_in_place(uint8_t footprint, uint32_t width, uint32_t height, uint8_t *blocks, size_t blocks_len,
+    uint64_t *tally, size_t tally_len);
 
 /* ---- BC7 (BPTC RGBA): blocks of 16 bytes, 4x4 texels of 4 bytes each (R, G, B, A, rows first).
  * 71 is a block's fault: a first byte of 0. 72 and 73 are refusals of a sheet: a mode above 7; then a field or an anchor index beyond its

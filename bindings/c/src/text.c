@@ -23,6 +23,7 @@ const char *stallbrook_text(uint8_t number)
     case STALLBROOK_FAULT_ENDPOINT_BITS: return "there are too few bits for the endpoint numbers";
     case STALLBROOK_FAULT_HDR_MODE:
         return "an HDR endpoint mode, which half floats alone show (symbolic block: with a clear HDR mark)";
+    case STALLBROOK_FAULT_NOT_CANONICAL: return "the block is not the one that the writer makes from its own symbolic block";
     case STALLBROOK_REFUSED_FIELD: return "a field is outside its limits, or an unused one is not 0";
     case STALLBROOK_REFUSED_BLOCK_MODE: return "no block mode has this grid, range and planes";
     case STALLBROOK_REFUSED_SELECTOR: return "the endpoint modes do not fit the selector";

@@ -360,8 +360,10 @@ class Picture:
         """Rows of blocks."""
         return -(-self.height // self.footprint.sides[1])
 
-    def decode(self, kind: KindLike = Kind.SRGB8) -> Decoded:
+    def decode(self, kind: KindLike = Kind.SRGB8, *, strict: bool = False) -> Decoded:
         """All texels, an array of height x width x 4 (R, G, B, A), and what is told of blocks with a fault.
+
+        In the strict reading a block that is not in its canonical form has fault 21.
 
         Half floats are numpy's float16; without numpy they are 16-bit patterns.
 
@@ -374,17 +376,22 @@ class Picture:
         """
         kind = Kind.of(kind)
         texels, tally = _Texels(kind, (self.height, self.width, 4)), (ctypes.c_uint64 * 3)()
-        return _decoded(_library.DECODE_IMAGE[kind](*self._lent(), texels.address, texels.count, tally, 3), texels, tally)
+        call = (_library.STRICT_DECODE_IMAGE if strict else _library.DECODE_IMAGE)[kind]
+        return _decoded(call(*self._lent(), texels.address, texels.count, tally, 3), texels, tally)
 
-    def faults(self, kind: KindLike = Kind.SRGB8) -> Array:
+    def faults(self, kind: KindLike = Kind.SRGB8, *, strict: bool = False) -> Array:
         """Each block's fault in a kind, as a number, 0 for none: an array of bytes, rows of blocks x blocks in a row. No texel is painted.
 
         >>> Picture(bytes(16) + bytes([0xFC, 0xFD] + [0xFF] * 14), "4x4", 8, 4).faults().tolist()
         [[11, 0]]
+        >>> spare = bytes([0x42, 0, 0, 0xFE, 1, 1, 0, 0, 0, 0, 0, 0, 0, 0, 0, 0x80])
+        >>> Picture(spare, "4x4", 4, 4).faults(strict=True).tolist()
+        [[21]]
         """
         faults, tally = _Texels(Kind.SRGB8, (self.down, self.across)), (ctypes.c_uint64 * 3)()
         footprint, *rest = self._lent()
-        _told(_library.IMAGE_FAULTS(footprint, Kind.of(kind), *rest, faults.address, faults.count, tally, 3))
+        call = _library.STRICT_IMAGE_FAULTS if strict else _library.IMAGE_FAULTS
+        _told(call(footprint, Kind.of(kind), *rest, faults.address, faults.count, tally, 3))
         return faults.array
 
     def bad_blocks(self, kind: KindLike = Kind.SRGB8) -> Dict[int, Fault]:
@@ -394,6 +401,19 @@ class Picture:
         {0: Fault(number=11)}
         """
         return {index: Fault(number) for index, number in enumerate(memoryview(self.faults(kind)).tobytes()) if number}
+
+    def canonical(self) -> "Picture":
+        """The picture with every block in its canonical form, which passes the strict reading and shows the same texels; blocks with a fault in
+        half floats are as they were.
+
+        >>> block = bytes([0x42, 0, 0, 0xFE, 1, 0, 0, 0, 0, 0, 0, 0, 0, 0, 0, 0x80])
+        >>> spare = block[:5] + bytes([1]) + block[6:]
+        >>> Picture(spare, "4x4", 4, 4).canonical().blocks == block
+        True
+        """
+        blocks, tally = _bytes(len(self.blocks)), (ctypes.c_uint64 * 3)()
+        _told(_library.CANONICAL_IMAGE(*self._lent(), blocks, len(self.blocks), tally, 3))
+        return Picture(bytes(blocks), self.footprint, self.width, self.height)
 
     def texel(self, x: int, y: int, kind: KindLike = Kind.SRGB8) -> Texel:
         """The texel in column x and row y; no block is unpacked. Refused by 44 outside the picture.
@@ -460,7 +480,9 @@ def open(file: Union[str, "os.PathLike[str]", Bytes]) -> Picture:
     return Picture(data[16:], footprint, width, height)
 
 
-def decode_block(footprint: FootprintLike, block: Bytes, kind: KindLike = Kind.SRGB8) -> Tuple[Array, Optional[Fault]]:
+def decode_block(
+    footprint: FootprintLike, block: Bytes, kind: KindLike = Kind.SRGB8, *, strict: bool = False
+) -> Tuple[Array, Optional[Fault]]:
     """One block's texels, an array of its rows x columns x 4, and its fault, None where it has none. Refused by 4 where it is not of 16 bytes.
 
     >>> texels, fault = decode_block("4x4", bytes(16))
@@ -470,7 +492,8 @@ def decode_block(footprint: FootprintLike, block: Bytes, kind: KindLike = Kind.S
     footprint, kind = Footprint.of(footprint), Kind.of(kind)
     width, height = footprint.sides
     texels = _Texels(kind, (height, width, 4))
-    number = _library.DECODE_BLOCK[kind](footprint, *_lent(block), texels.address, texels.count)
+    call = (_library.STRICT_DECODE_BLOCK if strict else _library.DECODE_BLOCK)[kind]
+    number = call(footprint, *_lent(block), texels.address, texels.count)
     if 0 < number <= 5:
         raise Refused(number)
     return texels.array, _fault(number)
@@ -504,9 +527,9 @@ def _numbers(sheet: Mapping[str, Any], fields: Mapping[str, int], most: int) -> 
     return numbers
 
 
-def read_sheet(footprint: FootprintLike, block: Bytes) -> Sheet:
+def read_sheet(footprint: FootprintLike, block: Bytes, *, strict: bool = False) -> Sheet:
     """A block's settings and stored numbers. Refused by 4; Faulty where the block has a fault in half floats."""
-    return _read_symbolic(footprint, block)[0]
+    return _read_symbolic(footprint, block, strict)[0]
 
 
 class Spare(NamedTuple):
@@ -525,9 +548,10 @@ def spare_bits(footprint: FootprintLike, block: Bytes) -> Spare:
     return _read_symbolic(footprint, block)[1]
 
 
-def _read_symbolic(footprint: FootprintLike, block: Bytes) -> Tuple[Sheet, Spare]:
+def _read_symbolic(footprint: FootprintLike, block: Bytes, strict: bool = False) -> Tuple[Sheet, Spare]:
     numbers, spare = (ctypes.c_uint16 * 104)(), (ctypes.c_uint16 * 2)()
-    number = _library.READ_SYMBOLIC(Footprint.of(footprint), *_lent(block), numbers, 104, spare, 2)
+    call = _library.STRICT_READ_SYMBOLIC if strict else _library.READ_SYMBOLIC
+    number = call(Footprint.of(footprint), *_lent(block), numbers, 104, spare, 2)
     return _read(number, numbers, _SHEET), Spare(spare[0], spare[1] == 1)
 
 

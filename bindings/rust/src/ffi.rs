@@ -55,6 +55,50 @@ unsafe extern "C" {
         footprint: u8, numbers: *const u16, numbers_len: usize, block: *mut u8, block_len: usize,
     ) -> u8;
 
+    /// The strict reading (02, b): as the calls without strict, and 21.
+    pub fn stallbrook_astc_strict_decode_block_unorm16(
+        footprint: u8, block: *const u8, block_len: usize, out: *mut u16, out_len: usize,
+    ) -> u8;
+    pub fn stallbrook_astc_strict_decode_block_srgb8(
+        footprint: u8, block: *const u8, block_len: usize, out: *mut u8, out_len: usize,
+    ) -> u8;
+    pub fn stallbrook_astc_strict_decode_block_float16(
+        footprint: u8, block: *const u8, block_len: usize, out: *mut u16, out_len: usize,
+    ) -> u8;
+    pub fn stallbrook_astc_strict_decode_image_unorm16(
+        footprint: u8, width: u32, height: u32, blocks: *const u8, blocks_len: usize, out: *mut u16, out_len: usize,
+        tally: *mut u64, tally_len: usize,
+    ) -> u8;
+    pub fn stallbrook_astc_strict_decode_image_srgb8(
+        footprint: u8, width: u32, height: u32, blocks: *const u8, blocks_len: usize, out: *mut u8, out_len: usize,
+        tally: *mut u64, tally_len: usize,
+    ) -> u8;
+    pub fn stallbrook_astc_strict_decode_image_float16(
+        footprint: u8, width: u32, height: u32, blocks: *const u8, blocks_len: usize, out: *mut u16, out_len: usize,
+        tally: *mut u64, tally_len: usize,
+    ) -> u8;
+    pub fn stallbrook_astc_strict_image_faults(
+        footprint: u8, kind: u8, width: u32, height: u32, blocks: *const u8, blocks_len: usize, faults: *mut u8,
+        faults_len: usize, tally: *mut u64, tally_len: usize,
+    ) -> u8;
+    pub fn stallbrook_astc_strict_read_symbolic(
+        footprint: u8, block: *const u8, block_len: usize, numbers: *mut u16, numbers_len: usize, spare: *mut u16,
+        spare_len: usize,
+    ) -> u8;
+
+    /// 0, a fault of float16 with the block as it is, or 1, 4, 5.
+    pub fn stallbrook_astc_canonical_block(
+        footprint: u8, block: *const u8, block_len: usize, out: *mut u8, out_len: usize,
+    ) -> u8;
+    /// 0 or 1, 3, 4, 5. Tally as above.
+    pub fn stallbrook_astc_canonical_image(
+        footprint: u8, width: u32, height: u32, blocks: *const u8, blocks_len: usize, out: *mut u8, out_len: usize,
+        tally: *mut u64, tally_len: usize,
+    ) -> u8;
+    pub fn stallbrook_astc_canonical_in_place(
+        footprint: u8, width: u32, height: u32, blocks: *mut u8, blocks_len: usize, tally: *mut u64, tally_len: usize,
+    ) -> u8;
+
     /// Clips. 0, or 5 where there are not 26 numbers, nothing written.
     pub fn stallbrook_clip_start(state: *mut u32, state_len: usize) -> u8;
 

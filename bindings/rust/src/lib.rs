@@ -46,6 +46,7 @@ pub mod file;
 mod numbers;
 pub mod pvrtc;
 pub mod raw;
+pub mod strict;
 pub mod view;
 
 use numbers::of_block;
@@ -339,6 +340,13 @@ pub struct SymbolicReading {
     pub spare_set: bool,
 }
 
+impl SymbolicReading {
+    fn told(numbers: &[u16; 104], spare: [u16; 2]) -> SymbolicReading {
+        let block = SymbolicBlock::from_numbers(numbers);
+        SymbolicReading { block, spare_count: spare[0] as u8, spare_set: spare[1] == 1 }
+    }
+}
+
 /// The same with the spare bits: an encoder leaves them 0, as [`write_symbolic`] does.
 ///
 /// ```
@@ -357,11 +365,7 @@ pub fn read_symbolic_spare(footprint: Footprint, block: &[u8]) -> Result<Symboli
     if let Some(fault) = of_block(raw::read_symbolic(footprint.number(), block, &mut numbers, &mut spare))? {
         return Err(Error::Faulty(fault));
     }
-    Ok(SymbolicReading {
-        block: SymbolicBlock::from_numbers(&numbers),
-        spare_count: spare[0] as u8,
-        spare_set: spare[1] == 1,
-    })
+    Ok(SymbolicReading::told(&numbers, spare))
 }
 
 /// The block of an acceptable symbolic block, with the smallest codes and spare bits 0.

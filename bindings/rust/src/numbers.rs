@@ -217,6 +217,8 @@ numbered! {
     EndpointBits = 19,
     /// An HDR endpoint mode, which half floats alone show.
     HdrMode = 20,
+    /// Not what the writer makes from the block's own settings: told by the [strict reading](crate::strict) alone.
+    NotCanonical = 21,
     /// BC7: a first byte of 0.
     Bc7Reserved = 71,
 }

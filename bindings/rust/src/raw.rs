@@ -127,6 +127,165 @@ pub fn write_symbolic(footprint: u8, numbers: &[u16], block: &mut [u8]) -> u8 {
     }
 }
 
+// ---- strict reading and canonical form
+
+pub fn strict_decode_block_unorm16(footprint: u8, block: &[u8], out: &mut [u16]) -> u8 {
+    unsafe {
+        ffi::stallbrook_astc_strict_decode_block_unorm16(
+            footprint,
+            block.as_ptr(),
+            block.len(),
+            out.as_mut_ptr(),
+            out.len(),
+        )
+    }
+}
+
+pub fn strict_decode_block_srgb8(footprint: u8, block: &[u8], out: &mut [u8]) -> u8 {
+    unsafe {
+        ffi::stallbrook_astc_strict_decode_block_srgb8(
+            footprint,
+            block.as_ptr(),
+            block.len(),
+            out.as_mut_ptr(),
+            out.len(),
+        )
+    }
+}
+
+pub fn strict_decode_block_float16(footprint: u8, block: &[u8], out: &mut [u16]) -> u8 {
+    unsafe {
+        ffi::stallbrook_astc_strict_decode_block_float16(
+            footprint,
+            block.as_ptr(),
+            block.len(),
+            out.as_mut_ptr(),
+            out.len(),
+        )
+    }
+}
+
+pub fn strict_decode_image_unorm16(
+    footprint: u8, width: u32, height: u32, blocks: &[u8], out: &mut [u16], tally: &mut [u64],
+) -> u8 {
+    unsafe {
+        ffi::stallbrook_astc_strict_decode_image_unorm16(
+            footprint,
+            width,
+            height,
+            blocks.as_ptr(),
+            blocks.len(),
+            out.as_mut_ptr(),
+            out.len(),
+            tally.as_mut_ptr(),
+            tally.len(),
+        )
+    }
+}
+
+pub fn strict_decode_image_srgb8(
+    footprint: u8, width: u32, height: u32, blocks: &[u8], out: &mut [u8], tally: &mut [u64],
+) -> u8 {
+    unsafe {
+        ffi::stallbrook_astc_strict_decode_image_srgb8(
+            footprint,
+            width,
+            height,
+            blocks.as_ptr(),
+            blocks.len(),
+            out.as_mut_ptr(),
+            out.len(),
+            tally.as_mut_ptr(),
+            tally.len(),
+        )
+    }
+}
+
+pub fn strict_decode_image_float16(
+    footprint: u8, width: u32, height: u32, blocks: &[u8], out: &mut [u16], tally: &mut [u64],
+) -> u8 {
+    unsafe {
+        ffi::stallbrook_astc_strict_decode_image_float16(
+            footprint,
+            width,
+            height,
+            blocks.as_ptr(),
+            blocks.len(),
+            out.as_mut_ptr(),
+            out.len(),
+            tally.as_mut_ptr(),
+            tally.len(),
+        )
+    }
+}
+
+pub fn strict_image_faults(
+    footprint: u8, kind: u8, width: u32, height: u32, blocks: &[u8], out: &mut [u8], tally: &mut [u64],
+) -> u8 {
+    unsafe {
+        ffi::stallbrook_astc_strict_image_faults(
+            footprint,
+            kind,
+            width,
+            height,
+            blocks.as_ptr(),
+            blocks.len(),
+            out.as_mut_ptr(),
+            out.len(),
+            tally.as_mut_ptr(),
+            tally.len(),
+        )
+    }
+}
+
+pub fn strict_read_symbolic(footprint: u8, block: &[u8], numbers: &mut [u16], spare: &mut [u16]) -> u8 {
+    unsafe {
+        ffi::stallbrook_astc_strict_read_symbolic(
+            footprint,
+            block.as_ptr(),
+            block.len(),
+            numbers.as_mut_ptr(),
+            numbers.len(),
+            spare.as_mut_ptr(),
+            spare.len(),
+        )
+    }
+}
+
+pub fn canonical_block(footprint: u8, block: &[u8], out: &mut [u8]) -> u8 {
+    unsafe { ffi::stallbrook_astc_canonical_block(footprint, block.as_ptr(), block.len(), out.as_mut_ptr(), out.len()) }
+}
+
+pub fn canonical_image(footprint: u8, width: u32, height: u32, blocks: &[u8], out: &mut [u8], tally: &mut [u64]) -> u8 {
+    unsafe {
+        ffi::stallbrook_astc_canonical_image(
+            footprint,
+            width,
+            height,
+            blocks.as_ptr(),
+            blocks.len(),
+            out.as_mut_ptr(),
+            out.len(),
+            tally.as_mut_ptr(),
+            tally.len(),
+        )
+    }
+}
+
+pub fn canonical_in_place(footprint: u8, width: u32, height: u32, blocks: &mut [u8], tally: &mut [u64]) -> u8 {
+    unsafe {
+        ffi::stallbrook_astc_canonical_in_place(
+            footprint,
+            width,
+            height,
+            blocks.as_mut_ptr(),
+            blocks.len(),
+            tally.as_mut_ptr(),
+            tally.len(),
+        )
+    }
+}
+
 // ---- clips
 
 pub fn clip_start(state: &mut [u32]) -> u8 {

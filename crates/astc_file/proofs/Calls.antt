@@ -9,6 +9,7 @@ use Rattle.interpolation.specs.declared.Kind.{Kind}
 use Rattle.image_layout.specs.declared.ImageAnswer.{ImageAnswer}
 use Rattle.image_layout.specs.declared.ImageAnswer.the-variants.{Refused}
 use Rattle.image_layout.specs.Call.{toldOf}
+use Rattle.block_reading.specs.declared.Reading.the-variants.{Ordinary}
 use Rattle.image_layout.proofs.Calls.{Promised}
 use Rattle.astc_header.specs.declared.FileHeader.{FileHeader}
 use Rattle.astc_header.specs.declared.HeaderAnswer.the-variants.{Refused as Stopped, Accepted}
@@ -29,7 +30,7 @@ module _ (kind : Kind) (s old : List ℕ) where
 
   -- any other: what the image call promises of its blocks b
   pub file-decoded : (h : FileHeader) → headerAnswer s ≡ Accepted h → (b : List ℕ) (r : ImageAnswer) (new : List ℕ) → b ≡ drop 16 s
-      → Promised (h .footprint) kind (h .width) (h .height) b old r new → FilePromised kind s old r new
+      → Promised Ordinary (h .footprint) kind (h .width) (h .height) b old r new → FilePromised kind s old r new
   unfolding fileAnswer fileTold fileOut
   file-decoded h q b r new e p =
       let k = passed s h q in

@@ -13,7 +13,7 @@ use Rattle.laws.specs.Choice.{pick, either}
 use Rattle.interpolation.specs.declared.Kind.{Kind}
 use Rattle.image_size.specs.Sides.{badSide}
 use Rattle.image_size.proofs.Laws.{sized}
-use Rattle.image_layout.specs.Call.{imageRefusal, imageTold}
+use Rattle.image_layout.specs.Call.{imageRefusal, imageTold, imageToldIn}
 use Rattle.image_layout.proofs.Calls.{refused-5, refused-none}
 use Rattle.astc_header.specs.Header.{hasStart, headerIn, blocksIn, knownShape, headerRefusal}
 use Rattle.astc_header.proofs.Refusals.{taken}
@@ -73,7 +73,7 @@ module _ (s : List ℕ) (places : ℕ) where
 
   image-told : (kind : Kind) → imageTold (headerIn s .footprint) kind (headerIn s .width) (headerIn s .height) (drop 16 s) places .refusal
       ≡ imageRefusal (headerIn s .footprint) (headerIn s .width) (headerIn s .height) (length (drop 16 s)) places
-  unfolding imageTold
+  unfolding imageToldIn
   image-told kind =
       elim (ℕ-discrete (imageRefusal (headerIn s .footprint) (headerIn s .width) (headerIn s .height) (length (drop 16 s)) places) 0) [
         | yes z ↦ rw z

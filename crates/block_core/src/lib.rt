@@ -185,7 +185,7 @@ fn paint_half(
 }
 
 // One texel everywhere.
-fn flood(t: Texel, fp: u8, out: &mut [u16; 576])
+pub fn flood(t: Texel, fp: u8, out: &mut [u16; 576])
     ensures { λ r. ⌜ (length (now (out .entry)) ≡ 576 → now (out .exit) ≡ painted (widthOf fp) (λ x y. t) (texelsOf fp) (now (out .entry))) ⌝ }
 {
     let count = footprint::texels(fp) as usize;

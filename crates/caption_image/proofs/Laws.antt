@@ -8,8 +8,8 @@ use native.Mathlib.Decide.{decLt}
 use native.Mathlib.Nat.{div-lt-iff-lt-mul, mod-lt, zero-add}
 use native.Mathlib.Omega.{arith}
 use lib.Dec.{eqb}
-use lib.ListN.{length, getD, set, length-set}
-use lib.Seq.{getD-set-same, getD-set-other, ext-getD}
+use lib.ListN.{length, getD}
+use lib.Seq.{ext-getD}
 use borrow.Author.Tests.{eq-eqb, ne-eqb, eqb-true}
 use Rattle.laws.specs.Choice.{pick, either}
 use Rattle.laws.specs.Table.{tab}
@@ -21,7 +21,8 @@ use Rattle.image_layout.proofs.Covering.{below-row}
 use Rattle.footprint.specs.Footprint.{footprints, widthOf, heightOf}
 use Rattle.grey_caption.specs.Caption.{footprint, captionOf}
 use Rattle.caption_image.specs.Image.{imageRefusal, wantedAt, wantedOf, imageBlocks, imageOut, blockRefusal, blockOut}
-use Rattle.caption_image.specs.inner.Places.{Lent, Put}
+use Rattle.caption_image.specs.inner.Places.{Lent}
+use Rattle.block_store.specs.inner.Places.{Put}
 
 -- ---- refusals
 
@@ -118,22 +119,6 @@ begins w h b across N wanted l e n m =
     rw e (record { some = across-pos w 4 (omega arith) (l .w-low); column = column-in w h b (l .w-low) k; row = row-in w h b (l .w-low) k })
 
 -- ---- stores
-
-pub put-start : (at : ℕ) (bytes old : List ℕ) → Put at 0 bytes old old
-put-start at bytes old = record { size = refl; below = λ k l. refl; here = λ k l. absurd (omega arith) }
-
-pub put-more : (at n : ℕ) (bytes old new : List ℕ) → at + n < length old → Put at n bytes old new → Put at (n + 1) bytes old (set new (at + n) (getD bytes n 0))
-put-more at n bytes old new l p = record {
-  size = length-set new (at + n) _ ∙ p .size;
-  below = λ k m. getD-set-other new (at + n) k _ 0 (λ q. omega arith) ∙ p .below k m;
-  here = λ k m. elim (decLt k n) [
-    | yes q ↦ getD-set-other new (at + n) (at + k) _ 0 (λ z. omega arith) ∙ p .here k q
-    | no q ↦
-        let e : k ≡ n = omega arith in
-        ap (λ (j : ℕ). getD (set new (at + n) (getD bytes n 0)) (at + j) 0) e
-        ∙ getD-set-same new (at + n) _ 0 (omega (arith, p .size)) ∙ sym (ap (λ (j : ℕ). getD bytes j 0) e)
-  ];
-}
 
 -- the bytes of all blocks
 abbrev pub byteAt : ℕ → ℕ → ℕ → ℕ → List ℕ → ℕ → ℕ

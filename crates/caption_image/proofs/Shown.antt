@@ -21,6 +21,7 @@ use Rattle.image_layout.specs.OwnBlock.{place}
 use Rattle.image_layout.proofs.Blocks.{quotient, remainder, sixteen, byte-of}
 use Rattle.image_layout.proofs.Calls.{refused-none}
 use Rattle.image_layout.proofs.Independence.{index-in, own-block}
+use Rattle.block_reading.specs.declared.Reading.the-variants.{Ordinary}
 use Rattle.grey_caption.specs.Caption.{footprint, weightFor, captionOf}
 use Rattle.grey_caption.specs.Best.{shownBy, Shows}
 use Rattle.grey_caption.proofs.Demand.{chosen, shows}
@@ -90,7 +91,7 @@ module _ (e0 e1 w h : ℕ) (wanted : List ℕ) where
       texel c l =
           let i = 4 * (y % 4) + x % 4 in
           let a : place 4 (x % 4) (y % 4) c ≡ 4 * i + c = omega arith in
-          own-block footprint Srgb8 w h x y c hx hy l .image-texel (imageBlocks e0 e1 w h wanted) old room taken room-size
+          own-block Ordinary footprint Srgb8 w h x y c hx hy l .image-texel (imageBlocks e0 e1 w h wanted) old room taken room-size
           ∙ ap₂ (λ (b : List ℕ) (k : ℕ). getD (shownBy room b) k 0) (block-is index (index-in footprint Srgb8 w h x y c hx hy l (omega arith)) (caption-shows .sixteen)) a
           ∙ caption-shows .texel i c (omega arith) l
           ∙ ap (λ (n : ℕ). getD (bestGrey e0 e1 n ∷ bestGrey e0 e1 n ∷ bestGrey e0 e1 n ∷ 255 ∷ []) c 0) wanted-is

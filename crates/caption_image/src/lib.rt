@@ -5,7 +5,7 @@ ghost use lib.ListN.{length};
 ghost use Rattle.laws.specs.Table.{tab};
 ghost use Rattle.image_size.specs.Sides.{blocksAcross, blocksOf};
 ghost use Rattle.caption_image.specs.Image.{imageRefusal, nearest, wantedAt, imageBlocks, imageOut, blockRefusal, blockOut};
-ghost use Rattle.caption_image.specs.inner.Places.{Lent, Put};
+ghost use Rattle.caption_image.specs.inner.Places.{Lent};
 
 // The refusals in their order, 0 for none.
 fn refusal(width: u32, height: u32, bytes: usize, greys: usize) -> u8
@@ -57,18 +57,6 @@ fn gather(wanted: &[u8], width: usize, height: usize, x: usize, y: usize) -> [u8
     out
 }
 
-// A block's bytes from place `at` on.
-fn put(out: &mut [u8], at: usize, bytes: [u8; 16])
-    requires { ⌜ at + 16 ≤ length (now out) ⌝ }
-    ensures { λ _. ⌜ Put at 16 bytes (now (out .entry)) (now (out .exit)) ⌝ }
-{
-    let mut k: usize = 0;
-    while k < 16 {
-        out[at + k] = bytes[k];
-        k += 1;
-    }
-}
-
 // Every block, in raster order.
 fn fill(e0: u8, e1: u8, width: usize, height: usize, across: usize, wanted: &[u8], out: &mut [u8])
     requires { ⌜ Lent width height (now wanted) ⌝ }
@@ -80,7 +68,7 @@ fn fill(e0: u8, e1: u8, width: usize, height: usize, across: usize, wanted: &[u8
     let mut b: usize = 0;
     while b < n {
         let greys = gather(wanted, width, height, 4 * (b % across), 4 * (b / across));
-        put(out, 16 * b, caption_block::caption(e0, e1, greys));
+        block_store::put(out, 16 * b, caption_block::caption(e0, e1, greys));
         b += 1;
     }
 }
@@ -126,6 +114,6 @@ pub fn caption_into(e0: u8, e1: u8, wanted: &[u8], block: &mut [u8]) -> u8
         return 5;
     }
     let greys = gather(wanted, 4, 4, 0, 0);
-    put(block, 0, caption_block::caption(e0, e1, greys));
+    block_store::put(block, 0, caption_block::caption(e0, e1, greys));
     0
 }

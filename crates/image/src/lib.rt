@@ -1,4 +1,5 @@
-// The image calls: blocks in raster order to the texels of a whole image (01: picture), in each kind.
+// The image calls: blocks in raster order to the texels of a whole image (01: picture), in each kind, in the ordinary reading and in the strict one.
+use block_reading::Reading;
 use image_layout::CheckedImage;
 use image_layout::ImageAnswer;
 use image_layout::ImageGrid;
@@ -10,10 +11,11 @@ ghost use mathlib.Core.Path.{_≡_};
 ghost use Prim.Native.Nat.{_+_, _*_, _/_, _%_, _≤_, _<_};
 ghost use lib.ListN.{length};
 ghost use Rattle.interpolation.specs.declared.Kind.the-variants.{Unorm16, Srgb8, Float16};
+ghost use Rattle.block_reading.specs.declared.Reading.the-variants.{Strict};
 ghost use Rattle.one_block.specs.Calls.{Words};
-ghost use Rattle.image_layout.specs.Numbers.{faultAt, imageNumberAt, imageNumbers};
+ghost use Rattle.image_layout.specs.Numbers.{faultAtIn, imageNumberAtIn, imageNumbersIn};
 ghost use Rattle.image_layout.specs.Faulty.{tallyOf};
-ghost use Rattle.image_layout.specs.Call.{checkedOf, imageAnswer, imageOut, imageTold, toldOf};
+ghost use Rattle.image_layout.specs.Call.{checkedOf, imageAnswer, imageOut, imageTold, imageAnswerIn, imageOutIn, imageToldIn, toldOf};
 ghost use Rattle.image_layout.proofs.Regions.{Pasted, Placed, Tile};
 ghost use Rattle.image_layout.proofs.Calls.{Sound};
 ghost use Rattle.image_layout.proofs.Parts.{Fits, RunFits};
@@ -53,6 +55,7 @@ fn place_numbers(buf: &[u16; 576], g: ImageGrid, p: Part, out: &mut [u16])
 
 // Shows block b, and answers its fault.
 fn show_numbers(
+    reading: Reading,
     g: ImageGrid,
     kind: Kind,
     b: usize,
@@ -66,25 +69,25 @@ fn show_numbers(
     requires { ⌜ length (now s) ≡ 16 * (g .down * g .across) ⌝ }
     requires { ⌜ length (now out) ≡ 4 * (g .height * g .width) ⌝ }
     requires { ⌜ length (now buf) ≡ 576 ⌝ }
-    ensures { λ r. ⌜ r ≡ faultAt (g .footprint) kind (now (s .entry)) b ⌝ }
-    ensures { λ _. ⌜ Tile (g .width) (g .height) (g .columns) (g .rows) (b % g .across) (b / g .across) (imageNumberAt (g .footprint) kind (g .width) (now (s .entry))) (now (out .entry)) (now (out .exit)) ⌝ }
+    ensures { λ r. ⌜ r ≡ faultAtIn reading (g .footprint) kind (now (s .entry)) b ⌝ }
+    ensures { λ _. ⌜ Tile (g .width) (g .height) (g .columns) (g .rows) (b % g .across) (b / g .across) (imageNumberAtIn reading (g .footprint) kind (g .width) (now (s .entry))) (now (out .entry)) (now (out .exit)) ⌝ }
     ensures { λ _. ⌜ length (now (buf .exit)) ≡ 576 ⌝ }
 {
     let p = image_parts::part_of(g, b);
     let block = image_parts::block_of(s, b);
-    let e = block_core::decode_into(block, g.footprint, kind, buf);
+    let e = strict_block::decode_in(reading, block, g.footprint, kind, buf);
     place_numbers(buf, g, p, out);
     e
 }
 
 // Shows every block, in raster order, and counts the faults.
-fn decode_numbers(g: ImageGrid, kind: Kind, s: &[u8], out: &mut [u16]) -> Tally
+fn decode_numbers(reading: Reading, g: ImageGrid, kind: Kind, s: &[u8], out: &mut [u16]) -> Tally
     requires { ⌜ Words kind ⌝ }
     requires { ⌜ Sound g ⌝ }
     requires { ⌜ length (now s) ≡ 16 * (g .down * g .across) ⌝ }
     requires { ⌜ length (now out) ≡ 4 * (g .height * g .width) ⌝ }
-    ensures { λ r. ⌜ r ≡ tallyOf (faultAt (g .footprint) kind (now (s .entry))) (g .down * g .across) ⌝ }
-    ensures { λ _. ⌜ now (out .exit) ≡ imageNumbers (g .footprint) kind (g .width) (g .height) (now (s .entry)) ⌝ }
+    ensures { λ r. ⌜ r ≡ tallyOf (faultAtIn reading (g .footprint) kind (now (s .entry))) (g .down * g .across) ⌝ }
+    ensures { λ _. ⌜ now (out .exit) ≡ imageNumbersIn reading (g .footprint) kind (g .width) (g .height) (now (s .entry)) ⌝ }
 {
     let mut buf = blank();
     let mut t = Tally {
@@ -94,7 +97,7 @@ fn decode_numbers(g: ImageGrid, kind: Kind, s: &[u8], out: &mut [u16]) -> Tally
     };
     let n = g.down * g.across;
     for b in 0..n {
-        let e = show_numbers(g, kind, b, s, &mut buf, out);
+        let e = show_numbers(reading, g, kind, b, s, &mut buf, out);
         t = image_layout::note(t, b as u64, e);
     }
     t
@@ -102,6 +105,7 @@ fn decode_numbers(g: ImageGrid, kind: Kind, s: &[u8], out: &mut [u16]) -> Tally
 
 // An image in a kind of 16-bit numbers, once it is checked.
 fn answer_numbers(
+    reading: Reading,
     checked: CheckedImage,
     footprint: u8,
     kind: Kind,
@@ -112,17 +116,42 @@ fn answer_numbers(
 ) -> ImageAnswer
     requires { ⌜ Words kind ⌝ }
     requires { ⌜ checked ≡ checkedOf footprint width height (length (now blocks)) (length (now out)) ⌝ }
-    ensures answer { λ r. ⌜ r ≡ imageAnswer footprint kind width height (now (blocks .entry)) (length (now (out .entry))) ⌝ }
-    ensures told { λ r. ⌜ toldOf r ≡ imageTold footprint kind width height (now (blocks .entry)) (length (now (out .entry))) ⌝ }
-    ensures image { λ _. ⌜ now (out .exit) ≡ imageOut footprint kind width height (now (blocks .entry)) (now (out .entry)) ⌝ }
+    ensures answer { λ r. ⌜ r ≡ imageAnswerIn reading footprint kind width height (now (blocks .entry)) (length (now (out .entry))) ⌝ }
+    ensures told { λ r. ⌜ toldOf r ≡ imageToldIn reading footprint kind width height (now (blocks .entry)) (length (now (out .entry))) ⌝ }
+    ensures image { λ _. ⌜ now (out .exit) ≡ imageOutIn reading footprint kind width height (now (blocks .entry)) (now (out .entry)) ⌝ }
 {
     match checked {
         CheckedImage::Rejected(e) => ImageAnswer::Refused(e),
-        CheckedImage::Accepted(g) => ImageAnswer::Decoded(decode_numbers(g, kind, blocks, out)),
+        CheckedImage::Accepted(g) => ImageAnswer::Decoded(decode_numbers(
+            reading,
+            g,
+            kind,
+            blocks,
+            out,
+        )),
     }
 }
 
-// An image in a kind of 16-bit numbers: kinds 0 and 2.
+// An image in a kind of 16-bit numbers, kinds 0 and 2, in a reading.
+pub fn decode_words_in(
+    reading: Reading,
+    kind: Kind,
+    fp: u8,
+    width: u32,
+    height: u32,
+    blocks: &[u8],
+    out: &mut [u16],
+) -> ImageAnswer
+    requires { ⌜ Words kind ⌝ }
+    ensures answer { λ r. ⌜ r ≡ imageAnswerIn reading fp kind width height (now (blocks .entry)) (length (now (out .entry))) ⌝ }
+    ensures told { λ r. ⌜ toldOf r ≡ imageToldIn reading fp kind width height (now (blocks .entry)) (length (now (out .entry))) ⌝ }
+    ensures image { λ _. ⌜ now (out .exit) ≡ imageOutIn reading fp kind width height (now (blocks .entry)) (now (out .entry)) ⌝ }
+{
+    let checked = image_layout::check_image(fp, width, height, blocks.len(), out.len());
+    answer_numbers(reading, checked, fp, kind, width, height, blocks, out)
+}
+
+// In the ordinary reading.
 pub fn decode_image_words(
     kind: Kind,
     footprint: u8,
@@ -136,8 +165,15 @@ pub fn decode_image_words(
     ensures told { λ r. ⌜ toldOf r ≡ imageTold footprint kind width height (now (blocks .entry)) (length (now (out .entry))) ⌝ }
     ensures image { λ _. ⌜ now (out .exit) ≡ imageOut footprint kind width height (now (blocks .entry)) (now (out .entry)) ⌝ }
 {
-    let checked = image_layout::check_image(footprint, width, height, blocks.len(), out.len());
-    answer_numbers(checked, footprint, kind, width, height, blocks, out)
+    decode_words_in(
+        Reading::Ordinary,
+        kind,
+        footprint,
+        width,
+        height,
+        blocks,
+        out,
+    )
 }
 
 // Kind 0: an image to four 16-bit numbers for each texel.
@@ -197,30 +233,37 @@ fn place_bytes(buf: &[u16; 576], g: ImageGrid, p: Part, out: &mut [u8])
 }
 
 // Shows block b, and answers its fault.
-fn show_bytes(g: ImageGrid, b: usize, s: &[u8], buf: &mut [u16; 576], out: &mut [u8]) -> u8
+fn show_bytes(
+    reading: Reading,
+    g: ImageGrid,
+    b: usize,
+    s: &[u8],
+    buf: &mut [u16; 576],
+    out: &mut [u8],
+) -> u8
     requires { ⌜ Sound g ⌝ }
     requires { ⌜ b < g .down * g .across ⌝ }
     requires { ⌜ length (now s) ≡ 16 * (g .down * g .across) ⌝ }
     requires { ⌜ length (now out) ≡ 4 * (g .height * g .width) ⌝ }
     requires { ⌜ length (now buf) ≡ 576 ⌝ }
-    ensures { λ r. ⌜ r ≡ faultAt (g .footprint) Srgb8 (now (s .entry)) b ⌝ }
-    ensures { λ _. ⌜ Tile (g .width) (g .height) (g .columns) (g .rows) (b % g .across) (b / g .across) (imageNumberAt (g .footprint) Srgb8 (g .width) (now (s .entry))) (now (out .entry)) (now (out .exit)) ⌝ }
+    ensures { λ r. ⌜ r ≡ faultAtIn reading (g .footprint) Srgb8 (now (s .entry)) b ⌝ }
+    ensures { λ _. ⌜ Tile (g .width) (g .height) (g .columns) (g .rows) (b % g .across) (b / g .across) (imageNumberAtIn reading (g .footprint) Srgb8 (g .width) (now (s .entry))) (now (out .entry)) (now (out .exit)) ⌝ }
     ensures { λ _. ⌜ length (now (buf .exit)) ≡ 576 ⌝ }
 {
     let p = image_parts::part_of(g, b);
     let block = image_parts::block_of(s, b);
-    let e = block_core::decode_into(block, g.footprint, Kind::Srgb8, buf);
+    let e = strict_block::decode_in(reading, block, g.footprint, Kind::Srgb8, buf);
     place_bytes(buf, g, p, out);
     e
 }
 
 // Shows every block, in raster order, and counts the faults.
-fn decode_bytes(g: ImageGrid, s: &[u8], out: &mut [u8]) -> Tally
+fn decode_bytes(reading: Reading, g: ImageGrid, s: &[u8], out: &mut [u8]) -> Tally
     requires { ⌜ Sound g ⌝ }
     requires { ⌜ length (now s) ≡ 16 * (g .down * g .across) ⌝ }
     requires { ⌜ length (now out) ≡ 4 * (g .height * g .width) ⌝ }
-    ensures { λ r. ⌜ r ≡ tallyOf (faultAt (g .footprint) Srgb8 (now (s .entry))) (g .down * g .across) ⌝ }
-    ensures { λ _. ⌜ now (out .exit) ≡ imageNumbers (g .footprint) Srgb8 (g .width) (g .height) (now (s .entry)) ⌝ }
+    ensures { λ r. ⌜ r ≡ tallyOf (faultAtIn reading (g .footprint) Srgb8 (now (s .entry))) (g .down * g .across) ⌝ }
+    ensures { λ _. ⌜ now (out .exit) ≡ imageNumbersIn reading (g .footprint) Srgb8 (g .width) (g .height) (now (s .entry)) ⌝ }
 {
     let mut buf = blank();
     let mut t = Tally {
@@ -230,7 +273,7 @@ fn decode_bytes(g: ImageGrid, s: &[u8], out: &mut [u8]) -> Tally
     };
     let n = g.down * g.across;
     for b in 0..n {
-        let e = show_bytes(g, b, s, &mut buf, out);
+        let e = show_bytes(reading, g, b, s, &mut buf, out);
         t = image_layout::note(t, b as u64, e);
     }
     t
@@ -238,6 +281,7 @@ fn decode_bytes(g: ImageGrid, s: &[u8], out: &mut [u8]) -> Tally
 
 // Kind 1 of an image, once it is checked.
 fn answer_bytes(
+    reading: Reading,
     checked: CheckedImage,
     footprint: u8,
     width: u32,
@@ -246,14 +290,31 @@ fn answer_bytes(
     out: &mut [u8],
 ) -> ImageAnswer
     requires { ⌜ checked ≡ checkedOf footprint width height (length (now blocks)) (length (now out)) ⌝ }
-    ensures answer { λ r. ⌜ r ≡ imageAnswer footprint Srgb8 width height (now (blocks .entry)) (length (now (out .entry))) ⌝ }
-    ensures told { λ r. ⌜ toldOf r ≡ imageTold footprint Srgb8 width height (now (blocks .entry)) (length (now (out .entry))) ⌝ }
-    ensures image { λ _. ⌜ now (out .exit) ≡ imageOut footprint Srgb8 width height (now (blocks .entry)) (now (out .entry)) ⌝ }
+    ensures answer { λ r. ⌜ r ≡ imageAnswerIn reading footprint Srgb8 width height (now (blocks .entry)) (length (now (out .entry))) ⌝ }
+    ensures told { λ r. ⌜ toldOf r ≡ imageToldIn reading footprint Srgb8 width height (now (blocks .entry)) (length (now (out .entry))) ⌝ }
+    ensures image { λ _. ⌜ now (out .exit) ≡ imageOutIn reading footprint Srgb8 width height (now (blocks .entry)) (now (out .entry)) ⌝ }
 {
     match checked {
         CheckedImage::Rejected(e) => ImageAnswer::Refused(e),
-        CheckedImage::Accepted(g) => ImageAnswer::Decoded(decode_bytes(g, blocks, out)),
+        CheckedImage::Accepted(g) => ImageAnswer::Decoded(decode_bytes(reading, g, blocks, out)),
     }
+}
+
+// An image in kind 1, in a reading.
+pub fn decode_srgb8_in(
+    reading: Reading,
+    fp: u8,
+    width: u32,
+    height: u32,
+    blocks: &[u8],
+    out: &mut [u8],
+) -> ImageAnswer
+    ensures answer { λ r. ⌜ r ≡ imageAnswerIn reading fp Srgb8 width height (now (blocks .entry)) (length (now (out .entry))) ⌝ }
+    ensures told { λ r. ⌜ toldOf r ≡ imageToldIn reading fp Srgb8 width height (now (blocks .entry)) (length (now (out .entry))) ⌝ }
+    ensures image { λ _. ⌜ now (out .exit) ≡ imageOutIn reading fp Srgb8 width height (now (blocks .entry)) (now (out .entry)) ⌝ }
+{
+    let checked = image_layout::check_image(fp, width, height, blocks.len(), out.len());
+    answer_bytes(reading, checked, fp, width, height, blocks, out)
 }
 
 // Kind 1: an image to four bytes for each texel, before the sRGB curve.
@@ -268,6 +329,68 @@ pub fn decode_image_srgb8(
     ensures told { λ r. ⌜ toldOf r ≡ imageTold footprint Srgb8 width height (now (blocks .entry)) (length (now (out .entry))) ⌝ }
     ensures image { λ _. ⌜ now (out .exit) ≡ imageOut footprint Srgb8 width height (now (blocks .entry)) (now (out .entry)) ⌝ }
 {
-    let checked = image_layout::check_image(footprint, width, height, blocks.len(), out.len());
-    answer_bytes(checked, footprint, width, height, blocks, out)
+    decode_srgb8_in(Reading::Ordinary, footprint, width, height, blocks, out)
+}
+
+// ---- the strict reading
+
+// In kind 0.
+pub fn decode_image_unorm16_strict(
+    footprint: u8,
+    width: u32,
+    height: u32,
+    blocks: &[u8],
+    out: &mut [u16],
+) -> ImageAnswer
+    ensures answer { λ r. ⌜ r ≡ imageAnswerIn Strict footprint Unorm16 width height (now (blocks .entry)) (length (now (out .entry))) ⌝ }
+    ensures told { λ r. ⌜ toldOf r ≡ imageToldIn Strict footprint Unorm16 width height (now (blocks .entry)) (length (now (out .entry))) ⌝ }
+    ensures image { λ _. ⌜ now (out .exit) ≡ imageOutIn Strict footprint Unorm16 width height (now (blocks .entry)) (now (out .entry)) ⌝ }
+{
+    decode_words_in(
+        Reading::Strict,
+        Kind::Unorm16,
+        footprint,
+        width,
+        height,
+        blocks,
+        out,
+    )
+}
+
+// In kind 2.
+pub fn decode_image_float16_strict(
+    footprint: u8,
+    width: u32,
+    height: u32,
+    blocks: &[u8],
+    out: &mut [u16],
+) -> ImageAnswer
+    ensures answer { λ r. ⌜ r ≡ imageAnswerIn Strict footprint Float16 width height (now (blocks .entry)) (length (now (out .entry))) ⌝ }
+    ensures told { λ r. ⌜ toldOf r ≡ imageToldIn Strict footprint Float16 width height (now (blocks .entry)) (length (now (out .entry))) ⌝ }
+    ensures image { λ _. ⌜ now (out .exit) ≡ imageOutIn Strict footprint Float16 width height (now (blocks .entry)) (now (out .entry)) ⌝ }
+{
+    decode_words_in(
+        Reading::Strict,
+        Kind::Float16,
+        footprint,
+        width,
+        height,
+        blocks,
+        out,
+    )
+}
+
+// In kind 1.
+pub fn decode_image_srgb8_strict(
+    footprint: u8,
+    width: u32,
+    height: u32,
+    blocks: &[u8],
+    out: &mut [u8],
+) -> ImageAnswer
+    ensures answer { λ r. ⌜ r ≡ imageAnswerIn Strict footprint Srgb8 width height (now (blocks .entry)) (length (now (out .entry))) ⌝ }
+    ensures told { λ r. ⌜ toldOf r ≡ imageToldIn Strict footprint Srgb8 width height (now (blocks .entry)) (length (now (out .entry))) ⌝ }
+    ensures image { λ _. ⌜ now (out .exit) ≡ imageOutIn Strict footprint Srgb8 width height (now (blocks .entry)) (now (out .entry)) ⌝ }
+{
+    decode_srgb8_in(Reading::Strict, footprint, width, height, blocks, out)
 }

@@ -12,6 +12,7 @@ use borrow.Author.Tests.{eq-eqb, ne-eqb, lt-ltb, le-ltb}
 use Rattle.laws.specs.Choice.{pick, either}
 use Rattle.laws.specs.Table.{tab}
 use Rattle.interpolation.specs.declared.Kind.{Kind}
+use Rattle.block_reading.specs.declared.Reading.{Reading}
 use Rattle.kind_number.specs.Kinds.{kindOf}
 use Rattle.image_size.specs.Sides.{badSide, blocksOf, sizeRefusal}
 use Rattle.footprint.specs.Footprint.{widthOf, heightOf}
@@ -20,9 +21,9 @@ use Rattle.image_size.proofs.Laws.{limit-le, sized, side-fine, across-le, produ
 use Rattle.image_layout.specs.declared.ImageAnswer.{ImageAnswer}
 use Rattle.image_layout.specs.declared.ImageAnswer.the-variants.{Refused, Decoded}
 use Rattle.image_layout.specs.declared.Tally.{Tally}
-use Rattle.image_layout.specs.Numbers.{faultAt}
+use Rattle.image_layout.specs.Numbers.{faultAtIn}
 use Rattle.image_layout.specs.Faulty.{tallyOf}
-use Rattle.image_layout.specs.Call.{imageTally, toldOf}
+use Rattle.image_layout.specs.Call.{imageTallyIn, toldOf}
 use Rattle.image_faults.specs.Faults.{faultsRefusal, faultList, faultsAnswer, faultsTold, faultsOut}
 
 module _ (fp k w h bytes places : ℕ) where
@@ -62,6 +63,7 @@ module _ (fp k w h bytes places : ℕ) where
 -- ---- what holds once none does
 
 pub record Taken (fp w h bytes places : ℕ) : Type 0 where
+  pub footprint : fp ≤ 13
   pub size : sizeRefusal fp w h ≡ 0
   pub exact-bytes : bytes ≡ 16 * blocksOf fp w h
   pub exact-places : places ≡ blocksOf fp w h
@@ -83,7 +85,7 @@ taken fp k w h bytes places q =
         | no l ↦ absurd (let j : _≡_ {A = ℕ} 4 0 = bad-bytes fp k w h bytes places f n _ refl z _ refl l ∙ q in omega arith)
         | yes l ↦ elim (ℕ-discrete places (blocksOf fp w h)) [
           | no m ↦ absurd (let j : _≡_ {A = ℕ} 5 0 = bad-places fp k w h bytes places f n _ refl z _ refl l m ∙ q in omega arith)
-          | yes m ↦ record { size = z; exact-bytes = l; exact-places = m }
+          | yes m ↦ record { footprint = f; size = z; exact-bytes = l; exact-places = m }
         ]
       ]
     ]
@@ -97,32 +99,33 @@ blocks-most fp w h e =
     product-most _ _ (let k = side-fine h (s .high) .1 in omega (arith, across-le h (heightOf fp) (let k = b .height-least in omega arith)))
     (let k = side-fine w (s .wide) .1 in omega (arith, across-le w (widthOf fp) (let k = b .width-least in omega arith)))
 
--- the lengths that the loop needs
-pub record Lengths (s faults : List ℕ) : Type 0 where
+-- what the loop needs
+pub record Lengths (fp : ℕ) (s faults : List ℕ) : Type 0 where
+  pub footprint : fp ≤ 13
   pub bytes : length s ≡ 16 * length faults
   pub most : length faults ≤ 268435456
 
-pub lengths : (fp k w h : ℕ) (s faults : List ℕ) → faultsRefusal fp k w h (length s) (length faults) ≡ 0 → Lengths s faults
+pub lengths : (fp k w h : ℕ) (s faults : List ℕ) → faultsRefusal fp k w h (length s) (length faults) ≡ 0 → Lengths fp s faults
 lengths fp k w h s faults q =
     let t = taken fp k w h (length s) (length faults) q in
-    record { bytes = t .exact-bytes ∙ ap (λ (n : ℕ). 16 * n) (sym (t .exact-places)); most = rw (t .exact-places) (blocks-most fp w h (t .size)) }
+    record { footprint = t .footprint; bytes = t .exact-bytes ∙ ap (λ (n : ℕ). 16 * n) (sym (t .exact-places)); most = rw (t .exact-places) (blocks-most fp w h (t .size)) }
 
 -- ---- the call's promises
 
-abbrev pub Promised : ℕ → ℕ → ℕ → ℕ → List ℕ → List ℕ → ImageAnswer → List ℕ → Type 0
-Promised fp k w h s old r new =
-    (r ≡ faultsAnswer fp k w h s (length old)) × ((toldOf r ≡ faultsTold fp k w h s (length old)) × (new ≡ faultsOut fp k w h s old))
+abbrev pub Promised : Reading → ℕ → ℕ → ℕ → ℕ → List ℕ → List ℕ → ImageAnswer → List ℕ → Type 0
+Promised reading fp k w h s old r new =
+    (r ≡ faultsAnswer reading fp k w h s (length old)) × ((toldOf r ≡ faultsTold reading fp k w h s (length old)) × (new ≡ faultsOut reading fp k w h s old))
 
-module _ (fp k w h : ℕ) (s old : List ℕ) where
+module _ (reading : Reading) (fp k w h : ℕ) (s old : List ℕ) where
   -- a refused call: its number, and the list as it was
-  pub refused : (e : ℕ) → e ≡ faultsRefusal fp k w h (length s) (length old) → (e ≡ 0 → ⊥) → Promised fp k w h s old (Refused e) old
+  pub refused : (e : ℕ) → e ≡ faultsRefusal fp k w h (length s) (length old) → (e ≡ 0 → ⊥) → Promised reading fp k w h s old (Refused e) old
   unfolding faultsAnswer faultsTold faultsOut
   refused e q n = rw (← q, ne-eqb e 0 n) (refl, (refl, refl))
 
   -- any other: the tally of the image call, and the list
   pub told-all : (kind : Kind) (t : Tally) (new : List ℕ) → kind ≡ kindOf k → faultsRefusal fp k w h (length s) (length old) ≡ 0
-      → t ≡ tallyOf (faultAt fp kind s) (length old) → new ≡ tab (faultAt fp kind s) (length old) → Promised fp k w h s old (Decoded t) new
-  unfolding faultsAnswer faultsTold faultsOut faultList imageTally
+      → t ≡ tallyOf (faultAtIn reading fp kind s) (length old) → new ≡ tab (faultAtIn reading fp kind s) (length old) → Promised reading fp k w h s old (Decoded t) new
+  unfolding faultsAnswer faultsTold faultsOut faultList imageTallyIn
   told-all kind t new r q e l =
       let n = taken fp k w h (length s) (length old) q .exact-places in
       rw q (rw (e, l, n, r) (refl, (refl, refl)))

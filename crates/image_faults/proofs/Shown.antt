@@ -4,21 +4,29 @@ use mathlib.Core.Path.{_≡_, refl, sym, ap, _∙_, subst}
 use Prim.Native.Nat.{ℕ, zero, suc, _+_, _%_, _<_}
 use mathlib.Core.List.{List}
 use native.Mathlib.Numerals.{add-one}
+use native.Mathlib.Decide.{ℕ-discrete}
 use native.Mathlib.Omega.{arith}
 use lib.ListN.{length, getD}
 use borrow.Author.Tests.{eq-eqb, ne-eqb}
 use Rattle.laws.proofs.Filling.{getD-tab}
 use Rattle.footprint.specs.Footprint.{widthOf, heightOf}
 use Rattle.interpolation.specs.declared.Kind.{Kind}
+use Rattle.interpolation.specs.declared.Texel.{Texel}
 use Rattle.interpolation.specs.Expansion.{takesHdr}
 use Rattle.block_fault.specs.Faults.{faultOf}
 use Rattle.texel.specs.Meaning.{errorTexel, shownChannel}
-use Rattle.texel.specs.BlockTexel.{soundTexel, blockTexel, blockNumberAt}
+use Rattle.texel.specs.BlockTexel.{soundTexel, blockTexel}
+use Rattle.block_reading.specs.declared.Reading.{Reading}
+use Rattle.block_reading.specs.declared.Reading.the-variants.{Ordinary, Strict}
+use Rattle.block_reading.specs.Faults.{faultIn, strictFault}
+use Rattle.block_reading.specs.Shown.{texelIn, numberAtIn}
+use Rattle.block_reading.proofs.Strict.{strict-other}
+use Rattle.block_reading.proofs.Shows.{strict-own, strict-error}
 use Rattle.image_size.specs.Sides.{blocksOf}
 use Rattle.image_layout.specs.Geometry.{blockIndex}
-use Rattle.image_layout.specs.Numbers.{blockAt, faultAt, imageNumberAt}
+use Rattle.image_layout.specs.Numbers.{blockAt, faultAtIn, imageNumberAtIn}
 use Rattle.image_layout.specs.Faulty.{tallyOf}
-use Rattle.image_layout.specs.Call.{imageRefusal, imageTally, imageOut}
+use Rattle.image_layout.specs.Call.{imageRefusal, imageTallyIn, imageOutIn}
 use Rattle.image_layout.specs.OwnBlock.{place}
 use Rattle.image_layout.proofs.Calls.{accept, decoded-out}
 use Rattle.image_layout.proofs.Independence.{index-in, number-of}
@@ -33,35 +41,56 @@ tally-same f g (suc n) h =
     let e = tally-same f g n (λ k l. h k (omega arith)) in
     subst (λ (m : ℕ). tallyOf f m ≡ tallyOf g m) (add-one n) (rw (← tally-more f n, ← tally-more g n, e, h n (omega arith)))
 
--- a block's place in the list
-list-at : (fp : ℕ) (kind : Kind) (w h : ℕ) (s : List ℕ) (b : ℕ) → b < blocksOf fp w h → listed (faultList fp kind w h s) b ≡ faultAt fp kind s b
+-- ---- what a block shows by its fault
+
+module _ (kind : Kind) (fp B x y : ℕ) where
+  block-own : faultOf (takesHdr kind) fp B ≡ 0 → blockTexel fp kind B x y ≡ soundTexel fp kind B x y
+  unfolding blockTexel
+  block-own e = rw (eq-eqb (faultOf (takesHdr kind) fp B) 0 e)
+
+  -- a block that passes the strict reading has no ordinary fault either
+  strict-sound : strictFault (takesHdr kind) fp B ≡ 0 → faultOf (takesHdr kind) fp B ≡ 0
+  strict-sound e = elim (ℕ-discrete (faultOf (takesHdr kind) fp B) 0) [ yes z ↦ z | no n ↦ sym (strict-other (takesHdr kind) fp B n) ∙ e ]
+
+  own-texel : (reading : Reading) → faultIn reading (takesHdr kind) fp B ≡ 0 → texelIn reading fp kind B x y ≡ soundTexel fp kind B x y
+  own-texel Ordinary e = block-own e
+  own-texel Strict e = strict-own fp kind B e x y ∙ block-own (strict-sound e)
+
+  error-shown : (reading : Reading) → (faultIn reading (takesHdr kind) fp B ≡ 0 → ⊥) → texelIn reading fp kind B x y ≡ errorTexel kind
+  unfolding blockTexel
+  error-shown Ordinary n = rw (ne-eqb (faultOf (takesHdr kind) fp B) 0 n)
+  error-shown Strict n = strict-error fp kind B n x y
+
+-- ---- the list
+
+-- a block's place in it
+list-at : (reading : Reading) (fp : ℕ) (kind : Kind) (w h : ℕ) (s : List ℕ) (b : ℕ) → b < blocksOf fp w h → listed (faultList reading fp kind w h s) b ≡ faultAtIn reading fp kind s b
 unfolding faultList
-list-at fp kind w h s b l = getD-tab (faultAt fp kind s) (blocksOf fp w h) b 0 l
+list-at reading fp kind w h s b l = getD-tab (faultAtIn reading fp kind s) (blocksOf fp w h) b 0 l
 
-pub counted : (fp : ℕ) (kind : Kind) (w h : ℕ) (s : List ℕ) → Counted fp kind w h s
-unfolding imageTally
-counted fp kind w h s = tally-same _ _ (blocksOf fp w h) (λ k l. sym (list-at fp kind w h s k l))
+pub counted : (reading : Reading) (fp : ℕ) (kind : Kind) (w h : ℕ) (s : List ℕ) → Counted reading fp kind w h s
+unfolding imageTallyIn
+counted reading fp kind w h s = tally-same _ _ (blocksOf fp w h) (λ k l. sym (list-at reading fp kind w h s k l))
 
-module _ (fp : ℕ) (kind : Kind) (w h : ℕ) (s old : List ℕ) (z : imageRefusal fp w h (length s) (length old) ≡ 0) (x y c : ℕ) (hx : x < w) (hy : y < h) (hc : c < 4) where
+module _ (reading : Reading) (fp : ℕ) (kind : Kind) (w h : ℕ) (s old : List ℕ) (z : imageRefusal fp w h (length s) (length old) ≡ 0) (x y c : ℕ) (hx : x < w) (hy : y < h) (hc : c < 4) where
   abbrev b : ℕ
   b = blockIndex fp w x y
 
   -- the list's number is the fault of the texel's block
-  fault-is : listed (faultList fp kind w h s) b ≡ faultOf (takesHdr kind) fp (blockAt s b)
-  unfolding faultAt
-  fault-is = list-at fp kind w h s b (index-in fp kind w h x y c hx hy hc (accept fp w h (length s) (length old) z .footprint))
+  fault-is : listed (faultList reading fp kind w h s) b ≡ faultIn reading (takesHdr kind) fp (blockAt s b)
+  unfolding faultAtIn
+  fault-is = list-at reading fp kind w h s b (index-in fp kind w h x y c hx hy hc (accept fp w h (length s) (length old) z .footprint))
 
   -- what the image call leaves is what the block shows
-  number-is : getD (imageOut fp kind w h s old) (place w x y c) 0 ≡ shownChannel kind (blockTexel fp kind (blockAt s b) (x % widthOf fp) (y % heightOf fp)) c
-  unfolding imageNumberAt blockNumberAt
-  number-is = ap (λ (l : List ℕ). getD l (place w x y c) 0) (sym (decoded-out fp kind w h s old z)) ∙ number-of fp kind w h x y c hx hy hc s
+  number-is : getD (imageOutIn reading fp kind w h s old) (place w x y c) 0 ≡ shownChannel kind (texelIn reading fp kind (blockAt s b) (x % widthOf fp) (y % heightOf fp)) c
+  unfolding imageNumberAtIn numberAtIn
+  number-is = ap (λ (l : List ℕ). getD l (place w x y c) 0) (sym (decoded-out reading fp kind w h s old z)) ∙ number-of reading fp kind w h x y c hx hy hc s
 
-  pub shown-at : Shown fp kind w h s old x y c
-  unfolding blockTexel
+  pub shown-at : Shown reading fp kind w h s old x y c
   shown-at = record {
-    own = λ e. number-is ∙ rw (eq-eqb (faultOf (takesHdr kind) fp (blockAt s b)) 0 (sym fault-is ∙ e));
-    error = λ n. number-is ∙ rw (ne-eqb (faultOf (takesHdr kind) fp (blockAt s b)) 0 (λ e. n (fault-is ∙ e)));
+    own = λ e. number-is ∙ ap (λ (t : Texel). shownChannel kind t c) (own-texel kind fp (blockAt s b) (x % widthOf fp) (y % heightOf fp) reading (sym fault-is ∙ e));
+    error = λ n. number-is ∙ ap (λ (t : Texel). shownChannel kind t c) (error-shown kind fp (blockAt s b) (x % widthOf fp) (y % heightOf fp) reading (λ e. n (fault-is ∙ e)));
   }
 
-pub shown : (fp : ℕ) (kind : Kind) (w h : ℕ) (s old : List ℕ) → ShownEverywhere fp kind w h s old
-shown fp kind w h s old z x y c hx hy hc = shown-at fp kind w h s old z x y c hx hy hc
+pub shown : (reading : Reading) (fp : ℕ) (kind : Kind) (w h : ℕ) (s old : List ℕ) → ShownEverywhere reading fp kind w h s old
+shown reading fp kind w h s old z x y c hx hy hc = shown-at reading fp kind w h s old z x y c hx hy hc

@@ -1,5 +1,6 @@
 -- Which blocks of an image (01: picture) have a fault: 01, "A picture call answers the count of blocks with a fault, and the raster index and
 -- fault of the first one", told here of every block, with the numbers and the order of 01, "Numbers told to the caller".
+-- 02, b: in the ordinary reading or the strict one.
 -- Assumes nothing.
 use Prim.Native.Nat.{ℕ, _*_}
 use mathlib.Core.Bool.{not}
@@ -12,10 +13,11 @@ use Rattle.laws.specs.Reasons.{when, firstOf}
 use Rattle.interpolation.specs.declared.Kind.{Kind}
 use Rattle.kind_number.specs.Kinds.{kindOf}
 use Rattle.image_size.specs.Sides.{badSide, blocksOf}
+use Rattle.block_reading.specs.declared.Reading.{Reading}
 use Rattle.image_layout.specs.declared.ImageAnswer.{ImageAnswer}
 use Rattle.image_layout.specs.declared.ImageAnswer.the-variants.{Refused, Decoded}
-use Rattle.image_layout.specs.Numbers.{faultAt}
-use Rattle.image_layout.specs.Call.{imageTally, Told, toldDecoded}
+use Rattle.image_layout.specs.Numbers.{faultAtIn}
+use Rattle.image_layout.specs.Call.{imageTallyIn, Told, toldDecoded}
 
 -- "Refusals, tested in this order", with the kind's number k (02, i: 2 for "kinds above 2"), so many block bytes, and places for faults, one
 -- for each block; 0 for none
@@ -30,21 +32,21 @@ faultsRefusal fp k w h bytes places =
     ∷ [])
 
 -- the fault of each block in raster order, 0 for none
-unfoldable pub faultList : ℕ → Kind → ℕ → ℕ → List ℕ → List ℕ
-faultList fp kind w h s = tab (faultAt fp kind s) (blocksOf fp w h)
+unfoldable pub faultList : Reading → ℕ → Kind → ℕ → ℕ → List ℕ → List ℕ
+faultList reading fp kind w h s = tab (faultAtIn reading fp kind s) (blocksOf fp w h)
 
 -- the answer: the refusal, or the tally that the image call answers
-unfoldable pub faultsAnswer : ℕ → ℕ → ℕ → ℕ → List ℕ → ℕ → ImageAnswer
-faultsAnswer fp k w h s places =
+unfoldable pub faultsAnswer : Reading → ℕ → ℕ → ℕ → ℕ → List ℕ → ℕ → ImageAnswer
+faultsAnswer reading fp k w h s places =
     let e = faultsRefusal fp k w h (length s) places in
-    pick (eqb e 0) (Decoded (imageTally fp (kindOf k) w h s)) (Refused e)
+    pick (eqb e 0) (Decoded (imageTallyIn reading fp (kindOf k) w h s)) (Refused e)
 
 -- 01's numbers of it: on a refusal "all other numbers told are 0"
-unfoldable pub faultsTold : ℕ → ℕ → ℕ → ℕ → List ℕ → ℕ → Told
-faultsTold fp k w h s places =
+unfoldable pub faultsTold : Reading → ℕ → ℕ → ℕ → ℕ → List ℕ → ℕ → Told
+faultsTold reading fp k w h s places =
     let e = faultsRefusal fp k w h (length s) places in
-    pick (eqb e 0) (toldDecoded (imageTally fp (kindOf k) w h s)) (record { refusal = e; count = 0; first = 0; fault = 0 })
+    pick (eqb e 0) (toldDecoded (imageTallyIn reading fp (kindOf k) w h s)) (record { refusal = e; count = 0; first = 0; fault = 0 })
 
 -- the list after the call: "nothing is written" on a refusal
-unfoldable pub faultsOut : ℕ → ℕ → ℕ → ℕ → List ℕ → List ℕ → List ℕ
-faultsOut fp k w h s old = pick (eqb (faultsRefusal fp k w h (length s) (length old)) 0) (faultList fp (kindOf k) w h s) old
+unfoldable pub faultsOut : Reading → ℕ → ℕ → ℕ → ℕ → List ℕ → List ℕ → List ℕ
+faultsOut reading fp k w h s old = pick (eqb (faultsRefusal fp k w h (length s) (length old)) 0) (faultList reading fp (kindOf k) w h s) old

@@ -9,11 +9,12 @@ use Rattle.footprint.specs.Footprint.{widthOf, heightOf}
 use Rattle.interpolation.specs.declared.Kind.{Kind}
 use Rattle.texel.specs.Meaning.{errorTexel, shownChannel}
 use Rattle.texel.specs.BlockTexel.{soundTexel}
+use Rattle.block_reading.specs.declared.Reading.{Reading}
 use Rattle.image_size.specs.Sides.{blocksOf}
 use Rattle.image_layout.specs.Geometry.{blockIndex}
 use Rattle.image_layout.specs.Numbers.{blockAt}
 use Rattle.image_layout.specs.Faulty.{tallyOf}
-use Rattle.image_layout.specs.Call.{imageRefusal, imageTally, imageOut}
+use Rattle.image_layout.specs.Call.{imageRefusal, imageTallyIn, imageOutIn}
 use Rattle.image_layout.specs.OwnBlock.{place}
 use Rattle.image_faults.specs.Faults.{faultList}
 
@@ -22,18 +23,18 @@ abbrev pub listed : List ℕ → ℕ → ℕ
 listed l b = getD l b 0
 
 -- the count, the first index and the first fault, which the image call answers too, are those of the list
-abbrev pub Counted : ℕ → Kind → ℕ → ℕ → List ℕ → Type 0
-Counted fp kind w h s = imageTally fp kind w h s ≡ tallyOf (listed (faultList fp kind w h s)) (blocksOf fp w h)
+abbrev pub Counted : Reading → ℕ → Kind → ℕ → ℕ → List ℕ → Type 0
+Counted reading fp kind w h s = imageTallyIn reading fp kind w h s ≡ tallyOf (listed (faultList reading fp kind w h s)) (blocksOf fp w h)
 
 -- channel c of the texel in column x and row y of an image that the image call takes
-pub record Shown (fp : ℕ) (kind : Kind) (w h : ℕ) (s old : List ℕ) (x y c : ℕ) : Type 0 where
+pub record Shown (reading : Reading) (fp : ℕ) (kind : Kind) (w h : ℕ) (s old : List ℕ) (x y c : ℕ) : Type 0 where
   -- where the list has 0 at the texel's block, the image call shows that block's own texel,
-  pub own : listed (faultList fp kind w h s) (blockIndex fp w x y) ≡ 0
-      → getD (imageOut fp kind w h s old) (place w x y c) 0 ≡ shownChannel kind (soundTexel fp kind (blockAt s (blockIndex fp w x y)) (x % widthOf fp) (y % heightOf fp)) c
+  pub own : listed (faultList reading fp kind w h s) (blockIndex fp w x y) ≡ 0
+      → getD (imageOutIn reading fp kind w h s old) (place w x y c) 0 ≡ shownChannel kind (soundTexel fp kind (blockAt s (blockIndex fp w x y)) (x % widthOf fp) (y % heightOf fp)) c
   -- elsewhere the kind's error colour
-  pub error : (listed (faultList fp kind w h s) (blockIndex fp w x y) ≡ 0 → ⊥)
-      → getD (imageOut fp kind w h s old) (place w x y c) 0 ≡ shownChannel kind (errorTexel kind) c
+  pub error : (listed (faultList reading fp kind w h s) (blockIndex fp w x y) ≡ 0 → ⊥)
+      → getD (imageOutIn reading fp kind w h s old) (place w x y c) 0 ≡ shownChannel kind (errorTexel kind) c
 
 -- at every place
-abbrev pub ShownEverywhere : ℕ → Kind → ℕ → ℕ → List ℕ → List ℕ → Type 0
-ShownEverywhere fp kind w h s old = imageRefusal fp w h (length s) (length old) ≡ 0 → (x y c : ℕ) → x < w → y < h → c < 4 → Shown fp kind w h s old x y c
+abbrev pub ShownEverywhere : Reading → ℕ → Kind → ℕ → ℕ → List ℕ → List ℕ → Type 0
+ShownEverywhere reading fp kind w h s old = imageRefusal fp w h (length s) (length old) ≡ 0 → (x y c : ℕ) → x < w → y < h → c < 4 → Shown reading fp kind w h s old x y c

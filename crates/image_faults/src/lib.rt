@@ -1,6 +1,7 @@
 // The faults of an image (01: picture), block by block: settings are read, no texel is painted.
 use bits::PhysicalBlock;
 use block_fault::Verdict;
+use block_reading::Reading;
 use image_layout::ImageAnswer;
 use image_layout::Tally;
 use interpolation::Kind;
@@ -11,13 +12,14 @@ ghost use Rattle.laws.specs.Table.{tab};
 ghost use Rattle.bits.specs.Block.{blockNumber};
 ghost use Rattle.interpolation.specs.Expansion.{takesHdr};
 ghost use Rattle.block_fault.specs.Faults.{faultOf};
-ghost use Rattle.image_layout.specs.Numbers.{faultAt};
+ghost use Rattle.block_reading.specs.Faults.{faultIn};
+ghost use Rattle.image_layout.specs.Numbers.{faultAtIn};
 ghost use Rattle.image_layout.specs.Faulty.{tallyOf};
 ghost use Rattle.image_layout.specs.Call.{toldOf};
 ghost use Rattle.image_faults.specs.Faults.{faultsRefusal, faultsAnswer, faultsTold, faultsOut};
 
 // A block's fault by the kind's list, 0 for none.
-fn fault_of(kind: Kind, fp: u8, block: PhysicalBlock) -> u8
+fn ordinary_fault(kind: Kind, fp: u8, block: PhysicalBlock) -> u8
     ensures { λ r. ⌜ r ≡ faultOf (takesHdr kind) fp (blockNumber block) ⌝ }
 {
     let s = block_fault::read_settings(interpolation::takes_hdr(kind), block, fp);
@@ -26,6 +28,17 @@ fn fault_of(kind: Kind, fp: u8, block: PhysicalBlock) -> u8
         Verdict::Fault(n) => n,
         Verdict::VoidExtent => 0,
         Verdict::Coded => 0,
+    }
+}
+
+// The same by the list of a reading.
+fn fault_of(reading: Reading, kind: Kind, fp: u8, block: PhysicalBlock) -> u8
+    requires { ⌜ fp ≤ 13 ⌝ }
+    ensures { λ r. ⌜ r ≡ faultIn reading (takesHdr kind) fp (blockNumber block) ⌝ }
+{
+    match reading {
+        Reading::Ordinary => ordinary_fault(kind, fp, block),
+        Reading::Strict => strict_block::strict_fault(interpolation::takes_hdr(kind), fp, block),
     }
 }
 
@@ -54,11 +67,18 @@ pub fn refusal(footprint: u8, kind: u8, width: u32, height: u32, bytes: usize, p
 }
 
 // Every block's fault, in raster order, and the count of them.
-fn each_fault(kind: Kind, footprint: u8, blocks: &[u8], faults: &mut [u8]) -> Tally
+fn each_fault(
+    reading: Reading,
+    kind: Kind,
+    footprint: u8,
+    blocks: &[u8],
+    faults: &mut [u8],
+) -> Tally
+    requires { ⌜ footprint ≤ 13 ⌝ }
     requires { ⌜ length (now blocks) ≡ 16 * length (now faults) ⌝ }
     requires { ⌜ length (now faults) ≤ 268435456 ⌝ }
-    ensures { λ r. ⌜ r ≡ tallyOf (faultAt footprint kind (now (blocks .entry))) (length (now (faults .entry))) ⌝ }
-    ensures { λ _. ⌜ now (faults .exit) ≡ tab (faultAt footprint kind (now (blocks .entry))) (length (now (faults .entry))) ⌝ }
+    ensures { λ r. ⌜ r ≡ tallyOf (faultAtIn reading footprint kind (now (blocks .entry))) (length (now (faults .entry))) ⌝ }
+    ensures { λ _. ⌜ now (faults .exit) ≡ tab (faultAtIn reading footprint kind (now (blocks .entry))) (length (now (faults .entry))) ⌝ }
 {
     let mut t = Tally {
         count: 0,
@@ -67,7 +87,7 @@ fn each_fault(kind: Kind, footprint: u8, blocks: &[u8], faults: &mut [u8]) -> Ta
     };
     let mut b: usize = 0;
     while b < faults.len() {
-        let e = fault_of(kind, footprint, image_parts::block_of(blocks, b));
+        let e = fault_of(reading, kind, footprint, image_parts::block_of(blocks, b));
         faults[b] = e;
         t = image_layout::note(t, b as u64, e);
         b += 1;
@@ -75,9 +95,10 @@ fn each_fault(kind: Kind, footprint: u8, blocks: &[u8], faults: &mut [u8]) -> Ta
     t
 }
 
-// The fault of every block of an image by the list of a kind, told by its number, in raster order, a byte each, 0 for none; and the tally
+// The fault of every block of an image by the list of a reading and of a kind, told by its number, in raster order, a byte each, 0 for none; and the tally
 // of the image calls.
 pub fn image_faults(
+    reading: Reading,
     footprint: u8,
     kind: u8,
     width: u32,
@@ -85,13 +106,19 @@ pub fn image_faults(
     blocks: &[u8],
     faults: &mut [u8],
 ) -> ImageAnswer
-    ensures answer { λ r. ⌜ r ≡ faultsAnswer footprint kind width height (now (blocks .entry)) (length (now (faults .entry))) ⌝ }
-    ensures told { λ r. ⌜ toldOf r ≡ faultsTold footprint kind width height (now (blocks .entry)) (length (now (faults .entry))) ⌝ }
-    ensures list { λ _. ⌜ now (faults .exit) ≡ faultsOut footprint kind width height (now (blocks .entry)) (now (faults .entry)) ⌝ }
+    ensures answer { λ r. ⌜ r ≡ faultsAnswer reading footprint kind width height (now (blocks .entry)) (length (now (faults .entry))) ⌝ }
+    ensures told { λ r. ⌜ toldOf r ≡ faultsTold reading footprint kind width height (now (blocks .entry)) (length (now (faults .entry))) ⌝ }
+    ensures list { λ _. ⌜ now (faults .exit) ≡ faultsOut reading footprint kind width height (now (blocks .entry)) (now (faults .entry)) ⌝ }
 {
     let n = refusal(footprint, kind, width, height, blocks.len(), faults.len());
     if n != 0 {
         return ImageAnswer::Refused(n);
     }
-    ImageAnswer::Decoded(each_fault(kind_number::kind_of(kind), footprint, blocks, faults))
+    ImageAnswer::Decoded(each_fault(
+        reading,
+        kind_number::kind_of(kind),
+        footprint,
+        blocks,
+        faults,
+    ))
 }

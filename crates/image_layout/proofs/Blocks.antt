@@ -16,12 +16,13 @@ use Rattle.footprint.specs.Footprint.{widthOf, heightOf, texelsOf}
 use Rattle.interpolation.specs.declared.Kind.{Kind}
 use Rattle.interpolation.specs.Expansion.{shownOf}
 use Rattle.texel.specs.Meaning.{shownChannel}
-use Rattle.texel.specs.BlockTexel.{blockNumberAt, blockChannel}
+use Rattle.block_reading.specs.declared.Reading.{Reading}
+use Rattle.block_reading.specs.Shown.{numberAtIn, channelIn}
 use Rattle.image_layout.specs.Geometry.{blockIndex}
 use Rattle.image_size.specs.Sides.{blocksAcross}
-use Rattle.image_layout.specs.Numbers.{blockBytes, blockAt, imageNumberAt}
+use Rattle.image_layout.specs.Numbers.{blockBytes, blockAt, imageNumberAtIn}
 use Rattle.image_layout.proofs.Covering.{place-within}
-use Rattle.texel.proofs.Places.{number-at}
+use Rattle.block_reading.proofs.Shows.{number-at}
 use Rattle.image_layout.specs.OwnBlock.{place}
 use Rattle.image_layout.proofs.Regions.{Cropped, Placed, Tile, tile-of}
 
@@ -33,11 +34,11 @@ pub remainder : (q n d : ℕ) → d < n → (q * n + d) % n ≡ d
 remainder q n d h = mul-add-mod-self-right q n d ∙ mod-eq-of-lt h
 
 -- the image's number in the block (bx, by), by its place in the block
-pub number-in : (fp : ℕ) (kind : Kind) (w : ℕ) (s : List ℕ) (bx by dx dy c : ℕ) → dx < widthOf fp → dy < heightOf fp
-    → imageNumberAt fp kind w s (bx * widthOf fp + dx) (by * heightOf fp + dy) c
-    ≡ blockNumberAt fp kind (blockAt s (by * blocksAcross w (widthOf fp) + bx)) dx dy c
-unfolding imageNumberAt blockIndex
-number-in fp kind w s bx by dx dy c hx hy =
+pub number-in : (reading : Reading) (fp : ℕ) (kind : Kind) (w : ℕ) (s : List ℕ) (bx by dx dy c : ℕ) → dx < widthOf fp → dy < heightOf fp
+    → imageNumberAtIn reading fp kind w s (bx * widthOf fp + dx) (by * heightOf fp + dy) c
+    ≡ numberAtIn reading fp kind (blockAt s (by * blocksAcross w (widthOf fp) + bx)) dx dy c
+unfolding imageNumberAtIn blockIndex
+number-in reading fp kind w s bx by dx dy c hx hy =
     rw (quotient bx (widthOf fp) dx hx, quotient by (heightOf fp) dy hy, remainder bx (widthOf fp) dx hx, remainder by (heightOf fp) dy hy)
 
 -- a block's bytes are sixteen, each where it stands in the image's bytes
@@ -62,18 +63,18 @@ module _ (s : List ℕ) (b : ℕ) (h : 16 * b + 16 ≤ length s) where
         ]
 
 -- a block's numbers, copied as far as they are within the image
-pub tile-shown : (kind : Kind) (fp w h bw bh nx bx by cols rows : ℕ) (s buf old new : List ℕ)
+pub tile-shown : (reading : Reading) (kind : Kind) (fp w h bw bh nx bx by cols rows : ℕ) (s buf old new : List ℕ)
     → bw ≡ widthOf fp → bh ≡ heightOf fp → nx ≡ blocksAcross w bw → 0 < widthOf fp → 0 < heightOf fp
     → Cropped w (bx * bw) bw cols → Cropped h (by * bh) bh rows
     → Placed kind w (bx * bw) (by * bh) cols rows bw buf old new
-    → ((k : ℕ) → k < 4 * texelsOf fp → getD buf k 0 ≡ blockChannel fp kind (blockAt s (by * nx + bx)) k)
-    → Tile w h bw bh bx by (imageNumberAt fp kind w s) old new
+    → ((k : ℕ) → k < 4 * texelsOf fp → getD buf k 0 ≡ channelIn reading fp kind (blockAt s (by * nx + bx)) k)
+    → Tile w h bw bh bx by (imageNumberAtIn reading fp kind w s) old new
 unfolding texelsOf
-tile-shown kind fp w h bw bh nx bx by cols rows s buf old new eb eh en pw ph cc cr p held =
+tile-shown reading kind fp w h bw bh nx bx by cols rows s buf old new eb eh en pw ph cc cr p held =
     rw (eb, eh)
-    (tile-of kind w h (widthOf fp) (heightOf fp) bx by cols rows (imageNumberAt fp kind w s) buf old new pw ph (rw eb at cc) (rw eh at cr) (rw (eb, eh) at p)
+    (tile-of kind w h (widthOf fp) (heightOf fp) bx by cols rows (imageNumberAtIn reading fp kind w s) buf old new pw ph (rw eb at cc) (rw eh at cr) (rw (eb, eh) at p)
     (λ dx dy c hx hy hc.
     ap (shownOf kind) (held (place (widthOf fp) dx dy c) (place-within (widthOf fp) (heightOf fp) dx dy c hx hy hc))
-    ∙ number-at fp kind (blockAt s (by * nx + bx)) dx dy c hx hc
-    ∙ ap (λ (k : ℕ). blockNumberAt fp kind (blockAt s (by * k + bx)) dx dy c) (en ∙ ap (blocksAcross w) eb)
-    ∙ sym (number-in fp kind w s bx by dx dy c hx hy)))
+    ∙ number-at reading fp kind (blockAt s (by * nx + bx)) dx dy c hx hc
+    ∙ ap (λ (k : ℕ). numberAtIn reading fp kind (blockAt s (by * k + bx)) dx dy c) (en ∙ ap (blocksAcross w) eb)
+    ∙ sym (number-in reading fp kind w s bx by dx dy c hx hy)))

@@ -11,6 +11,7 @@ use borrow.Author.Tests.{eq-eqb, ne-eqb, lt-ltb, le-ltb}
 use Rattle.footprint.specs.Footprint.{widthOf, heightOf}
 use Rattle.footprint.proofs.Laws.{bounds}
 use Rattle.interpolation.specs.declared.Kind.{Kind}
+use Rattle.block_reading.specs.declared.Reading.{Reading}
 use Rattle.image_layout.specs.declared.ImageGrid.{ImageGrid}
 use Rattle.image_layout.specs.declared.ImageAnswer.{ImageAnswer}
 use Rattle.image_layout.specs.declared.ImageAnswer.the-variants.{Refused, Decoded}
@@ -19,9 +20,9 @@ use Rattle.image_layout.specs.declared.CheckedImage.the-variants.{Reject
 use Rattle.image_layout.specs.declared.Tally.{Tally}
 use Rattle.image_layout.specs.Geometry.{gridOf}
 use Rattle.image_size.specs.Sides.{blocksAcross, blocksOf, badSide}
-use Rattle.image_layout.specs.Numbers.{faultAt, imageNumbers}
+use Rattle.image_layout.specs.Numbers.{faultAtIn, imageNumbersIn}
 use Rattle.image_layout.specs.Faulty.{tallyOf}
-use Rattle.image_layout.specs.Call.{imageRefusal, checkedOf, imageTally, imageAnswer, imageOut, toldOf, imageTold}
+use Rattle.image_layout.specs.Call.{imageRefusal, checkedOf, imageTallyIn, imageAnswerIn, imageOutIn, toldOf, imageToldIn}
 use Rattle.image_size.proofs.Laws.{limit-le, side-fine, across-le, across-pos}
 use Rattle.image_layout.proofs.Covering.{mul-bound}
 
@@ -212,39 +213,39 @@ module _ (fp w h bytes places : ℕ) where
 -- ---- the answer, 01's numbers of it, and the buffer
 
 -- the answer tells 01's numbers
-pub answer-told : (fp : ℕ) (kind : Kind) (w h : ℕ) (s : List ℕ) (places : ℕ) → toldOf (imageAnswer fp kind w h s places) ≡ imageTold fp kind w h s places
-unfolding imageAnswer imageTold
-answer-told fp kind w h s places =
+pub answer-told : (reading : Reading) (fp : ℕ) (kind : Kind) (w h : ℕ) (s : List ℕ) (places : ℕ) → toldOf (imageAnswerIn reading fp kind w h s places) ≡ imageToldIn reading fp kind w h s places
+unfolding imageAnswerIn imageToldIn
+answer-told reading fp kind w h s places =
     elim (ℕ-discrete (imageRefusal fp w h (length s) places) 0) [
       | yes z ↦ rw z
       | no z ↦ rw (ne-eqb (imageRefusal fp w h (length s) places) 0 z)
     ]
 
 -- what a call promises: its answer, 01's numbers of it, and the buffer
-abbrev pub Promised : ℕ → Kind → ℕ → ℕ → List ℕ → List ℕ → ImageAnswer → List ℕ → Type 0
-Promised fp kind w h s old r new =
-    (r ≡ imageAnswer fp kind w h s (length old)) × ((toldOf r ≡ imageTold fp kind w h s (length old)) × (new ≡ imageOut fp kind w h s old))
+abbrev pub Promised : Reading → ℕ → Kind → ℕ → ℕ → List ℕ → List ℕ → ImageAnswer → List ℕ → Type 0
+Promised reading fp kind w h s old r new =
+    (r ≡ imageAnswerIn reading fp kind w h s (length old)) × ((toldOf r ≡ imageToldIn reading fp kind w h s (length old)) × (new ≡ imageOutIn reading fp kind w h s old))
 
-module _ (fp : ℕ) (kind : Kind) (w h : ℕ) (s old : List ℕ) where
-  promised : (r : ImageAnswer) (new : List ℕ) → r ≡ imageAnswer fp kind w h s (length old) → new ≡ imageOut fp kind w h s old → Promised fp kind w h s old r new
-  promised r new e p = (e, (ap toldOf e ∙ answer-told fp kind w h s (length old), p))
+module _ (reading : Reading) (fp : ℕ) (kind : Kind) (w h : ℕ) (s old : List ℕ) where
+  promised : (r : ImageAnswer) (new : List ℕ) → r ≡ imageAnswerIn reading fp kind w h s (length old) → new ≡ imageOutIn reading fp kind w h s old → Promised reading fp kind w h s old r new
+  promised r new e p = (e, (ap toldOf e ∙ answer-told reading fp kind w h s (length old), p))
 
   -- a refused call: its number, and the buffer as it was
-  pub refused : (e : ℕ) → checkedOf fp w h (length s) (length old) ≡ Rejected e → Promised fp kind w h s old (Refused e) old
-  unfolding imageAnswer imageOut
+  pub refused : (e : ℕ) → checkedOf fp w h (length s) (length old) ≡ Rejected e → Promised reading fp kind w h s old (Refused e) old
+  unfolding imageAnswerIn imageOutIn
   refused e q =
       let p = rejected fp w h (length s) (length old) e q in
       promised (Refused e) old (rw (p .told, ne-eqb e 0 (p .some)) refl) (rw (p .told, ne-eqb e 0 (p .some)) refl)
 
   -- an accepted one
-  pub decoded-out : imageRefusal fp w h (length s) (length old) ≡ 0 → imageNumbers fp kind w h s ≡ imageOut fp kind w h s old
-  unfolding imageOut
+  pub decoded-out : imageRefusal fp w h (length s) (length old) ≡ 0 → imageNumbersIn reading fp kind w h s ≡ imageOutIn reading fp kind w h s old
+  unfolding imageOutIn
   decoded-out z = rw z refl
 
   pub decoded : (g : ImageGrid) (t : Tally) (new : List ℕ) → checkedOf fp w h (length s) (length old) ≡ Accepted g
-      → t ≡ tallyOf (faultAt (g .footprint) kind s) (g .down * g .across) → new ≡ imageNumbers (g .footprint) kind (g .width) (g .height) s
-      → Promised fp kind w h s old (Decoded t) new
-  unfolding imageAnswer imageTally gridOf blocksOf
+      → t ≡ tallyOf (faultAtIn reading (g .footprint) kind s) (g .down * g .across) → new ≡ imageNumbersIn reading (g .footprint) kind (g .width) (g .height) s
+      → Promised reading fp kind w h s old (Decoded t) new
+  unfolding imageAnswerIn imageTallyIn gridOf blocksOf
   decoded g t new q e n =
       let p = accepted fp w h (length s) (length old) g q in
       promised (Decoded t) new (rw (p .none) (ap Decoded (rw (p .layout) at e))) ((rw (p .layout) at n) ∙ decoded-out (p .none))

@@ -14,20 +14,21 @@ use Rattle.footprint.specs.Footprint.{widthOf, heightOf, texelsOf}
 use Rattle.footprint.proofs.Laws.{bounds}
 use Rattle.interpolation.specs.declared.Kind.{Kind}
 use Rattle.interpolation.specs.Expansion.{shownOf}
-use Rattle.texel.specs.BlockTexel.{blockChannel, blockNumbers}
+use Rattle.block_reading.specs.declared.Reading.{Reading}
+use Rattle.block_reading.specs.Shown.{channelIn, numbersIn}
 use Rattle.block_answer.specs.Told.{blockRefusal}
-use Rattle.one_block.specs.Calls.{blockOut}
+use Rattle.one_block.specs.Calls.{blockOutIn}
 use Rattle.block_answer.proofs.Laws.{accepted}
 use Rattle.one_block.proofs.Laws.{written}
 use Rattle.image_layout.specs.Geometry.{blockIndex}
 use Rattle.image_size.specs.Sides.{blocksAcross, blocksOf}
-use Rattle.image_layout.specs.Numbers.{blockBytes, blockAt, imageNumberAt, imageNumbers}
-use Rattle.image_layout.specs.Call.{imageRefusal, imageOut}
+use Rattle.image_layout.specs.Numbers.{blockBytes, blockAt, imageNumberAtIn, imageNumbersIn}
+use Rattle.image_layout.specs.Call.{imageRefusal, imageOutIn}
 use Rattle.image_layout.proofs.Covering.{place-within, below-row}
 use Rattle.image_layout.specs.OwnBlock.{place, OwnBlock}
 use Rattle.image_size.proofs.Laws.{across-covers}
 use Rattle.image_layout.proofs.Blocks.{quotient, remainder, sixteen, byte-of}
-use Rattle.texel.proofs.Places.{number-at}
+use Rattle.block_reading.proofs.Shows.{number-at}
 use Rattle.image_layout.proofs.Calls.{accept, decoded-out}
 
 -- agreement byte by byte is agreement of the sixteen bytes
@@ -49,25 +50,26 @@ module _ (fp : ℕ) (kind : Kind) (w h x y c : ℕ) (hx : x < w) (hy : y < h) (h
       let r = below-row (blocksAcross w (widthOf fp)) (y / heightOf fp) (blocksAcross h (heightOf fp)) (across-covers h (heightOf fp) y q hy) in
       omega arith
 
-  -- the image's list by place
-  pub number-of : (s : List ℕ) → getD (imageNumbers fp kind w h s) (place w x y c) 0 ≡ imageNumberAt fp kind w s x y c
-  unfolding imageNumbers
-  number-of s =
-      let r = below-row w y h hy in
-      let e : (4 * (y * w + x) + c) / 4 ≡ y * w + x = omega arith in
-      let m : (4 * (y * w + x) + c) % 4 ≡ c = omega arith in
-      getD-tab (λ n. imageNumberAt fp kind w s (n / 4 % w) (n / 4 / w) (n % 4)) (4 * (h * w)) (place w x y c) 0 (omega arith)
-      ∙ rw (e, m, quotient y w x hx, remainder y w x hx)
-
   -- its sixteen bytes are all there
   whole : (s old : List ℕ) → imageRefusal fp w h (length s) (length old) ≡ 0 → 16 * blockIndex fp w x y + 16 ≤ length s
   whole s old z = let a = accept fp w h (length s) (length old) z in let i = index-in (a .footprint) in let e = a .exact-bytes in omega arith
 
+module _ (reading : Reading) (fp : ℕ) (kind : Kind) (w h x y c : ℕ) (hx : x < w) (hy : y < h) (hc : c < 4) where
+  -- the image's list by place
+  pub number-of : (s : List ℕ) → getD (imageNumbersIn reading fp kind w h s) (place w x y c) 0 ≡ imageNumberAtIn reading fp kind w s x y c
+  unfolding imageNumbersIn
+  number-of s =
+      let r = below-row w y h hy in
+      let e : (4 * (y * w + x) + c) / 4 ≡ y * w + x = omega arith in
+      let m : (4 * (y * w + x) + c) % 4 ≡ c = omega arith in
+      getD-tab (λ n. imageNumberAtIn reading fp kind w s (n / 4 % w) (n / 4 / w) (n % 4)) (4 * (h * w)) (place w x y c) 0 (omega arith)
+      ∙ rw (e, m, quotient y w x hx, remainder y w x hx)
+
   -- what an accepted call leaves there: the number that the one-block call leaves, for the texel's block, at its place in the block
   image-texel : (s old block : List ℕ) → imageRefusal fp w h (length s) (length old) ≡ 0 → length block ≡ 4 * texelsOf fp
-      → getD (imageOut fp kind w h s old) (place w x y c) 0
-      ≡ getD (blockOut kind fp (blockBytes s (blockIndex fp w x y)) block) (place (widthOf fp) (x % widthOf fp) (y % heightOf fp) c) 0
-  unfolding imageNumberAt blockAt blockNumbers texelsOf
+      → getD (imageOutIn reading fp kind w h s old) (place w x y c) 0
+      ≡ getD (blockOutIn reading kind fp (blockBytes s (blockIndex fp w x y)) block) (place (widthOf fp) (x % widthOf fp) (y % heightOf fp) c) 0
+  unfolding imageNumberAtIn blockAt numbersIn texelsOf
   image-texel s old block z size =
       let f = accept fp w h (length s) (length old) z .footprint in
       let b = bounds fp f in
@@ -75,27 +77,27 @@ module _ (fp : ℕ) (kind : Kind) (w h x y c : ℕ) (hx : x < w) (hy : y < h) (h
       let q : 0 < heightOf fp = let n = b .height-least in omega arith in
       let bytes : List ℕ = blockBytes s (blockIndex fp w x y) in
       let i : ℕ = place (widthOf fp) (x % widthOf fp) (y % heightOf fp) c in
-      let taken : blockRefusal fp (length bytes) (length block) ≡ 0 = sym (accepted fp (length bytes) (length block) (omega arith) (sixteen s (blockIndex fp w x y) (whole s old z)) size) in
-      ap (λ (l : List ℕ). getD l (place w x y c) 0) (sym (decoded-out fp kind w h s old z))
+      let taken : blockRefusal fp (length bytes) (length block) ≡ 0 = sym (accepted fp (length bytes) (length block) (omega arith) (sixteen s (blockIndex fp w x y) (whole fp kind w h x y c hx hy hc s old z)) size) in
+      ap (λ (l : List ℕ). getD l (place w x y c) 0) (sym (decoded-out reading fp kind w h s old z))
       ∙ number-of s
-      ∙ sym (number-at fp kind (numberOf bytes) (x % widthOf fp) (y % heightOf fp) c (mod-lt x p) hc)
-      ∙ sym (getD-tab (λ k. shownOf kind (blockChannel fp kind (numberOf bytes) k)) (4 * (widthOf fp * heightOf fp)) i 0 (place-within (widthOf fp) (heightOf fp) _ _ c (mod-lt x p) (mod-lt y q) hc))
-      ∙ ap (λ (l : List ℕ). getD l i 0) (written kind fp bytes block taken)
+      ∙ sym (number-at reading fp kind (numberOf bytes) (x % widthOf fp) (y % heightOf fp) c (mod-lt x p) hc)
+      ∙ sym (getD-tab (λ k. shownOf kind (channelIn reading fp kind (numberOf bytes) k)) (4 * (widthOf fp * heightOf fp)) i 0 (place-within (widthOf fp) (heightOf fp) _ _ c (mod-lt x p) (mod-lt y q) hc))
+      ∙ ap (λ (l : List ℕ). getD l i 0) (written reading kind fp bytes block taken)
 
   -- two images that agree on the texel's own sixteen bytes agree on the texel, whatever all other blocks hold
   same-texel : (s t old new : List ℕ) → imageRefusal fp w h (length s) (length old) ≡ 0 → imageRefusal fp w h (length t) (length new) ≡ 0
       → ((k : ℕ) → k < 16 → getD s (16 * blockIndex fp w x y + k) 0 ≡ getD t (16 * blockIndex fp w x y + k) 0)
-      → getD (imageOut fp kind w h s old) (place w x y c) 0 ≡ getD (imageOut fp kind w h t new) (place w x y c) 0
+      → getD (imageOutIn reading fp kind w h s old) (place w x y c) 0 ≡ getD (imageOutIn reading fp kind w h t new) (place w x y c) 0
   same-texel s t old new zs zt same =
       let i : ℕ = blockIndex fp w x y in
       let block : List ℕ = tab (λ k. 0) (4 * texelsOf fp) in
       let size : length block ≡ 4 * texelsOf fp = length-tab (λ k. 0) (4 * texelsOf fp) in
       image-texel s old block zs size
-      ∙ ap (λ (l : List ℕ). getD (blockOut kind fp l block) (place (widthOf fp) (x % widthOf fp) (y % heightOf fp) c) 0)
-      (same-bytes s t i (whole s old zs) (whole t new zt) same)
+      ∙ ap (λ (l : List ℕ). getD (blockOutIn reading kind fp l block) (place (widthOf fp) (x % widthOf fp) (y % heightOf fp) c) 0)
+      (same-bytes s t i (whole fp kind w h x y c hx hy hc s old zs) (whole fp kind w h x y c hx hy hc t new zt) same)
       ∙ sym (image-texel t new block zt size)
 
   -- ---- the whole
 
-  pub own-block : OwnBlock fp kind w h x y c
-  own-block = record { index-in = index-in; image-texel = image-texel; same-texel = same-texel }
+  pub own-block : OwnBlock reading fp kind w h x y c
+  own-block = record { index-in = index-in fp kind w h x y c hx hy hc; image-texel = image-texel; same-texel = same-texel }

@@ -8,12 +8,13 @@ use native.Mathlib.Omega.{arith}
 use lib.ListN.{length, getD}
 use Rattle.footprint.specs.Footprint.{texelsOf}
 use Rattle.interpolation.specs.declared.Kind.{Kind}
-use Rattle.texel.specs.BlockTexel.{blockChannel}
+use Rattle.block_reading.specs.declared.Reading.{Reading}
+use Rattle.block_reading.specs.Shown.{channelIn}
 use Rattle.image_layout.specs.declared.ImageGrid.{ImageGrid}
 use Rattle.image_layout.specs.declared.Part.{Part}
 use Rattle.image_layout.specs.declared.Run.{Run}
 use Rattle.image_layout.specs.declared.Tally.{Tally}
-use Rattle.image_layout.specs.Numbers.{blockAt, faultAt, imageNumberAt, imageNumbers}
+use Rattle.image_layout.specs.Numbers.{blockAt, faultAtIn, imageNumberAtIn, imageNumbersIn}
 use Rattle.image_layout.specs.Faulty.{tallyOf}
 use Rattle.image_layout.proofs.Covering.{mul-bound, below-row, block-place}
 use Rattle.image_size.proofs.Laws.{across-inside}
@@ -83,8 +84,8 @@ begins g b s h =
 -- ---- what a turn of each loop does
 
 -- the first b blocks of an ASTC image are decoded
-abbrev pub Decoding : Kind → ImageGrid → List ℕ → List ℕ → List ℕ → List ℕ → Tally → ℕ → Type 0
-Decoding kind g s old new buf t b = Walking (imageNumberAt (g .footprint) kind (g .width) s) (faultAt (g .footprint) kind s) 576 g old new buf t b
+abbrev pub Decoding : Reading → Kind → ImageGrid → List ℕ → List ℕ → List ℕ → List ℕ → Tally → ℕ → Type 0
+Decoding reading kind g s old new buf t b = Walking (imageNumberAtIn reading (g .footprint) kind (g .width) s) (faultAtIn reading (g .footprint) kind s) 576 g old new buf t b
 
 module _ (kind : Kind) (g : ImageGrid) where
   -- a row of a part
@@ -94,33 +95,33 @@ module _ (kind : Kind) (g : ImageGrid) where
   placed-row p dy r buf old l new f o pl q =
       placed-more kind (g .width) (p .x) (p .y) (p .columns) (g .columns) buf old dy l new (f .columns .in-side) pl (rw (o .from, o .n, o .at) at q)
 
-  module _ (sound : Sound g) (s : List ℕ) where
+  module _ (reading : Reading) (sound : Sound g) (s : List ℕ) where
     -- a block
     pub block-shown : (b : ℕ) (p : Part) (B : ℕ) (buf old new : List ℕ) → PartOf g b p → B ≡ blockAt s b
-        → ((k : ℕ) → k < 4 * texelsOf (g .footprint) → getD buf k 0 ≡ blockChannel (g .footprint) kind B k)
+        → ((k : ℕ) → k < 4 * texelsOf (g .footprint) → getD buf k 0 ≡ channelIn reading (g .footprint) kind B k)
         → Placed kind (g .width) (p .x) (p .y) (p .columns) (p .rows) (g .columns) buf old new
-        → Tile (g .width) (g .height) (g .columns) (g .rows) (b % g .across) (b / g .across) (imageNumberAt (g .footprint) kind (g .width) s) old new
+        → Tile (g .width) (g .height) (g .columns) (g .rows) (b % g .across) (b / g .across) (imageNumberAtIn reading (g .footprint) kind (g .width) s) old new
     block-shown b p B buf old new o e held pl =
         let i : b / g .across * g .across + b % g .across ≡ b = div-add-mod' b (g .across) in
         let j : B ≡ blockAt s (b / g .across * g .across + b % g .across) = e ∙ ap (blockAt s) (sym i) in
-        tile-shown kind (g .footprint) (g .width) (g .height) (g .columns) (g .rows) (g .across) (b % g .across) (b / g .across) (p .columns) (p .rows) s buf old new
+        tile-shown reading kind (g .footprint) (g .width) (g .height) (g .columns) (g .rows) (g .across) (b % g .across) (b / g .across) (p .columns) (p .rows) s buf old new
         (sound .columns) (sound .rows) (sound .across) (rw (sound .columns) at (sound .columns-least)) (rw (sound .rows) at (sound .rows-least))
         (rw (o .x) at (o .fits .columns)) (rw (o .y) at (o .fits .rows)) (rw (o .x, o .y) at pl)
-        (λ k h. held k h ∙ ap (λ (n : ℕ). blockChannel (g .footprint) kind n k) j)
+        (λ k h. held k h ∙ ap (λ (n : ℕ). channelIn reading (g .footprint) kind n k) j)
 
     -- before the first block
-    pub decoding-start : (old buf : List ℕ) → length buf ≡ 576 → Decoding kind g s old old buf (record { count = 0; first = 0; fault = 0 }) 0
-    decoding-start = walking-start (imageNumberAt (g .footprint) kind (g .width) s) (faultAt (g .footprint) kind s) 576 g sound
+    pub decoding-start : (old buf : List ℕ) → length buf ≡ 576 → Decoding reading kind g s old old buf (record { count = 0; first = 0; fault = 0 }) 0
+    decoding-start = walking-start (imageNumberAtIn reading (g .footprint) kind (g .width) s) (faultAtIn reading (g .footprint) kind s) 576 g sound
 
     -- one block more
-    pub decoding-more : (old l buf : List ℕ) (t : Tally) (b : ℕ) (new buf′ : List ℕ) (t′ : Tally) (e : ℕ) → Decoding kind g s old l buf t b
+    pub decoding-more : (old l buf : List ℕ) (t : Tally) (b : ℕ) (new buf′ : List ℕ) (t′ : Tally) (e : ℕ) → Decoding reading kind g s old l buf t b
         → b < g .down * g .across → length new ≡ length l → length buf′ ≡ 576
-        → Tile (g .width) (g .height) (g .columns) (g .rows) (b % g .across) (b / g .across) (imageNumberAt (g .footprint) kind (g .width) s) l new
-        → e ≡ faultAt (g .footprint) kind s b → t′ ≡ noted t b e → Decoding kind g s old new buf′ t′ (b + 1)
-    decoding-more = walking-more (imageNumberAt (g .footprint) kind (g .width) s) (faultAt (g .footprint) kind s) 576 g sound
+        → Tile (g .width) (g .height) (g .columns) (g .rows) (b % g .across) (b / g .across) (imageNumberAtIn reading (g .footprint) kind (g .width) s) l new
+        → e ≡ faultAtIn reading (g .footprint) kind s b → t′ ≡ noted t b e → Decoding reading kind g s old new buf′ t′ (b + 1)
+    decoding-more = walking-more (imageNumberAtIn reading (g .footprint) kind (g .width) s) (faultAtIn reading (g .footprint) kind s) 576 g sound
 
     -- after the last
-    pub decoding-done : (old l buf : List ℕ) (t : Tally) (b : ℕ) → length old ≡ 4 * (g .height * g .width) → g .down * g .across ≤ b → Decoding kind g s old l buf t b
-        → (t ≡ tallyOf (faultAt (g .footprint) kind s) (g .down * g .across)) × (l ≡ imageNumbers (g .footprint) kind (g .width) (g .height) s)
-    unfolding imageNumbers
-    decoding-done = walking-done (imageNumberAt (g .footprint) kind (g .width) s) (faultAt (g .footprint) kind s) 576 g sound
+    pub decoding-done : (old l buf : List ℕ) (t : Tally) (b : ℕ) → length old ≡ 4 * (g .height * g .width) → g .down * g .across ≤ b → Decoding reading kind g s old l buf t b
+        → (t ≡ tallyOf (faultAtIn reading (g .footprint) kind s) (g .down * g .across)) × (l ≡ imageNumbersIn reading (g .footprint) kind (g .width) (g .height) s)
+    unfolding imageNumbersIn
+    decoding-done = walking-done (imageNumberAtIn reading (g .footprint) kind (g .width) s) (faultAtIn reading (g .footprint) kind s) 576 g sound

@@ -1,4 +1,5 @@
--- 01, "Numbers told to the caller": what an image call refuses, answers and leaves in the result buffer.
+-- 01, "Numbers told to the caller": what an image call refuses, answers and leaves in the result buffer. 02, b: in the ordinary reading or the
+-- strict one, one text for both; the names without a reading are the ordinary one's.
 -- Assumes nothing.
 use Prim.Native.Nat.{ℕ, _*_}
 use mathlib.Core.Bool.{Bool, not}
@@ -8,6 +9,8 @@ use lib.ListN.{length}
 use Rattle.laws.specs.Choice.{pick, either}
 use Rattle.interpolation.specs.declared.Kind.{Kind}
 use Rattle.laws.specs.Reasons.{when, firstOf}
+use Rattle.block_reading.specs.declared.Reading.{Reading}
+use Rattle.block_reading.specs.declared.Reading.the-variants.{Ordinary}
 use Rattle.image_size.specs.Sides.{badSide, blocksOf}
 use Rattle.image_layout.specs.declared.Tally.{Tally}
 use Rattle.image_layout.specs.declared.ImageAnswer.{ImageAnswer}
@@ -15,7 +18,7 @@ use Rattle.image_layout.specs.declared.ImageAnswer.the-variants.{Refused
 use Rattle.image_layout.specs.declared.CheckedImage.{CheckedImage}
 use Rattle.image_layout.specs.declared.CheckedImage.the-variants.{Rejected, Accepted}
 use Rattle.image_layout.specs.Geometry.{gridOf}
-use Rattle.image_layout.specs.Numbers.{faultAt, imageNumbers}
+use Rattle.image_layout.specs.Numbers.{faultAtIn, imageNumbersIn}
 use Rattle.image_layout.specs.Faulty.{tallyOf}
 
 -- "Refusals, tested in this order", of an image call with so many block bytes and places for numbers; 0 for none
@@ -35,18 +38,27 @@ checkedOf fp w h bytes places =
     pick (eqb e 0) (Accepted (gridOf fp w h)) (Rejected e)
 
 -- the faults of an image's blocks
-unfoldable pub imageTally : ℕ → Kind → ℕ → ℕ → List ℕ → Tally
-imageTally fp kind w h s = tallyOf (faultAt fp kind s) (blocksOf fp w h)
+unfoldable pub imageTallyIn : Reading → ℕ → Kind → ℕ → ℕ → List ℕ → Tally
+imageTallyIn reading fp kind w h s = tallyOf (faultAtIn reading fp kind s) (blocksOf fp w h)
+
+abbrev pub imageTally : ℕ → Kind → ℕ → ℕ → List ℕ → Tally
+imageTally fp kind w h s = imageTallyIn Ordinary fp kind w h s
 
 -- the answer, for every input
-unfoldable pub imageAnswer : ℕ → Kind → ℕ → ℕ → List ℕ → ℕ → ImageAnswer
-imageAnswer fp kind w h s places =
+unfoldable pub imageAnswerIn : Reading → ℕ → Kind → ℕ → ℕ → List ℕ → ℕ → ImageAnswer
+imageAnswerIn reading fp kind w h s places =
     let e = imageRefusal fp w h (length s) places in
-    pick (eqb e 0) (Decoded (imageTally fp kind w h s)) (Refused e)
+    pick (eqb e 0) (Decoded (imageTallyIn reading fp kind w h s)) (Refused e)
+
+abbrev pub imageAnswer : ℕ → Kind → ℕ → ℕ → List ℕ → ℕ → ImageAnswer
+imageAnswer fp kind w h s places = imageAnswerIn Ordinary fp kind w h s places
 
 -- the result buffer after the call: "nothing is written" on a refusal
-unfoldable pub imageOut : ℕ → Kind → ℕ → ℕ → List ℕ → List ℕ → List ℕ
-imageOut fp kind w h s old = pick (eqb (imageRefusal fp w h (length s) (length old)) 0) (imageNumbers fp kind w h s) old
+unfoldable pub imageOutIn : Reading → ℕ → Kind → ℕ → ℕ → List ℕ → List ℕ → List ℕ
+imageOutIn reading fp kind w h s old = pick (eqb (imageRefusal fp w h (length s) (length old)) 0) (imageNumbersIn reading fp kind w h s) old
+
+abbrev pub imageOut : ℕ → Kind → ℕ → ℕ → List ℕ → List ℕ → List ℕ
+imageOut fp kind w h s old = imageOutIn Ordinary fp kind w h s old
 
 -- ---- 01's numbers
 
@@ -67,7 +79,10 @@ toldOf (Refused e) = record { refusal = e; count = 0; first = 0; fault = 0 }
 toldOf (Decoded t) = toldDecoded t
 
 -- what a call tells: on a refusal "all other numbers told are 0"
-unfoldable pub imageTold : ℕ → Kind → ℕ → ℕ → List ℕ → ℕ → Told
-imageTold fp kind w h s places =
+unfoldable pub imageToldIn : Reading → ℕ → Kind → ℕ → ℕ → List ℕ → ℕ → Told
+imageToldIn reading fp kind w h s places =
     let e = imageRefusal fp w h (length s) places in
-    pick (eqb e 0) (toldDecoded (imageTally fp kind w h s)) (record { refusal = e; count = 0; first = 0; fault = 0 })
+    pick (eqb e 0) (toldDecoded (imageTallyIn reading fp kind w h s)) (record { refusal = e; count = 0; first = 0; fault = 0 })
+
+abbrev pub imageTold : ℕ → Kind → ℕ → ℕ → List ℕ → ℕ → Told
+imageTold fp kind w h s places = imageToldIn Ordinary fp kind w h s places

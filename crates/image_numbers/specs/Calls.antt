@@ -6,8 +6,10 @@ use lib.Dec.{eqb}
 use lib.ListN.{length}
 use Rattle.laws.specs.Choice.{pick}
 use Rattle.interpolation.specs.declared.Kind.{Kind}
+use Rattle.block_reading.specs.declared.Reading.{Reading}
+use Rattle.block_reading.specs.declared.Reading.the-variants.{Ordinary}
 use Rattle.image_layout.specs.declared.Tally.{Tally}
-use Rattle.image_layout.specs.Call.{Told, imageRefusal, imageOut, imageTold}
+use Rattle.image_layout.specs.Call.{Told, imageRefusal, imageOutIn, imageToldIn}
 
 -- the count of blocks with a fault, and the raster index and fault of the first one
 abbrev pub tallyTold : Told → Tally
@@ -34,13 +36,22 @@ outWith n new old = pick (eqb n 3) new old
 abbrev pub tallyWith : Told → List ℕ → List ℕ
 tallyWith t old = pick (eqb (length old) 3) (tallyNumbers (tallyTold t)) old
 
--- ---- images
+-- ---- images, in a reading (02, b); the names without one are the ordinary reading's
+
+abbrev pub imageNumberIn : Reading → ℕ → Kind → ℕ → ℕ → List ℕ → ℕ → ℕ → ℕ
+imageNumberIn reading fp kind w h s places n = numberWith (imageToldIn reading fp kind w h s places) (imageRefusal fp w h (length s) places) n
+
+abbrev pub imageShownIn : Reading → ℕ → Kind → ℕ → ℕ → List ℕ → List ℕ → ℕ → List ℕ
+imageShownIn reading fp kind w h s old n = outWith n (imageOutIn reading fp kind w h s old) old
+
+abbrev pub tallyShownIn : Reading → ℕ → Kind → ℕ → ℕ → List ℕ → ℕ → List ℕ → List ℕ
+tallyShownIn reading fp kind w h s places old = tallyWith (imageToldIn reading fp kind w h s places) old
 
 abbrev pub imageNumber : ℕ → Kind → ℕ → ℕ → List ℕ → ℕ → ℕ → ℕ
-imageNumber fp kind w h s places n = numberWith (imageTold fp kind w h s places) (imageRefusal fp w h (length s) places) n
+imageNumber fp kind w h s places n = imageNumberIn Ordinary fp kind w h s places n
 
 abbrev pub imageShown : ℕ → Kind → ℕ → ℕ → List ℕ → List ℕ → ℕ → List ℕ
-imageShown fp kind w h s old n = outWith n (imageOut fp kind w h s old) old
+imageShown fp kind w h s old n = imageShownIn Ordinary fp kind w h s old n
 
 abbrev pub tallyShown : ℕ → Kind → ℕ → ℕ → List ℕ → ℕ → List ℕ → List ℕ
-tallyShown fp kind w h s places old = tallyWith (imageTold fp kind w h s places) old
+tallyShown fp kind w h s places old = tallyShownIn Ordinary fp kind w h s places old

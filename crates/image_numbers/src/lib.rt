@@ -1,4 +1,5 @@
 // The image calls over lent lists: what an image call tells, in a tally of three numbers that the caller lends.
+use block_reading::Reading;
 use image_layout::CheckedImage;
 use image_layout::ImageAnswer;
 use image_layout::Tally;
@@ -8,7 +9,7 @@ ghost use lib.ListN.{length};
 ghost use Rattle.interpolation.specs.declared.Kind.the-variants.{Srgb8};
 ghost use Rattle.one_block.specs.Calls.{Words};
 ghost use Rattle.image_layout.specs.Call.{imageRefusal, toldOf};
-ghost use Rattle.image_numbers.specs.Calls.{tallyTold, tallyNumbers, refusalOr5, imageNumber, imageShown, tallyShown};
+ghost use Rattle.image_numbers.specs.Calls.{tallyTold, tallyNumbers, refusalOr5, imageNumberIn, imageShownIn, tallyShownIn};
 
 // The first refusal of an image call, else 5.
 pub fn refusal_or_5(footprint: u8, width: u32, height: u32, bytes: usize, places: usize) -> u8
@@ -52,8 +53,9 @@ pub fn put_tally(t: Tally, tally: &mut [u64])
     tally[2] = t.fault as u64;
 }
 
-// An image in a kind of 16-bit numbers, with its tally.
+// An image in a kind of 16-bit numbers, in a reading, with its tally.
 pub fn image_words(
+    reading: Reading,
     kind: Kind,
     footprint: u8,
     width: u32,
@@ -63,20 +65,21 @@ pub fn image_words(
     tally: &mut [u64],
 ) -> u8
     requires { ⌜ Words kind ⌝ }
-    ensures { λ r. ⌜ r ≡ imageNumber footprint kind width height (now (blocks .entry)) (length (now (out .entry))) (length (now (tally .entry))) ⌝ }
-    ensures { λ r. ⌜ now (out .exit) ≡ imageShown footprint kind width height (now (blocks .entry)) (now (out .entry)) (length (now (tally .entry))) ⌝ }
-    ensures { λ r. ⌜ now (tally .exit) ≡ tallyShown footprint kind width height (now (blocks .entry)) (length (now (out .entry))) (now (tally .entry)) ⌝ }
+    ensures { λ r. ⌜ r ≡ imageNumberIn reading footprint kind width height (now (blocks .entry)) (length (now (out .entry))) (length (now (tally .entry))) ⌝ }
+    ensures { λ r. ⌜ now (out .exit) ≡ imageShownIn reading footprint kind width height (now (blocks .entry)) (now (out .entry)) (length (now (tally .entry))) ⌝ }
+    ensures { λ r. ⌜ now (tally .exit) ≡ tallyShownIn reading footprint kind width height (now (blocks .entry)) (length (now (out .entry))) (now (tally .entry)) ⌝ }
 {
     if tally.len() != 3 {
         return refusal_or_5(footprint, width, height, blocks.len(), out.len());
     }
-    let answer = image::decode_image_words(kind, footprint, width, height, blocks, out);
+    let answer = image::decode_words_in(reading, kind, footprint, width, height, blocks, out);
     put_tally(tally_told(answer), tally);
     refusal_told(answer)
 }
 
-// An image in kind 1, with its tally.
+// An image in kind 1, in a reading, with its tally.
 pub fn image_srgb8(
+    reading: Reading,
     footprint: u8,
     width: u32,
     height: u32,
@@ -84,14 +87,14 @@ pub fn image_srgb8(
     out: &mut [u8],
     tally: &mut [u64],
 ) -> u8
-    ensures { λ r. ⌜ r ≡ imageNumber footprint Srgb8 width height (now (blocks .entry)) (length (now (out .entry))) (length (now (tally .entry))) ⌝ }
-    ensures { λ r. ⌜ now (out .exit) ≡ imageShown footprint Srgb8 width height (now (blocks .entry)) (now (out .entry)) (length (now (tally .entry))) ⌝ }
-    ensures { λ r. ⌜ now (tally .exit) ≡ tallyShown footprint Srgb8 width height (now (blocks .entry)) (length (now (out .entry))) (now (tally .entry)) ⌝ }
+    ensures { λ r. ⌜ r ≡ imageNumberIn reading footprint Srgb8 width height (now (blocks .entry)) (length (now (out .entry))) (length (now (tally .entry))) ⌝ }
+    ensures { λ r. ⌜ now (out .exit) ≡ imageShownIn reading footprint Srgb8 width height (now (blocks .entry)) (now (out .entry)) (length (now (tally .entry))) ⌝ }
+    ensures { λ r. ⌜ now (tally .exit) ≡ tallyShownIn reading footprint Srgb8 width height (now (blocks .entry)) (length (now (out .entry))) (now (tally .entry)) ⌝ }
 {
     if tally.len() != 3 {
         return refusal_or_5(footprint, width, height, blocks.len(), out.len());
     }
-    let answer = image::decode_image_srgb8(footprint, width, height, blocks, out);
+    let answer = image::decode_srgb8_in(reading, footprint, width, height, blocks, out);
     put_tally(tally_told(answer), tally);
     refusal_told(answer)
 }

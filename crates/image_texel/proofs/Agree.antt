@@ -12,6 +12,7 @@ use Rattle.image_size.proofs.Laws.{fine}
 use Rattle.image_layout.specs.Numbers.{imageNumberAt}
 use Rattle.image_layout.specs.Call.{imageRefusal, imageOut}
 use Rattle.image_layout.specs.OwnBlock.{place}
+use Rattle.block_reading.specs.declared.Reading.the-variants.{Ordinary}
 use Rattle.image_layout.proofs.Calls.{accept, decoded-out}
 use Rattle.image_layout.proofs.Independence.{index-in, number-of}
 use Rattle.image_texel.specs.declared.Asked.{Asked}
@@ -48,5 +49,5 @@ module _ (fp : ℕ) (kind : Kind) (w h x y : ℕ) (s old : List ℕ) (hx : x < w
     its-texel = λ c hc.
         ap (λ (a : Asked). channel (a .texel) c) is
         ∙ four fp kind w s x y c hc
-        ∙ sym (ap (λ (l : List ℕ). getD l (place w x y c) 0) (sym (decoded-out fp kind w h s old taken)) ∙ number-of fp kind w h x y c hx hy hc s);
+        ∙ sym (ap (λ (l : List ℕ). getD l (place w x y c) 0) (sym (decoded-out Ordinary fp kind w h s old taken)) ∙ number-of Ordinary fp kind w h x y c hx hy hc s);
   }

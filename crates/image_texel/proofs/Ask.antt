@@ -17,13 +17,14 @@ use Rattle.interpolation.specs.declared.Kind.{Kind}
 use Rattle.interpolation.specs.declared.Kind.the-variants.{Unorm16, Srgb8, Float16}
 use Rattle.interpolation.specs.declared.Texel.{Texel}
 use Rattle.texel.specs.Meaning.{channel, shownChannel}
-use Rattle.texel.specs.BlockTexel.{blockTexel, blockNumberAt}
+use Rattle.texel.specs.BlockTexel.{blockTexel}
+use Rattle.block_reading.specs.Shown.{numberAtIn}
 use Rattle.image_size.specs.Sides.{sideLimit, badSide, sizeRefusal, blocksAcross, blocksOf}
 use Rattle.image_size.proofs.Laws.{limit-le, sized, side-fine, across-le, product-most}
 use Rattle.footprint.proofs.Laws.{bounds}
 use Rattle.image_layout.specs.Geometry.{blockIndex}
 use Rattle.image_layout.proofs.Independence.{index-in}
-use Rattle.image_layout.specs.Numbers.{blockAt, faultAt, imageNumberAt}
+use Rattle.image_layout.specs.Numbers.{blockAt, faultAt, faultAtIn, imageNumberAtIn}
 use Rattle.one_texel.specs.declared.OneTexel.{OneTexel}
 use Rattle.one_texel.specs.Texel.{oneTexel}
 use Rattle.image_texel.specs.declared.Sides.{Sides}
@@ -188,7 +189,7 @@ fits-none kind a e = rw e (record { bytes = λ q. (omega arith, omega arith, ome
 -- each channel of a block's texel as the picture has it
 shown-as : (fp : ℕ) (kind : Kind) (w : ℕ) (s : List ℕ) (x y : ℕ)
     → shownTexel kind (blockTexel fp kind (blockAt s (blockIndex fp w x y)) (x % widthOf fp) (y % heightOf fp)) ≡ askedIn fp w s kind x y .texel
-unfolding shownTexel askedIn imageNumberAt blockNumberAt shownChannel channel
+unfolding shownTexel askedIn imageNumberAtIn numberAtIn shownChannel channel
 shown-as fp kind w s x y = refl
 
 whole : (fp w : ℕ) (s : List ℕ) (kind : Kind) (x y : ℕ) {fault : ℕ} {u : Texel} → fault ≡ faultAt fp kind s (blockIndex fp w x y) → u ≡ askedIn fp w s kind x y .texel
@@ -200,7 +201,7 @@ pub asked-told : (fp w : ℕ) (s : List ℕ) (kind : Kind) (x y : ℕ) {columns 
     → columns ≡ widthOf fp → rows ≡ heightOf fp → across ≡ blocksAcross w columns → b ≡ y / rows * across + x / columns → B ≡ blockAt s b
     → dx ≡ x % columns → dy ≡ y % rows → t ≡ oneTexel fp kind B dx dy → u ≡ shownTexel kind (t .texel)
     → _≡_ {A = Asked} (record { refusal = 0; fault = t .fault; texel = u }) (askedIn fp w s kind x y)
-unfolding oneTexel faultAt
+unfolding oneTexel faultAtIn
 asked-told fp w s kind x y t {u} ec er ea eb eB ex ey et eu =
     let k : t ≡ oneTexel fp kind (blockAt s (blockIndex fp w x y)) (x % widthOf fp) (y % heightOf fp) = et ∙ rw (eB, index-is fp w x y ec er ea eb, ex, ey, ec, er) in
     whole fp w s kind x y (ap (λ (a : OneTexel). a .fault) k) (eu ∙ ap (λ (a : OneTexel). shownTexel kind (a .texel)) k ∙ shown-as fp kind w s x y)

@@ -1,5 +1,6 @@
-// One block to texels: a call for each kind.
+// One block to texels: a call for each kind, in the ordinary reading and in the strict one.
 use block_answer::Answer;
+use block_reading::Reading;
 use interpolation::Kind;
 ghost use mathlib.Core.Path.{_≡_};
 ghost use Prim.Native.Nat.{_/_, _≤_};
@@ -7,7 +8,8 @@ ghost use lib.ListN.{length, getD};
 ghost use Rattle.laws.specs.Table.{tab};
 ghost use Rattle.interpolation.specs.declared.Kind.the-variants.{Unorm16, Srgb8, Float16};
 ghost use Rattle.block_answer.specs.Told.{blockRefusal, numberTold};
-ghost use Rattle.one_block.specs.Calls.{blockAnswer, blockTold, blockOut, Words};
+ghost use Rattle.one_block.specs.Calls.{blockAnswer, blockTold, blockOut, blockAnswerIn, blockToldIn, blockOutIn, Words};
+ghost use Rattle.block_reading.specs.declared.Reading.the-variants.{Strict};
 
 // The first numbers of the buffer, as they stand.
 fn copy_words(from: &[u16; 576], out: &mut [u16])
@@ -34,18 +36,19 @@ fn copy_bytes(from: &[u16; 576], out: &mut [u8])
 }
 
 // The block in a kind of 16-bit numbers, once the refusal n is known.
-fn show_words(n: u8, fp: u8, kind: Kind, block: &[u8], out: &mut [u16]) -> Answer
+fn show_words(reading: Reading, n: u8, fp: u8, kind: Kind, block: &[u8], out: &mut [u16]) -> Answer
     requires { ⌜ n ≡ blockRefusal fp (length (now block)) (length (now out)) ⌝ }
     requires { ⌜ Words kind ⌝ }
-    ensures { λ r. ⌜ r ≡ blockAnswer kind fp (now (block .entry)) (length (now (out .entry))) ⌝ }
-    ensures { λ r. ⌜ now (out .exit) ≡ blockOut kind fp (now (block .entry)) (now (out .entry)) ⌝ }
-    ensures { λ r. ⌜ numberTold r ≡ blockTold kind fp (now (block .entry)) (length (now (out .entry))) ⌝ }
+    ensures { λ r. ⌜ r ≡ blockAnswerIn reading kind fp (now (block .entry)) (length (now (out .entry))) ⌝ }
+    ensures { λ r. ⌜ now (out .exit) ≡ blockOutIn reading kind fp (now (block .entry)) (now (out .entry)) ⌝ }
+    ensures { λ r. ⌜ numberTold r ≡ blockToldIn reading kind fp (now (block .entry)) (length (now (out .entry))) ⌝ }
 {
     if n != 0 {
         return Answer::Refused(n);
     }
     let mut buffer = [0u16; 576];
-    let fault = block_core::decode_into(bits::load(block), fp, kind, &mut buffer);
+    let b = bits::load(block);
+    let fault = strict_block::decode_in(reading, b, fp, kind, &mut buffer);
     copy_words(&buffer, out);
     block_answer::answer_for(fault)
 }
@@ -57,7 +60,7 @@ pub fn decode_unorm16(fp: u8, block: &[u8], out: &mut [u16]) -> Answer
     ensures { λ r. ⌜ numberTold r ≡ blockTold Unorm16 fp (now (block .entry)) (length (now (out .entry))) ⌝ }
 {
     let n = block_answer::refusal(fp, block.len(), out.len());
-    show_words(n, fp, Kind::Unorm16, block, out)
+    show_words(Reading::Ordinary, n, fp, Kind::Unorm16, block, out)
 }
 
 // The texels of a block in kind 2: four half floats each, as their 16-bit patterns.
@@ -67,21 +70,22 @@ pub fn decode_float16(fp: u8, block: &[u8], out: &mut [u16]) -> Answer
     ensures { λ r. ⌜ numberTold r ≡ blockTold Float16 fp (now (block .entry)) (length (now (out .entry))) ⌝ }
 {
     let n = block_answer::refusal(fp, block.len(), out.len());
-    show_words(n, fp, Kind::Float16, block, out)
+    show_words(Reading::Ordinary, n, fp, Kind::Float16, block, out)
 }
 
 // The block in kind 1, once the refusal n is known.
-fn show_bytes(n: u8, fp: u8, block: &[u8], out: &mut [u8]) -> Answer
+fn show_bytes(reading: Reading, n: u8, fp: u8, block: &[u8], out: &mut [u8]) -> Answer
     requires { ⌜ n ≡ blockRefusal fp (length (now block)) (length (now out)) ⌝ }
-    ensures { λ r. ⌜ r ≡ blockAnswer Srgb8 fp (now (block .entry)) (length (now (out .entry))) ⌝ }
-    ensures { λ r. ⌜ now (out .exit) ≡ blockOut Srgb8 fp (now (block .entry)) (now (out .entry)) ⌝ }
-    ensures { λ r. ⌜ numberTold r ≡ blockTold Srgb8 fp (now (block .entry)) (length (now (out .entry))) ⌝ }
+    ensures { λ r. ⌜ r ≡ blockAnswerIn reading Srgb8 fp (now (block .entry)) (length (now (out .entry))) ⌝ }
+    ensures { λ r. ⌜ now (out .exit) ≡ blockOutIn reading Srgb8 fp (now (block .entry)) (now (out .entry)) ⌝ }
+    ensures { λ r. ⌜ numberTold r ≡ blockToldIn reading Srgb8 fp (now (block .entry)) (length (now (out .entry))) ⌝ }
 {
     if n != 0 {
         return Answer::Refused(n);
     }
     let mut buffer = [0u16; 576];
-    let fault = block_core::decode_into(bits::load(block), fp, Kind::Srgb8, &mut buffer);
+    let b = bits::load(block);
+    let fault = strict_block::decode_in(reading, b, fp, Kind::Srgb8, &mut buffer);
     copy_bytes(&buffer, out);
     block_answer::answer_for(fault)
 }
@@ -93,5 +97,37 @@ pub fn decode_srgb8(fp: u8, block: &[u8], out: &mut [u8]) -> Answer
     ensures { λ r. ⌜ numberTold r ≡ blockTold Srgb8 fp (now (block .entry)) (length (now (out .entry))) ⌝ }
 {
     let n = block_answer::refusal(fp, block.len(), out.len());
-    show_bytes(n, fp, block, out)
+    show_bytes(Reading::Ordinary, n, fp, block, out)
+}
+
+// ---- the strict reading
+
+// In kind 0.
+pub fn decode_unorm16_strict(fp: u8, block: &[u8], out: &mut [u16]) -> Answer
+    ensures { λ r. ⌜ r ≡ blockAnswerIn Strict Unorm16 fp (now (block .entry)) (length (now (out .entry))) ⌝ }
+    ensures { λ r. ⌜ now (out .exit) ≡ blockOutIn Strict Unorm16 fp (now (block .entry)) (now (out .entry)) ⌝ }
+    ensures { λ r. ⌜ numberTold r ≡ blockToldIn Strict Unorm16 fp (now (block .entry)) (length (now (out .entry))) ⌝ }
+{
+    let n = block_answer::refusal(fp, block.len(), out.len());
+    show_words(Reading::Strict, n, fp, Kind::Unorm16, block, out)
+}
+
+// In kind 2.
+pub fn decode_float16_strict(fp: u8, block: &[u8], out: &mut [u16]) -> Answer
+    ensures { λ r. ⌜ r ≡ blockAnswerIn Strict Float16 fp (now (block .entry)) (length (now (out .entry))) ⌝ }
+    ensures { λ r. ⌜ now (out .exit) ≡ blockOutIn Strict Float16 fp (now (block .entry)) (now (out .entry)) ⌝ }
+    ensures { λ r. ⌜ numberTold r ≡ blockToldIn Strict Float16 fp (now (block .entry)) (length (now (out .entry))) ⌝ }
+{
+    let n = block_answer::refusal(fp, block.len(), out.len());
+    show_words(Reading::Strict, n, fp, Kind::Float16, block, out)
+}
+
+// In kind 1.
+pub fn decode_srgb8_strict(fp: u8, block: &[u8], out: &mut [u8]) -> Answer
+    ensures { λ r. ⌜ r ≡ blockAnswerIn Strict Srgb8 fp (now (block .entry)) (length (now (out .entry))) ⌝ }
+    ensures { λ r. ⌜ now (out .exit) ≡ blockOutIn Strict Srgb8 fp (now (block .entry)) (now (out .entry)) ⌝ }
+    ensures { λ r. ⌜ numberTold r ≡ blockToldIn Strict Srgb8 fp (now (block .entry)) (length (now (out .entry))) ⌝ }
+{
+    let n = block_answer::refusal(fp, block.len(), out.len());
+    show_bytes(Reading::Strict, n, fp, block, out)
 }

@@ -27,6 +27,7 @@ use Rattle.block_answer.specs.Told.{numberTold, answerFor, blockRefusal}
 use Rattle.one_block.specs.Calls.{blockAnswer, blockOut}
 use Rattle.block_answer.proofs.Laws.{accepted}
 use Rattle.one_block.proofs.Laws as one
+use Rattle.block_reading.specs.declared.Reading.the-variants.{Ordinary}
 use Rattle.symbolic_block.specs.declared.SymbolicBlock.{SymbolicBlock}
 use Rattle.symbolic_block.specs.Fields.{Sized}
 use Rattle.symbolic_block.specs.Refusals.{unknownFootprint, modeRefusals, voidRefusals, refusals, refusalOf, Acceptable}
@@ -53,7 +54,7 @@ module _ (fp : ℕ) (s : SymbolicBlock) where
   footprint-first true e = e
   footprint-first false e = e
 
-  known : Acceptable fp s → fp ≤ 13
+  pub known : Acceptable fp s → fp ≤ 13
   unfolding refusals
   known a = ltb-false 13 fp (footprint-first (eqb (s .mark) 1) (demand-3 .refused-exactly fp s .0 a 0))
 
@@ -80,7 +81,7 @@ module _ (fp : ℕ) (block : List ℕ) (h : Sound fp block) where
   unfolding readingIn
   sound-in = rw (eq-eqb _ _ (h .no-fault))
 
-  sound-read : readingOf fp block ≡ done (numberOf block) (readBlock (numberOf block))
+  pub sound-read : readingOf fp block ≡ done (numberOf block) (readBlock (numberOf block))
   sound-read = sym (reader.passed-reading fp block (sym (reader.accepted fp _ (h .known) (h .sixteen)))) ∙ sound-in
 
   module _ (old : List ℕ) (size : length old ≡ 4 * texelsOf fp) where
@@ -89,21 +90,21 @@ module _ (fp : ℕ) (block : List ℕ) (h : Sound fp block) where
 
     sound-answer : (kind : Kind) → FineIn kind fp block → blockAnswer kind fp block (length old) ≡ Done
     unfolding answerFor
-    sound-answer kind k = sym (one.answered kind fp block old taken) ∙ ap answerFor k
+    sound-answer kind k = sym (one.answered Ordinary kind fp block old taken) ∙ ap answerFor k
 
     sound-out : (kind : Kind) → blockOut kind fp block old ≡ blockNumbers fp kind (numberOf block)
-    sound-out kind = sym (one.written kind fp block old taken)
+    sound-out kind = sym (one.ordinary-out kind fp block old taken)
 
 -- ---- an acceptable symbolic block
 
 module _ (fp : ℕ) (s : SymbolicBlock) (z : Sized s) (a : Acceptable fp s) where
-  bytes-are : writingOf fp s .bytes ≡ bytesOf 16 (blockOf s)
+  pub bytes-are : writingOf fp s .bytes ≡ bytesOf 16 (blockOf s)
   bytes-are = ap (λ (w : Writing). w .bytes) (sym (writer.written fp s a))
 
-  number : numberOf (writingOf fp s .bytes) ≡ blockOf s
+  pub number : numberOf (writingOf fp s .bytes) ≡ blockOf s
   number = ap numberOf bytes-are ∙ number-bytes 16 (blockOf s) ∙ mod-eq-of-lt (demand-3 .written-fits fp s z a)
 
-  sound : Sound fp (writingOf fp s .bytes)
+  pub sound : Sound fp (writingOf fp s .bytes)
   sound = record {
     known = known fp s a;
     sixteen = ap (λ (l : List ℕ). length l) bytes-are ∙ bytes-length 16 (blockOf s);

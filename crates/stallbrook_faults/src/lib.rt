@@ -1,17 +1,10 @@
 // The calls exported to C for the faults of an image's blocks, and for sizes.
+use block_reading::Reading;
 ghost use mathlib.Core.Path.{_≡_};
 ghost use lib.ListN.{length};
-ghost use Rattle.image_numbers.specs.Calls.{refusalOr5};
-ghost use Rattle.image_faults.specs.Faults.{faultsRefusal};
-ghost use Rattle.stallbrook_faults.specs.Calls.{faultsNumber, faultsShown, faultsTally, imageBlocks, bufferNumbers, blockNumbers};
-
-// The first refusal, else 5.
-fn refusal_or_5(footprint: u8, kind: u8, width: u32, height: u32, bytes: usize, places: usize) -> u8
-    ensures { λ r. ⌜ r ≡ refusalOr5 (faultsRefusal footprint kind width height bytes places) ⌝ }
-{
-    let e = image_faults::refusal(footprint, kind, width, height, bytes, places);
-    if e == 0 { 5 } else { e }
-}
+ghost use Rattle.block_reading.specs.declared.Reading.the-variants.{Ordinary};
+ghost use Rattle.fault_numbers.specs.Calls.{faultsNumber, faultsShown, faultsTally};
+ghost use Rattle.stallbrook_faults.specs.Calls.{imageBlocks, bufferNumbers, blockNumbers};
 
 // The fault of each block, 0 for none, in raster order: 0, or the refusal's number with `faults` as it was; `tally` as in the image calls.
 #[no_mangle]
@@ -24,16 +17,20 @@ pub extern "C" fn stallbrook_astc_image_faults(
     faults: &mut [u8],
     tally: &mut [u64],
 ) -> u8
-    ensures { λ r. ⌜ r ≡ faultsNumber footprint kind width height (now (blocks .entry)) (length (now (faults .entry))) (length (now (tally .entry))) ⌝ }
-    ensures { λ r. ⌜ now (faults .exit) ≡ faultsShown footprint kind width height (now (blocks .entry)) (now (faults .entry)) (length (now (tally .entry))) ⌝ }
-    ensures { λ r. ⌜ now (tally .exit) ≡ faultsTally footprint kind width height (now (blocks .entry)) (length (now (faults .entry))) (now (tally .entry)) ⌝ }
+    ensures { λ r. ⌜ r ≡ faultsNumber Ordinary footprint kind width height (now (blocks .entry)) (length (now (faults .entry))) (length (now (tally .entry))) ⌝ }
+    ensures { λ r. ⌜ now (faults .exit) ≡ faultsShown Ordinary footprint kind width height (now (blocks .entry)) (now (faults .entry)) (length (now (tally .entry))) ⌝ }
+    ensures { λ r. ⌜ now (tally .exit) ≡ faultsTally Ordinary footprint kind width height (now (blocks .entry)) (length (now (faults .entry))) (now (tally .entry)) ⌝ }
 {
-    if tally.len() != 3 {
-        return refusal_or_5(footprint, kind, width, height, blocks.len(), faults.len());
-    }
-    let answer = image_faults::image_faults(footprint, kind, width, height, blocks, faults);
-    image_numbers::put_tally(image_numbers::tally_told(answer), tally);
-    image_numbers::refusal_told(answer)
+    fault_numbers::faults_told(
+        Reading::Ordinary,
+        footprint,
+        kind,
+        width,
+        height,
+        blocks,
+        faults,
+        tally,
+    )
 }
 
 // How many blocks an image has: 0 where its footprint or a side is refused.

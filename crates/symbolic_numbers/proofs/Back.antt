@@ -41,13 +41,13 @@ module _ (numbers : List ℕ) (l : length numbers ≡ 104) where
 
     pub list-back : (readNumber fp (writeBlock fp numbers old) (length told) (length spare) ≡ 0) × (readNumbers fp (writeBlock fp numbers old) told (length spare) ≡ numbers)
     list-back = (
-      sym (number-read fp (writeBlock fp numbers old) told spare room two) ∙ ap (λ (r : SymbolicReading). numberTold (r .answer)) read,
-      sym (numbers-read fp (writeBlock fp numbers old) told spare room two) ∙ ap (λ (r : SymbolicReading). flatOf (r .block)) read ∙ flat-from,
+      sym (number-read (readingOf fp (writeBlock fp numbers old)) told spare room two) ∙ ap (λ (r : SymbolicReading). numberTold (r .answer)) read,
+      sym (numbers-read (readingOf fp (writeBlock fp numbers old)) told spare room two) ∙ ap (λ (r : SymbolicReading). flatOf (r .block)) read ∙ flat-from,
     )
 
     -- with no spare bit set
     pub spare-back : readSpare fp (writeBlock fp numbers old) (length told) spare ≡ spareCount (blockFrom numbers) ∷ 0 ∷ []
     spare-back =
-        sym (spare-read fp (writeBlock fp numbers old) told spare room two)
+        sym (spare-read (readingOf fp (writeBlock fp numbers old)) told spare room two)
         ∙ ap (λ (r : SymbolicReading). spareNumbers (r .spare)) read
         ∙ ap₂ (λ (n : ℕ) (set : Bool). n ∷ pick set 1 0 ∷ []) (count-is (blockOf (blockFrom numbers)) (blockFrom numbers)) (written-clear fp (blockFrom numbers) (from-sized numbers) acceptable)

@@ -23,9 +23,9 @@ use Rattle.symbolic_block.specs.Writing.{blockOf}
 use Rattle.symbolic_block.proofs.Lists.{tab-back, stored-back}
 use Rattle.symbolic_calls.specs.Writing.{wrote, wroteNothing, writingOf}
 use Rattle.symbolic_calls.proofs.Laws.{told-number}
-use Rattle.symbolic_reader.specs.Answers.{readingOf}
+use Rattle.symbolic_reader.specs.declared.SymbolicReading.{SymbolicReading}
 use Rattle.symbolic_numbers.specs.Numbers.{settingsWith, settingsOf, flatAt, flatOf, blockOver, blockFrom, clippedNumbers, endpointsFit}
-use Rattle.symbolic_numbers.specs.Calls.{refusedOr5, roomFor, readNumber, readNumbers, readSpare, lentRefusal, writeNumber, writeBlock}
+use Rattle.symbolic_numbers.specs.Calls.{refusedOr5, roomFor, putNumber, putNumbers, putSpare, lentRefusal, writeNumber, writeBlock}
 use Rattle.symbolic_clip.proofs.Clip.{clip, fits, refused-1}
 
 -- ---- the reader's call
@@ -50,31 +50,31 @@ no-room n m (inr h) = rw (ne-eqb m 2 h) (off (eqb n 104)) where
   off true = refl
   off false = refl
 
-module _ (fp : ℕ) (s old spare : List ℕ) where
+module _ (r : SymbolicReading) (old spare : List ℕ) where
   module _ (h : (length old ≡ 104 → ⊥) ⊎ (length spare ≡ 2 → ⊥)) where
-    pub number-5 : refusedOr5 (readingOf fp s .answer) ≡ readNumber fp s (length old) (length spare)
-    unfolding readNumber
+    pub number-5 : refusedOr5 (r .answer) ≡ putNumber r (length old) (length spare)
+    unfolding putNumber
     number-5 = rw (no-room (length old) (length spare) h)
 
-    pub numbers-kept : old ≡ readNumbers fp s old (length spare)
-    unfolding readNumbers
+    pub numbers-kept : old ≡ putNumbers r old (length spare)
+    unfolding putNumbers
     numbers-kept = rw (no-room (length old) (length spare) h)
 
-    pub spare-kept : spare ≡ readSpare fp s (length old) spare
-    unfolding readSpare
+    pub spare-kept : spare ≡ putSpare r (length old) spare
+    unfolding putSpare
     spare-kept = rw (no-room (length old) (length spare) h)
 
   module _ (e : length old ≡ 104) (f : length spare ≡ 2) where
-    pub number-read : numberTold (readingOf fp s .answer) ≡ readNumber fp s (length old) (length spare)
-    unfolding readNumber
+    pub number-read : numberTold (r .answer) ≡ putNumber r (length old) (length spare)
+    unfolding putNumber
     number-read = rw (eq-eqb _ _ e, eq-eqb _ _ f)
 
-    pub numbers-read : flatOf (readingOf fp s .block) ≡ readNumbers fp s old (length spare)
-    unfolding readNumbers
+    pub numbers-read : flatOf (r .block) ≡ putNumbers r old (length spare)
+    unfolding putNumbers
     numbers-read = rw (eq-eqb _ _ e, eq-eqb _ _ f)
 
-    pub spare-read : spareNumbers (readingOf fp s .spare) ≡ readSpare fp s (length old) spare
-    unfolding readSpare
+    pub spare-read : spareNumbers (r .spare) ≡ putSpare r (length old) spare
+    unfolding putSpare
     spare-read = rw (eq-eqb _ _ e, eq-eqb _ _ f)
 
 -- ---- a list's symbolic block

@@ -14,6 +14,7 @@ use Rattle.block_answer.specs.Told.{numberTold}
 use Rattle.spare_bits.specs.Spare.{spareNumbers}
 use Rattle.symbolic_block.specs.Refusals.{unknownFootprint}
 use Rattle.symbolic_calls.specs.Writing.{writingOf}
+use Rattle.symbolic_reader.specs.declared.SymbolicReading.{SymbolicReading}
 use Rattle.symbolic_reader.specs.Answers.{readingOf}
 use Rattle.symbolic_numbers.specs.Numbers.{flatOf, blockOver, blockFrom}
 
@@ -29,21 +30,29 @@ refusedOr5 Done = 5
 abbrev pub roomFor : ℕ → ℕ → Bool
 roomFor numbers spare = both (eqb numbers 104) (eqb spare 2)
 
--- what the call answers for the bytes s and two lists of so many numbers
-unfoldable pub readNumber : ℕ → List ℕ → ℕ → ℕ → ℕ
-unfolding readingOf
-readNumber fp s n m = pick (roomFor n m) (numberTold (readingOf fp s .answer)) (refusedOr5 (readingOf fp s .answer))
+-- what a call answers that puts a reading into two lists of so many numbers
+unfoldable pub putNumber : SymbolicReading → ℕ → ℕ → ℕ
+putNumber r n m = pick (roomFor n m) (numberTold (r .answer)) (refusedOr5 (r .answer))
 
 -- what the first list holds then: the symbolic block, zeros on a fault and on the refusals 1 and 4; what it held where it is not of 104 numbers
 -- or the other not of two
-unfoldable pub readNumbers : ℕ → List ℕ → List ℕ → ℕ → List ℕ
-unfolding flatOf readingOf
-readNumbers fp s old m = pick (roomFor (length old) m) (flatOf (readingOf fp s .block)) old
+unfoldable pub putNumbers : SymbolicReading → List ℕ → ℕ → List ℕ
+unfolding flatOf
+putNumbers r old m = pick (roomFor (length old) m) (flatOf (r .block)) old
 
 -- and the second: the spare bits, two zeros where the first holds zeros; what it held where that does
-unfoldable pub readSpare : ℕ → List ℕ → ℕ → List ℕ → List ℕ
-unfolding readingOf
-readSpare fp s n old = pick (roomFor n (length old)) (spareNumbers (readingOf fp s .spare)) old
+unfoldable pub putSpare : SymbolicReading → ℕ → List ℕ → List ℕ
+putSpare r n old = pick (roomFor n (length old)) (spareNumbers (r .spare)) old
+
+-- these of what the reader answers for the bytes s
+abbrev pub readNumber : ℕ → List ℕ → ℕ → ℕ → ℕ
+readNumber fp s n m = putNumber (readingOf fp s) n m
+
+abbrev pub readNumbers : ℕ → List ℕ → List ℕ → ℕ → List ℕ
+readNumbers fp s old m = putNumbers (readingOf fp s) old m
+
+abbrev pub readSpare : ℕ → List ℕ → ℕ → List ℕ → List ℕ
+readSpare fp s n old = putSpare (readingOf fp s) n old
 
 -- ---- the writer
 

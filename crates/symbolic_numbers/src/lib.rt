@@ -4,6 +4,7 @@ use block_answer::Answer;
 use encoding::Stored;
 use symbolic_block::SymbolicBlock;
 use symbolic_calls::Writing;
+use symbolic_reader::SymbolicReading;
 ghost use mathlib.Core.Path.{_≡_};
 ghost use Prim.Native.Nat.{_+_, _<_, min};
 ghost use lib.Dec.{leb};
@@ -15,7 +16,7 @@ ghost use Rattle.symbolic_block.specs.Refusals.{unknownFootprint};
 ghost use Rattle.symbolic_refusal.specs.inner.Stages.{or34};
 ghost use Rattle.symbolic_calls.specs.Writing.{writingOf};
 ghost use Rattle.symbolic_numbers.specs.Numbers.{settingsOf, flatOf, blockOver, blockFrom, clippedNumbers, endpointsFit};
-ghost use Rattle.symbolic_numbers.specs.Calls.{refusedOr5, readNumber, readNumbers, readSpare, writeNumber, writeBlock};
+ghost use Rattle.symbolic_numbers.specs.Calls.{refusedOr5, putNumber, putNumbers, putSpare, readNumber, readNumbers, readSpare, writeNumber, writeBlock};
 
 // ---- a symbolic block's list
 
@@ -96,14 +97,12 @@ fn refused_or_5(a: Answer) -> u8
     }
 }
 
-// A block's symbolic block and its spare bits: the fault's number or the refusal's with zeros in `numbers` and `spare`, 5 with both as they
-// were, or 0.
-pub fn read_numbers(footprint: u8, block: &[u8], numbers: &mut [u16], spare: &mut [u16]) -> u8
-    ensures { λ r. ⌜ r ≡ readNumber footprint (now (block .entry)) (length (now (numbers .entry))) (length (now (spare .entry))) ⌝ }
-    ensures { λ r. ⌜ now (numbers .exit) ≡ readNumbers footprint (now (block .entry)) (now (numbers .entry)) (length (now (spare .entry))) ⌝ }
-    ensures { λ r. ⌜ now (spare .exit) ≡ readSpare footprint (now (block .entry)) (length (now (numbers .entry))) (now (spare .entry)) ⌝ }
+// What was read, in two lists: the fault's number or the refusal's with zeros in `numbers` and `spare`, 5 with both as they were, or 0.
+pub fn put_reading(reading: SymbolicReading, numbers: &mut [u16], spare: &mut [u16]) -> u8
+    ensures { λ r. ⌜ r ≡ putNumber reading (length (now (numbers .entry))) (length (now (spare .entry))) ⌝ }
+    ensures { λ r. ⌜ now (numbers .exit) ≡ putNumbers reading (now (numbers .entry)) (length (now (spare .entry))) ⌝ }
+    ensures { λ r. ⌜ now (spare .exit) ≡ putSpare reading (length (now (numbers .entry))) (now (spare .entry)) ⌝ }
 {
-    let reading = symbolic_reader::read_symbolic(footprint, block);
     let answer = reading.answer;
     if numbers.len() != 104 {
         return refused_or_5(answer);
@@ -114,6 +113,16 @@ pub fn read_numbers(footprint: u8, block: &[u8], numbers: &mut [u16], spare: &mu
     put(reading.block, numbers);
     spare_bits::put_spare(reading.spare, spare);
     block_answer::number_told(answer)
+}
+
+// A block's symbolic block and its spare bits.
+pub fn read_numbers(footprint: u8, block: &[u8], numbers: &mut [u16], spare: &mut [u16]) -> u8
+    ensures { λ r. ⌜ r ≡ readNumber footprint (now (block .entry)) (length (now (numbers .entry))) (length (now (spare .entry))) ⌝ }
+    ensures { λ r. ⌜ now (numbers .exit) ≡ readNumbers footprint (now (block .entry)) (now (numbers .entry)) (length (now (spare .entry))) ⌝ }
+    ensures { λ r. ⌜ now (spare .exit) ≡ readSpare footprint (now (block .entry)) (length (now (numbers .entry))) (now (spare .entry)) ⌝ }
+{
+    let reading = symbolic_reader::read_symbolic(footprint, block);
+    put_reading(reading, numbers, spare)
 }
 
 // ---- a list's symbolic block, with 255 for each number above it where the struct has a byte

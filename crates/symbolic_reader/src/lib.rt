@@ -51,7 +51,7 @@ fn zero_block() -> SymbolicBlock
     }
 }
 
-fn told(answer: Answer) -> SymbolicReading
+pub fn told(answer: Answer) -> SymbolicReading
     ensures { λ r. ⌜ r ≡ nothing answer ⌝ }
 {
     SymbolicReading {
@@ -185,7 +185,7 @@ fn mark_of(h: Header) -> u8
     if block_header::some_hdr(h) { 1 } else { 0 }
 }
 
-fn mode_block(b: PhysicalBlock, h: Header, numbers: u8, range: u8) -> SymbolicBlock
+pub fn mode_block(b: PhysicalBlock, h: Header, numbers: u8, range: u8) -> SymbolicBlock
     requires { ⌜ (weightCount (h .grid) ≤ 64) × (endpointCount h ≤ 18) × (numbers ≡ endpointCount h) × (range ≡ endpointRangeOf h) ⌝ }
     ensures { λ r. ⌜ r ≡ modeBlock h (endpointAt (blockNumber b) h) (weightAt (blockNumber b) h) ⌝ }
 {

@@ -13,6 +13,7 @@ mod clip;
 mod faults;
 mod image;
 mod pvrtc;
+mod strict;
 mod symbolic;
 mod view;
 
@@ -132,6 +133,7 @@ fn main() {
     worst = largest(worst, symbolic::run(rounds));
     worst = largest(worst, view::run(rounds));
     worst = largest(worst, faults::run(rounds));
+    worst = largest(worst, strict::run(rounds));
     println!("largest ratio {:.2} (by rounds {:.2})", worst[0], worst[1]);
     clip::measure(rounds.min(7));
     caption::measure(rounds);

@@ -129,7 +129,13 @@ pub struct BlockCase {
 impl BlockCase {
     pub fn new(footprint: usize, block: [u8; 16]) -> BlockCase {
         let (w, h) = FOOTPRINTS[footprint];
-        BlockCase { footprint: footprint as u8, block: block.to_vec(), out_len: 4 * w * h, numbers_len: NUMBERS, spare_len: 2 }
+        BlockCase {
+            footprint: footprint as u8,
+            block: block.to_vec(),
+            out_len: 4 * w * h,
+            numbers_len: NUMBERS,
+            spare_len: 2,
+        }
     }
 
     /// The block, where the call isn't refused.

@@ -9,13 +9,14 @@ mod file;
 mod make;
 mod pvrtc;
 mod seen;
+mod strict;
 mod view;
 
 use std::time::{SystemTime, UNIX_EPOCH};
 
 use cases::{BlockCase, Case, ImageCase, SymbolicCase, shrink};
-use reference::{NUMBERS, block_refusal};
 use reference::random::Random;
+use reference::{NUMBERS, block_refusal};
 use seen::Seen;
 
 /// Failing cases that are made smaller and printed; the others are only counted.
@@ -184,6 +185,7 @@ fn main() {
     file::cases(&mut run, &mut r, blocks / 200);
     view::run(&mut run, &mut r, blocks / 200);
     faults::run(&mut run, &mut r, blocks / 100);
+    strict::run(&mut run, &mut r, blocks / 20);
     let never = run.seen.report();
     for line in &never {
         println!("{line}");

@@ -123,6 +123,7 @@ impl Seen {
         crate::caption::require(&mut seen);
         crate::view::require(&mut seen);
         crate::faults::require(&mut seen);
+        crate::strict::require(&mut seen);
         for (sort, numbers) in crate::clip::SORTS {
             seen.require(sort, numbers.iter().copied());
         }

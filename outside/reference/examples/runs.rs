@@ -5,7 +5,9 @@ use std::path::Path;
 
 use reference::random::*;
 use reference::tables::{ENDPOINT_RANGES, Encoding, WEIGHT_RANGES};
-use reference::{FOOTPRINTS, Kind, NUMBERS, SymbolicBlock, bit_count, ending, fault, read_spare, refusal, unpack, write};
+use reference::{
+    FOOTPRINTS, Kind, NUMBERS, SymbolicBlock, bit_count, ending, fault, read_spare, refusal, unpack, write,
+};
 
 /// 01's numbers of a writer's refusals.
 const REFUSALS: [u8; 15] = [0, 1, 12, 14, 15, 16, 17, 18, 19, 20, 31, 32, 33, 34, 35];

@@ -15,6 +15,7 @@ pub mod pvrtc;
 pub mod random;
 mod refusals;
 mod sequence;
+mod strict;
 mod symbolic;
 pub mod tables;
 mod texel;
@@ -25,6 +26,7 @@ pub use decode::{decode, decode_f16, decode_image_f16, decode_image_u8, decode_i
 pub use file::{FileHeader, file_header, read_file};
 pub use refusals::{block_refusal, image_refusal, read_refusal, view_refusal};
 pub use sequence::{Ending, bit_count, ending, present, unpack};
+pub use strict::{canonical, strict_fault};
 pub use symbolic::{NUMBERS, Spare, SymbolicBlock, endings, picture, read, read_spare, refusal, write};
 pub use texel::ask;
 

@@ -101,8 +101,7 @@ pub fn ending(encoding: Encoding, n: usize, stream: u128) -> Ending {
         width += step;
     }
     assert_eq!(at, end);
-    let digits: &[u8] =
-        if encoding.digit == Digit::Trit { &TRITS[code as usize] } else { &QUINTS[code as usize] };
+    let digits: &[u8] = if encoding.digit == Digit::Trit { &TRITS[code as usize] } else { &QUINTS[code as usize] };
     Ending { end, zero: digits[present..].iter().all(|&d| d == 0) }
 }
 

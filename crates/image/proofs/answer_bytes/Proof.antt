@@ -24,7 +24,7 @@ decode-bytes-requires c κs = let o = passed (c .before .before) in (o .is-sound
 returns : tie.Need-returns
 returns c = let s = c .before .before .before .before .before in
     let a = s .args in
-    refused (a .footprint) Srgb8 (a .width) (a .height) (now (a .blocks)) (now (a .out)) _ (sym (s .pre) ∙ c .before .checked .given .1)
+    refused (a .reading) (a .footprint) Srgb8 (a .width) (a .height) (now (a .blocks)) (now (a .out)) _ (sym (s .pre) ∙ c .before .checked .given .1)
 
 same-length : tie.Need-same-length
 same-length c = search needs
@@ -34,7 +34,7 @@ returns-2 c = let k = c .before .before in
     let d = k .before .before .before in
     let s = d .before .before .before .before in
     let a = s .args in
-    decoded (a .footprint) Srgb8 (a .width) (a .height) (now (a .blocks)) (now (a .out)) _ _ _ (sym (s .pre) ∙ d .checked2 .given .1)
+    decoded (a .reading) (a .footprint) Srgb8 (a .width) (a .height) (now (a .blocks)) (now (a .out)) _ _ _ (sym (s .pre) ∙ d .checked2 .given .1)
     (k .decode-bytes .ensures .0) (k .decode-bytes .ensures .1)
 
 pub answer-bytes-spec : {M : Type 1} → statement M

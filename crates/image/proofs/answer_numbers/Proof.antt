@@ -23,7 +23,7 @@ decode-numbers-requires c κs = let o = passed (c .before .before) in (c .before
 returns : tie.Need-returns
 returns c = let s = c .before .before .before .before .before in
     let a = s .args in
-    refused (a .footprint) (a .kind) (a .width) (a .height) (now (a .blocks)) (now (a .out)) _ (sym (s .pre .1) ∙ c .before .checked .given .1)
+    refused (a .reading) (a .footprint) (a .kind) (a .width) (a .height) (now (a .blocks)) (now (a .out)) _ (sym (s .pre .1) ∙ c .before .checked .given .1)
 
 same-length : tie.Need-same-length
 same-length c = search needs
@@ -33,7 +33,7 @@ returns-2 c = let k = c .before .before in
     let d = k .before .before .before in
     let s = d .before .before .before .before in
     let a = s .args in
-    decoded (a .footprint) (a .kind) (a .width) (a .height) (now (a .blocks)) (now (a .out)) _ _ _ (sym (s .pre .1) ∙ d .checked2 .given .1)
+    decoded (a .reading) (a .footprint) (a .kind) (a .width) (a .height) (now (a .blocks)) (now (a .out)) _ _ _ (sym (s .pre .1) ∙ d .checked2 .given .1)
     (k .decode-numbers .ensures .0) (k .decode-numbers .ensures .1)
 
 pub answer-numbers-spec : {M : Type 1} → statement M

@@ -10,10 +10,10 @@ use Rattle.image.proofs.decode_bytes.Statement.{statement}
 use Rattle.image.proofs.decode_bytes.Tie as tie
 
 abbrev Inv-loop : tie.InvT-loop
-Inv-loop g s out₀ buf₀ t₀ n b₀ out buf t b = Decoding Srgb8 g s out₀ out buf t b
+Inv-loop reading g s out₀ buf₀ t₀ n b₀ out buf t b = Decoding reading Srgb8 g s out₀ out buf t b
 
 abbrev μ-loop : tie.MeasureT-loop
-μ-loop g s out₀ buf₀ t₀ n b₀ out buf t b = g .down * g .across - b
+μ-loop reading g s out₀ buf₀ t₀ n b₀ out buf t b = g .down * g .across - b
 
 blank-requires : tie.Need-blank-requires Inv-loop μ-loop
 blank-requires c κs = search needs
@@ -22,7 +22,7 @@ mul-n : tie.Need-mul-n Inv-loop μ-loop
 mul-n c = omega (arith, sizes _ (c .before .before .before .before .pre .0))
 
 loop-holds : tie.Need-loop-holds Inv-loop μ-loop
-loop-holds c = decoding-start Srgb8 _ (c .before .before .before .before .pre .0) _ _ _ (c .before .blank .ensures)
+loop-holds c = decoding-start Srgb8 _ _ (c .before .before .before .before .pre .0) _ _ _ (c .before .blank .ensures)
 
 show-bytes-requires : tie.Need-show-bytes-requires Inv-loop μ-loop
 show-bytes-requires c κs = let l = c .before .before .before .loop in
@@ -45,7 +45,7 @@ loop-again c = let k = c .before .before .before in
     let i = k .before .before .before in
     let l = i .before .loop in
     let p = i .before .before .before .before .before .before .pre in
-    decoding-more Srgb8 _ (p .0) _ _ (l .out) (l .buf) (l .t) (l .b) _ _ _ _ (l .inv) (i .loop-test .taken) (k .show-bytes .kept .1 .1 .1 .1 .0)
+    decoding-more Srgb8 _ _ (p .0) _ _ (l .out) (l .buf) (l .t) (l .b) _ _ _ _ (l .inv) (i .loop-test .taken) (k .show-bytes .kept .1 .1 .1 .1 .1 .0)
     (k .show-bytes .ensures .1 .1) (k .show-bytes .ensures .1 .0) (k .show-bytes .ensures .0) (c .note .ensures)
 
 same-length : tie.Need-same-length Inv-loop μ-loop
@@ -54,7 +54,7 @@ same-length c = c .before .loop .inv .same
 returns : tie.Need-returns Inv-loop μ-loop
 returns c = let l = c .before .loop in
     let p = c .before .before .before .before .before .before .pre in
-    decoding-done Srgb8 _ (p .0) _ _ (l .out) (l .buf) (l .t) (l .b) (p .1 .1) (c .loop-test .left) (l .inv)
+    decoding-done Srgb8 _ _ (p .0) _ _ (l .out) (l .buf) (l .t) (l .b) (p .1 .1) (c .loop-test .left) (l .inv)
 
 pub decode-bytes-spec : {M : Type 1} → statement M
 decode-bytes-spec =

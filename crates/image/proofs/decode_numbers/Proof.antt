@@ -9,10 +9,10 @@ use Rattle.image.proofs.decode_numbers.Statement.{statement}
 use Rattle.image.proofs.decode_numbers.Tie as tie
 
 abbrev Inv-loop : tie.InvT-loop
-Inv-loop g kind s out₀ buf₀ t₀ n b₀ out buf t b = Decoding kind g s out₀ out buf t b
+Inv-loop reading g kind s out₀ buf₀ t₀ n b₀ out buf t b = Decoding reading kind g s out₀ out buf t b
 
 abbrev μ-loop : tie.MeasureT-loop
-μ-loop g kind s out₀ buf₀ t₀ n b₀ out buf t b = g .down * g .across - b
+μ-loop reading g kind s out₀ buf₀ t₀ n b₀ out buf t b = g .down * g .across - b
 
 blank-requires : tie.Need-blank-requires Inv-loop μ-loop
 blank-requires c κs = search needs
@@ -21,7 +21,7 @@ mul-n : tie.Need-mul-n Inv-loop μ-loop
 mul-n c = omega (arith, sizes _ (c .before .before .before .before .pre .1 .0))
 
 loop-holds : tie.Need-loop-holds Inv-loop μ-loop
-loop-holds c = decoding-start _ _ (c .before .before .before .before .pre .1 .0) _ _ _ (c .before .blank .ensures)
+loop-holds c = decoding-start _ _ _ (c .before .before .before .before .pre .1 .0) _ _ _ (c .before .blank .ensures)
 
 show-numbers-requires : tie.Need-show-numbers-requires Inv-loop μ-loop
 show-numbers-requires c κs = let l = c .before .before .before .loop in
@@ -44,7 +44,7 @@ loop-again c = let k = c .before .before .before in
     let i = k .before .before .before in
     let l = i .before .loop in
     let p = i .before .before .before .before .before .before .pre in
-    decoding-more _ _ (p .1 .0) _ _ (l .out) (l .buf) (l .t) (l .b) _ _ _ _ (l .inv) (i .loop-test .taken) (k .show-numbers .kept .1 .1 .1 .1 .1 .0)
+    decoding-more _ _ _ (p .1 .0) _ _ (l .out) (l .buf) (l .t) (l .b) _ _ _ _ (l .inv) (i .loop-test .taken) (k .show-numbers .kept .1 .1 .1 .1 .1 .1 .0)
     (k .show-numbers .ensures .1 .1) (k .show-numbers .ensures .1 .0) (k .show-numbers .ensures .0) (c .note .ensures)
 
 same-length : tie.Need-same-length Inv-loop μ-loop
@@ -53,7 +53,7 @@ same-length c = c .before .loop .inv .same
 returns : tie.Need-returns Inv-loop μ-loop
 returns c = let l = c .before .loop in
     let p = c .before .before .before .before .before .before .pre in
-    decoding-done _ _ (p .1 .0) _ _ (l .out) (l .buf) (l .t) (l .b) (p .1 .1 .1) (c .loop-test .left) (l .inv)
+    decoding-done _ _ _ (p .1 .0) _ _ (l .out) (l .buf) (l .t) (l .b) (p .1 .1 .1) (c .loop-test .left) (l .inv)
 
 pub decode-numbers-spec : {M : Type 1} → statement M
 decode-numbers-spec =

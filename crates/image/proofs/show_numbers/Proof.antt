@@ -1,9 +1,10 @@
+use native.Mathlib.Omega.{arith}
 use mathlib.Core.Path.{ap, _∙_}
 use denote.Ref.{now}
-use Rattle.block_core.proofs.Shows.{held}
+use Rattle.block_reading.proofs.Shows.{held}
 use borrow.Author.Needs.{needs}
-use Rattle.image_layout.specs.Numbers.{faultAt}
-use Rattle.block_fault.specs.Faults.{faultOf}
+use Rattle.image_layout.specs.Numbers.{faultAtIn}
+use Rattle.block_reading.specs.Faults.{faultIn}
 use Rattle.interpolation.specs.Expansion.{takesHdr}
 use Rattle.image_layout.proofs.Regions.{placed-words}
 use Rattle.image_layout.proofs.Parts.{block-shown}
@@ -16,8 +17,8 @@ part-of-requires c κs = search needs
 block-of-requires : tie.Need-block-of-requires
 block-of-requires c κs = search needs
 
-decode-into-requires : tie.Need-decode-into-requires
-decode-into-requires c κs = search needs
+decode-in-requires : tie.Need-decode-in-requires
+decode-in-requires c κs = omega (arith, c .before .before .before .before .before .pre .1 .0 .footprint)
 
 place-numbers-requires : tie.Need-place-numbers-requires
 place-numbers-requires c κs = search needs
@@ -26,16 +27,16 @@ same-length : tie.Need-same-length
 same-length c = search needs
 
 returns : tie.Need-returns
-unfolding faultAt
+unfolding faultAtIn
 returns c = let k = c .before .before in
     let d = k .before .before .before in
     let b = d .before .before in
     let a = b .before .before .before .before .args in
     let p = b .before .before .before .before .pre in
-    let h = held _ _ _ _ _ (p .1 .1 .1 .1 .1) (d .decode-into .ensures .1 (p .1 .1 .1 .1 .1)) in (
-      d .decode-into .ensures .0 ∙ ap (faultOf (takesHdr (a .kind)) _) (b .block-of .ensures),
+    let h = held (a .reading) _ _ _ _ _ (p .1 .1 .1 .1 .1) (d .decode-in .ensures .1 (p .1 .1 .1 .1 .1)) in (
+      d .decode-in .ensures .0 ∙ ap (faultIn (a .reading) (takesHdr (a .kind)) _) (b .block-of .ensures),
       (
-        block-shown (a .kind) (a .g) (p .1 .0) (now (a .s)) (a .b) _ _ _ (now (a .out)) _ (b .before .part-of .ensures) (b .block-of .ensures) (h .holds) (placed-words (a .kind) (p .0) _ _ _ _ _ _ _ _ _ (k .place-numbers .ensures)),
+        block-shown (a .kind) (a .g) (a .reading) (p .1 .0) (now (a .s)) (a .b) _ _ _ (now (a .out)) _ (b .before .part-of .ensures) (b .block-of .ensures) (h .holds) (placed-words (a .kind) (p .0) _ _ _ _ _ _ _ _ _ (k .place-numbers .ensures)),
         h .size,
       ),
     )
@@ -46,7 +47,7 @@ show-numbers-spec =
     (tie.spec
     part-of-requires
     block-of-requires
-    decode-into-requires
+    decode-in-requires
     place-numbers-requires
     same-length
     returns)

@@ -1,54 +1,34 @@
-use mathlib.Core.Path.{_≡_, sym, ap, _∙_}
+use mathlib.Core.Path.{_≡_, ap, _∙_}
 use mathlib.Core.Bool.{Bool}
 use Rattle.bits.specs.Block.{blockNumber}
-use Rattle.block_fault.specs.declared.Settings.{Settings}
-use Rattle.block_fault.specs.Settings.{verdictOf, settingsOf}
-use Rattle.interpolation.specs.Expansion.{takesHdr}
-use Rattle.block_fault.proofs.Verdicts.{settings-verdict, told-fault, told-void, told-coded}
+use Rattle.block_reading.specs.Faults.{strictFault}
 use borrow.Author.Needs.{needs}
 use Rattle.image_faults.proofs.fault_of.Statement.{statement}
 use Rattle.image_faults.proofs.fault_of.Tie as tie
 
-verdict-is : (c : tie.After-read-settings) → let a = c .before .before .args in
-    verdictOf (takesHdr (a .kind)) (a .fp) (blockNumber (a .block)) ≡ c .read-settings .result .verdict
-verdict-is c =
-    let a = c .before .before .args in
-    sym (ap (λ (s : Settings). s .verdict) (c .read-settings .ensures ∙ ap (λ (t : Bool). settingsOf t (a .fp) (blockNumber (a .block))) (c .before .takes-hdr .ensures))
-    ∙ settings-verdict (takesHdr (a .kind)) (a .fp) (blockNumber (a .block)))
-
-takes-hdr-requires : tie.Need-takes-hdr-requires
-takes-hdr-requires c κs = search needs
-
-read-settings-requires : tie.Need-read-settings-requires
-read-settings-requires c κs = search needs
-
-enum-known-v : tie.Need-enum-known-v
-enum-known-v c = search needs
-
 enum-told : tie.Need-enum-told
 enum-told c = search needs
+
+ordinary-fault-requires : tie.Need-ordinary-fault-requires
+ordinary-fault-requires c κs = search needs
 
 enum-told-2 : tie.Need-enum-told-2
 enum-told-2 c = search needs
 
+takes-hdr-requires : tie.Need-takes-hdr-requires
+takes-hdr-requires c κs = search needs
+
+strict-fault-requires : tie.Need-strict-fault-requires
+strict-fault-requires c κs = search needs
+
 returns : tie.Need-returns
-returns c = sym (told-fault _ _ _ _ (verdict-is (c .before .before .before) ∙ c .before .v .given .1) .0)
+returns c = rw (c .before .enum-told .given .1) (c .ordinary-fault .ensures)
 
 returns-2 : tie.Need-returns-2
-returns-2 c = sym (told-void _ _ _ (verdict-is (c .before .before) ∙ c .enum-told .given .1) .0)
-
-returns-3 : tie.Need-returns-3
-returns-3 c = sym (told-coded _ _ _ (verdict-is (c .before .before) ∙ c .enum-told2 .given .1) .0)
+returns-2 c =
+    let a = c .before .before .before .before .args in
+    rw (c .before .before .enum-told2 .given .1) (c .strict-fault .ensures ∙ ap (λ (t : Bool). strictFault t (a .fp) (blockNumber (a .block))) (c .before .takes-hdr .ensures))
 
 pub fault-of-spec : {M : Type 1} → statement M
 fault-of-spec =
-    tie.close
-    (tie.spec
-    takes-hdr-requires
-    read-settings-requires
-    enum-known-v
-    enum-told
-    enum-told-2
-    returns
-    returns-2
-    returns-3)
+    tie.close (tie.spec enum-told ordinary-fault-requires enum-told-2 takes-hdr-requires strict-fault-requires returns returns-2)

@@ -11,7 +11,7 @@ refusal-requires c κs = search needs
 returns : tie.Need-returns
 returns c =
     let a = c .before .before .before .before .args in
-    refused (a .footprint) (a .kind) (a .width) (a .height) (now (a .blocks)) (now (a .faults)) _ (c .before .refusal .ensures) (c .if1 .taken)
+    refused (a .reading) (a .footprint) (a .kind) (a .width) (a .height) (now (a .blocks)) (now (a .faults)) _ (c .before .refusal .ensures) (c .if1 .taken)
 
 kind-of-requires : tie.Need-kind-of-requires
 kind-of-requires c κs = search needs
@@ -22,7 +22,7 @@ each-fault-requires c κs =
     let r = k .before in
     let a = r .before .before .before .args in
     let l = lengths (a .footprint) (a .kind) (a .width) (a .height) (now (a .blocks)) (now (a .faults)) (sym (r .refusal .ensures) ∙ k .if1 .left) in
-    (l .bytes, l .most)
+    (l .footprint, (l .bytes, l .most))
 
 same-length : tie.Need-same-length
 same-length c = search needs
@@ -33,7 +33,7 @@ returns-2 c =
     let r = k .before in
     let a = r .before .before .before .args in
     let e = c .before .before .each-fault .ensures in
-    told-all (a .footprint) (a .kind) (a .width) (a .height) (now (a .blocks)) (now (a .faults)) _ _ _ (c .before .before .before .before .kind-of .ensures) (sym (r .refusal .ensures) ∙ k .if1 .left) (e .0) (e .1)
+    told-all (a .reading) (a .footprint) (a .kind) (a .width) (a .height) (now (a .blocks)) (now (a .faults)) _ _ _ (c .before .before .before .before .kind-of .ensures) (sym (r .refusal .ensures) ∙ k .if1 .left) (e .0) (e .1)
 
 pub image-faults-spec : {M : Type 1} → statement M
 image-faults-spec = tie.close (tie.spec refusal-requires returns kind-of-requires each-fault-requires same-length returns-2)

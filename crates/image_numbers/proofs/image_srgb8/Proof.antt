@@ -2,7 +2,7 @@ use denote.Ref.{now}
 use mathlib.Core.Path.{ap, _∙_}
 use lib.ListN.{length}
 use Rattle.interpolation.specs.declared.Kind.the-variants.{Srgb8}
-use Rattle.image_layout.specs.Call.{Told, imageRefusal, imageOut, imageTold}
+use Rattle.image_layout.specs.Call.{Told, imageRefusal, imageOutIn, imageToldIn}
 use Rattle.image_numbers.specs.Calls.{tallyTold, tallyNumbers}
 use Rattle.image_numbers.proofs.Laws.{untold, telling}
 use borrow.Author.Needs.{needs}
@@ -15,11 +15,11 @@ refusal-or-5-requires c κs = search needs
 returns : tie.Need-returns
 returns c =
     let a = c .before .before .before .before .before .args in
-    let u = untold (imageTold (a .footprint) Srgb8 (a .width) (a .height) (now (a .blocks)) (length (now (a .out)))) (imageRefusal (a .footprint) (a .width) (a .height) (length (now (a .blocks))) (length (now (a .out)))) (imageOut (a .footprint) Srgb8 (a .width) (a .height) (now (a .blocks)) (now (a .out))) (now (a .out)) (now (a .tally)) (c .before .if1 .taken) in
+    let u = untold (imageToldIn (a .reading) (a .footprint) Srgb8 (a .width) (a .height) (now (a .blocks)) (length (now (a .out)))) (imageRefusal (a .footprint) (a .width) (a .height) (length (now (a .blocks))) (length (now (a .out)))) (imageOutIn (a .reading) (a .footprint) Srgb8 (a .width) (a .height) (now (a .blocks)) (now (a .out))) (now (a .out)) (now (a .tally)) (c .before .if1 .taken) in
     (c .refusal-or-5 .ensures ∙ u .number, (u .out, u .its-tally))
 
-decode-image-srgb8-requires : tie.Need-decode-image-srgb8-requires
-decode-image-srgb8-requires c κs = search needs
+decode-srgb8-in-requires : tie.Need-decode-srgb8-in-requires
+decode-srgb8-in-requires c κs = search needs
 
 tally-told-requires : tie.Need-tally-told-requires
 tally-told-requires c κs = search needs
@@ -41,9 +41,9 @@ returns-2 c =
     let p = c .before .before .before in
     let d = p .before .before .before .before .before in
     let a = d .before .before .before .before .before .before .args in
-    let r = d .decode-image-srgb8 .ensures in
+    let r = d .decode-srgb8-in .ensures in
     let told = r .1 .0 in
-    let u = telling (imageTold (a .footprint) Srgb8 (a .width) (a .height) (now (a .blocks)) (length (now (a .out)))) (imageRefusal (a .footprint) (a .width) (a .height) (length (now (a .blocks))) (length (now (a .out)))) (imageOut (a .footprint) Srgb8 (a .width) (a .height) (now (a .blocks)) (now (a .out))) (now (a .out)) (now (a .tally)) (d .before .before .if1 .left) in (
+    let u = telling (imageToldIn (a .reading) (a .footprint) Srgb8 (a .width) (a .height) (now (a .blocks)) (length (now (a .out)))) (imageRefusal (a .footprint) (a .width) (a .height) (length (now (a .blocks))) (length (now (a .out)))) (imageOutIn (a .reading) (a .footprint) Srgb8 (a .width) (a .height) (now (a .blocks)) (now (a .out))) (now (a .out)) (now (a .tally)) (d .before .before .if1 .left) in (
       c .refusal-told .ensures ∙ ap (λ (t : Told). t .refusal) told ∙ u .number,
       (r .1 .1 ∙ u .out, p .put-tally .ensures ∙ ap tallyNumbers (p .before .before .tally-told .ensures ∙ ap tallyTold told) ∙ u .its-tally),
     )
@@ -54,7 +54,7 @@ image-srgb8-spec =
     (tie.spec
     refusal-or-5-requires
     returns
-    decode-image-srgb8-requires
+    decode-srgb8-in-requires
     tally-told-requires
     put-tally-requires
     refusal-told-requires

@@ -1,7 +1,7 @@
 use denote.Ref.{now}
 use mathlib.Core.Path.{ap, _∙_}
 use lib.ListN.{length}
-use Rattle.image_layout.specs.Call.{Told, imageRefusal, imageOut, imageTold}
+use Rattle.image_layout.specs.Call.{Told, imageRefusal, imageOutIn, imageToldIn}
 use Rattle.image_numbers.specs.Calls.{tallyTold, tallyNumbers}
 use Rattle.image_numbers.proofs.Laws.{untold, telling}
 use borrow.Author.Needs.{needs}
@@ -14,11 +14,11 @@ refusal-or-5-requires c κs = search needs
 returns : tie.Need-returns
 returns c =
     let a = c .before .before .before .before .before .args in
-    let u = untold (imageTold (a .footprint) (a .kind) (a .width) (a .height) (now (a .blocks)) (length (now (a .out)))) (imageRefusal (a .footprint) (a .width) (a .height) (length (now (a .blocks))) (length (now (a .out)))) (imageOut (a .footprint) (a .kind) (a .width) (a .height) (now (a .blocks)) (now (a .out))) (now (a .out)) (now (a .tally)) (c .before .if1 .taken) in
+    let u = untold (imageToldIn (a .reading) (a .footprint) (a .kind) (a .width) (a .height) (now (a .blocks)) (length (now (a .out)))) (imageRefusal (a .footprint) (a .width) (a .height) (length (now (a .blocks))) (length (now (a .out)))) (imageOutIn (a .reading) (a .footprint) (a .kind) (a .width) (a .height) (now (a .blocks)) (now (a .out))) (now (a .out)) (now (a .tally)) (c .before .if1 .taken) in
     (c .refusal-or-5 .ensures ∙ u .number, (u .out, u .its-tally))
 
-decode-image-words-requires : tie.Need-decode-image-words-requires
-decode-image-words-requires c κs = search needs
+decode-words-in-requires : tie.Need-decode-words-in-requires
+decode-words-in-requires c κs = search needs
 
 tally-told-requires : tie.Need-tally-told-requires
 tally-told-requires c κs = search needs
@@ -40,9 +40,9 @@ returns-2 c =
     let p = c .before .before .before in
     let d = p .before .before .before .before .before in
     let a = d .before .before .before .before .before .before .args in
-    let r = d .decode-image-words .ensures in
+    let r = d .decode-words-in .ensures in
     let told = r .1 .0 in
-    let u = telling (imageTold (a .footprint) (a .kind) (a .width) (a .height) (now (a .blocks)) (length (now (a .out)))) (imageRefusal (a .footprint) (a .width) (a .height) (length (now (a .blocks))) (length (now (a .out)))) (imageOut (a .footprint) (a .kind) (a .width) (a .height) (now (a .blocks)) (now (a .out))) (now (a .out)) (now (a .tally)) (d .before .before .if1 .left) in (
+    let u = telling (imageToldIn (a .reading) (a .footprint) (a .kind) (a .width) (a .height) (now (a .blocks)) (length (now (a .out)))) (imageRefusal (a .footprint) (a .width) (a .height) (length (now (a .blocks))) (length (now (a .out)))) (imageOutIn (a .reading) (a .footprint) (a .kind) (a .width) (a .height) (now (a .blocks)) (now (a .out))) (now (a .out)) (now (a .tally)) (d .before .before .if1 .left) in (
       c .refusal-told .ensures ∙ ap (λ (t : Told). t .refusal) told ∙ u .number,
       (r .1 .1 ∙ u .out, p .put-tally .ensures ∙ ap tallyNumbers (p .before .before .tally-told .ensures ∙ ap tallyTold told) ∙ u .its-tally),
     )
@@ -53,7 +53,7 @@ image-words-spec =
     (tie.spec
     refusal-or-5-requires
     returns
-    decode-image-words-requires
+    decode-words-in-requires
     tally-told-requires
     put-tally-requires
     refusal-told-requires

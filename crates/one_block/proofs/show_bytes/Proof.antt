@@ -9,7 +9,7 @@ use Rattle.interpolation.specs.declared.Kind.the-variants.{Srgb8}
 use Rattle.block_answer.specs.declared.Answer.the-variants.{Refused}
 use Rattle.bits.proofs.Blocks.{Bytes}
 use Rattle.block_answer.specs.Told.{blockRefusal, answerFor}
-use Rattle.block_answer.proofs.Laws.{fits-in}
+use Rattle.block_answer.proofs.Laws.{fits-in, not-refused}
 use Rattle.one_block.proofs.Laws.{refused, untouched, told, promised, copied}
 use Rattle.one_block.proofs.show_bytes.Statement.{statement}
 use Rattle.one_block.proofs.show_bytes.Tie as tie
@@ -18,16 +18,16 @@ returns : tie.Need-returns
 returns c =
     let st = c .before .before .before .args in
     let h : blockRefusal (st .fp) (length (now (st .block))) (length (now (st .out))) ≡ 0 → ⊥ = λ q. c .if1 .taken (c .before .before .before .pre ∙ q) in
-    promised Srgb8 (st .fp) (now (st .block)) (now (st .out)) _ _ (ap Refused (c .before .before .before .pre) ∙ refused Srgb8 (st .fp) (now (st .block)) (now (st .out)) h) (untouched Srgb8 (st .fp) (now (st .block)) (now (st .out)) h)
+    promised (st .reading) Srgb8 (st .fp) (now (st .block)) (now (st .out)) _ _ (ap Refused (c .before .before .before .pre) ∙ refused (st .reading) Srgb8 (st .fp) (now (st .block)) (now (st .out)) h) (untouched (st .reading) Srgb8 (st .fp) (now (st .block)) (now (st .out)) h)
+
+none : (c : tie.Else1) → blockRefusal (c .before .before .before .args .fp) (length (now (c .before .before .before .args .block))) (length (now (c .before .before .before .args .out))) ≡ 0
+none c = sym (c .before .before .before .pre) ∙ c .if1 .left
 
 load-requires : tie.Need-load-requires
 load-requires c κs = search needs
 
-decode-into-requires : tie.Need-decode-into-requires
-decode-into-requires c κs = search needs
-
-none : (c : tie.Else1) → blockRefusal (c .before .before .before .args .fp) (length (now (c .before .before .before .args .block))) (length (now (c .before .before .before .args .out))) ≡ 0
-none c = sym (c .before .before .before .pre) ∙ c .if1 .left
+decode-in-requires : tie.Need-decode-in-requires
+decode-in-requires c κs = not-refused _ _ _ (none (c .before .before)) .known
 
 copy-bytes-requires : tie.Need-copy-bytes-requires
 copy-bytes-requires c κs = fits-in _ _ _ (none (c .before .before .before .before .before))
@@ -47,10 +47,10 @@ returns-2 c =
     let e = none (l .before) in
     let s = now (st .block) in
     let old = now (st .out) in
-    promised Srgb8 (st .fp) s old _ _
-    (c .answer-for .ensures ∙ ap answerFor (d .decode-into .ensures .0) ∙ told Srgb8 (st .fp) s old bytes _ (l .load .ensures) e)
+    promised (st .reading) Srgb8 (st .fp) s old _ _
+    (c .answer-for .ensures ∙ ap answerFor (d .decode-in .ensures .0) ∙ told (st .reading) Srgb8 (st .fp) s old bytes _ (l .load .ensures) e)
     (c .before .before .before .copy-bytes .ensures
-    ∙ copied Srgb8 (st .fp) s old bytes _ (l .load .ensures) e _ (λ x. x / 256) (λ x. refl) _ refl (d .decode-into .ensures .1 refl))
+    ∙ copied (st .reading) Srgb8 (st .fp) s old bytes _ (l .load .ensures) e _ (λ x. x / 256) (λ x. refl) _ refl (d .decode-in .ensures .1 refl))
 
 pub show-bytes-spec : {M : Type 1} → statement M
 show-bytes-spec =
@@ -58,7 +58,7 @@ show-bytes-spec =
     (tie.spec
     returns
     load-requires
-    decode-into-requires
+    decode-in-requires
     copy-bytes-requires
     answer-for-requires
     same-length

@@ -8,7 +8,7 @@ use borrow.Author.Needs.{needs}
 use Rattle.block_answer.specs.declared.Answer.the-variants.{Refused}
 use Rattle.bits.proofs.Blocks.{Bytes}
 use Rattle.block_answer.specs.Told.{blockRefusal, answerFor}
-use Rattle.block_answer.proofs.Laws.{fits-in}
+use Rattle.block_answer.proofs.Laws.{fits-in, not-refused}
 use Rattle.one_block.proofs.Laws.{refused, untouched, told, promised, copied}
 use Rattle.one_block.proofs.show_words.Statement.{statement}
 use Rattle.one_block.proofs.show_words.Tie as tie
@@ -17,16 +17,16 @@ returns : tie.Need-returns
 returns c =
     let st = c .before .before .before .args in
     let h : blockRefusal (st .fp) (length (now (st .block))) (length (now (st .out))) ≡ 0 → ⊥ = λ q. c .if1 .taken (c .before .before .before .pre .0 ∙ q) in
-    promised (st .kind) (st .fp) (now (st .block)) (now (st .out)) _ _ (ap Refused (c .before .before .before .pre .0) ∙ refused (st .kind) (st .fp) (now (st .block)) (now (st .out)) h) (untouched (st .kind) (st .fp) (now (st .block)) (now (st .out)) h)
+    promised (st .reading) (st .kind) (st .fp) (now (st .block)) (now (st .out)) _ _ (ap Refused (c .before .before .before .pre .0) ∙ refused (st .reading) (st .kind) (st .fp) (now (st .block)) (now (st .out)) h) (untouched (st .reading) (st .kind) (st .fp) (now (st .block)) (now (st .out)) h)
+
+none : (c : tie.Else1) → blockRefusal (c .before .before .before .args .fp) (length (now (c .before .before .before .args .block))) (length (now (c .before .before .before .args .out))) ≡ 0
+none c = sym (c .before .before .before .pre .0) ∙ c .if1 .left
 
 load-requires : tie.Need-load-requires
 load-requires c κs = search needs
 
-decode-into-requires : tie.Need-decode-into-requires
-decode-into-requires c κs = search needs
-
-none : (c : tie.Else1) → blockRefusal (c .before .before .before .args .fp) (length (now (c .before .before .before .args .block))) (length (now (c .before .before .before .args .out))) ≡ 0
-none c = sym (c .before .before .before .pre .0) ∙ c .if1 .left
+decode-in-requires : tie.Need-decode-in-requires
+decode-in-requires c κs = not-refused _ _ _ (none (c .before .before)) .known
 
 copy-words-requires : tie.Need-copy-words-requires
 copy-words-requires c κs = fits-in _ _ _ (none (c .before .before .before .before .before))
@@ -46,10 +46,10 @@ returns-2 c =
     let e = none (l .before) in
     let s = now (st .block) in
     let old = now (st .out) in
-    promised (st .kind) (st .fp) s old _ _
-    (c .answer-for .ensures ∙ ap answerFor (d .decode-into .ensures .0) ∙ told (st .kind) (st .fp) s old bytes _ (l .load .ensures) e)
+    promised (st .reading) (st .kind) (st .fp) s old _ _
+    (c .answer-for .ensures ∙ ap answerFor (d .decode-in .ensures .0) ∙ told (st .reading) (st .kind) (st .fp) s old bytes _ (l .load .ensures) e)
     (c .before .before .before .copy-words .ensures
-    ∙ copied (st .kind) (st .fp) s old bytes _ (l .load .ensures) e _ (λ x. x) (λ x. sym (l .before .before .before .before .pre .1 x)) _ refl (d .decode-into .ensures .1 refl))
+    ∙ copied (st .reading) (st .kind) (st .fp) s old bytes _ (l .load .ensures) e _ (λ x. x) (λ x. sym (l .before .before .before .before .pre .1 x)) _ refl (d .decode-in .ensures .1 refl))
 
 pub show-words-spec : {M : Type 1} → statement M
 show-words-spec =
@@ -57,7 +57,7 @@ show-words-spec =
     (tie.spec
     returns
     load-requires
-    decode-into-requires
+    decode-in-requires
     copy-words-requires
     answer-for-requires
     same-length

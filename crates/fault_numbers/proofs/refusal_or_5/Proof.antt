@@ -1,8 +1,8 @@
 use mathlib.Core.Path.{sym}
 use borrow.Author.Tests.{eq-eqb, ne-eqb}
 use borrow.Author.Needs.{needs}
-use Rattle.stallbrook_faults.proofs.refusal_or_5.Statement.{statement}
-use Rattle.stallbrook_faults.proofs.refusal_or_5.Tie as tie
+use Rattle.fault_numbers.proofs.refusal_or_5.Statement.{statement}
+use Rattle.fault_numbers.proofs.refusal_or_5.Tie as tie
 
 refusal-requires : tie.Need-refusal-requires
 refusal-requires c κs = search needs

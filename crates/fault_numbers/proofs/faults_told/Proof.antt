@@ -6,8 +6,8 @@ use Rattle.image_faults.specs.Faults.{faultsRefusal, faultsOut, faultsTold}
 use Rattle.image_numbers.specs.Calls.{tallyTold, tallyNumbers}
 use Rattle.image_numbers.proofs.Laws.{untold, telling}
 use borrow.Author.Needs.{needs}
-use Rattle.stallbrook_faults.proofs.stallbrook_astc_image_faults.Statement.{statement}
-use Rattle.stallbrook_faults.proofs.stallbrook_astc_image_faults.Tie as tie
+use Rattle.fault_numbers.proofs.faults_told.Statement.{statement}
+use Rattle.fault_numbers.proofs.faults_told.Tie as tie
 
 refusal-or-5-requires : tie.Need-refusal-or-5-requires
 refusal-or-5-requires c κs = search needs
@@ -15,7 +15,7 @@ refusal-or-5-requires c κs = search needs
 returns : tie.Need-returns
 returns c =
     let a = c .before .before .before .before .before .args in
-    let u = untold (faultsTold (a .footprint) (a .kind) (a .width) (a .height) (now (a .blocks)) (length (now (a .faults)))) (faultsRefusal (a .footprint) (a .kind) (a .width) (a .height) (length (now (a .blocks))) (length (now (a .faults)))) (faultsOut (a .footprint) (a .kind) (a .width) (a .height) (now (a .blocks)) (now (a .faults))) (now (a .faults)) (now (a .tally)) (c .before .if1 .taken) in
+    let u = untold (faultsTold (a .reading) (a .footprint) (a .kind) (a .width) (a .height) (now (a .blocks)) (length (now (a .faults)))) (faultsRefusal (a .footprint) (a .kind) (a .width) (a .height) (length (now (a .blocks))) (length (now (a .faults)))) (faultsOut (a .reading) (a .footprint) (a .kind) (a .width) (a .height) (now (a .blocks)) (now (a .faults))) (now (a .faults)) (now (a .tally)) (c .before .if1 .taken) in
     (c .refusal-or-5 .ensures ∙ u .number, (u .out, u .its-tally))
 
 image-faults-requires : tie.Need-image-faults-requires
@@ -43,13 +43,13 @@ returns-2 c =
     let a = d .before .before .before .before .before .before .args in
     let r = d .image-faults .ensures in
     let told = r .1 .0 in
-    let u = telling (faultsTold (a .footprint) (a .kind) (a .width) (a .height) (now (a .blocks)) (length (now (a .faults)))) (faultsRefusal (a .footprint) (a .kind) (a .width) (a .height) (length (now (a .blocks))) (length (now (a .faults)))) (faultsOut (a .footprint) (a .kind) (a .width) (a .height) (now (a .blocks)) (now (a .faults))) (now (a .faults)) (now (a .tally)) (d .before .before .if1 .left) in (
+    let u = telling (faultsTold (a .reading) (a .footprint) (a .kind) (a .width) (a .height) (now (a .blocks)) (length (now (a .faults)))) (faultsRefusal (a .footprint) (a .kind) (a .width) (a .height) (length (now (a .blocks))) (length (now (a .faults)))) (faultsOut (a .reading) (a .footprint) (a .kind) (a .width) (a .height) (now (a .blocks)) (now (a .faults))) (now (a .faults)) (now (a .tally)) (d .before .before .if1 .left) in (
       c .refusal-told .ensures ∙ ap (λ (t : Told). t .refusal) told ∙ u .number,
       (r .1 .1 ∙ u .out, p .put-tally .ensures ∙ ap tallyNumbers (p .before .before .tally-told .ensures ∙ ap tallyTold told) ∙ u .its-tally),
     )
 
-pub stallbrook-astc-image-faults-spec : {M : Type 1} → statement M
-stallbrook-astc-image-faults-spec =
+pub faults-told-spec : {M : Type 1} → statement M
+faults-told-spec =
     tie.close
     (tie.spec
     refusal-or-5-requires

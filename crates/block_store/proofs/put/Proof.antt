@@ -1,10 +1,10 @@
 use mathlib.Core.Path.{_≡_, subst}
 use Prim.Native.Nat.{ℕ, _-_, _≤_}
 use native.Mathlib.Omega.{arith}
-use Rattle.caption_image.specs.inner.Places.{Put}
-use Rattle.caption_image.proofs.Laws.{put-start, put-more}
-use Rattle.caption_image.proofs.put.Statement.{statement}
-use Rattle.caption_image.proofs.put.Tie as tie
+use Rattle.block_store.specs.inner.Places.{Put}
+use Rattle.block_store.proofs.Laws.{put-start, put-more}
+use Rattle.block_store.proofs.put.Statement.{statement}
+use Rattle.block_store.proofs.put.Tie as tie
 
 abbrev Inv-loop : tie.InvT-loop
 Inv-loop out₀ at bytes k₀ out k = (k ≤ 16) × Put at k bytes out₀ out

@@ -1,0 +1,4 @@
+pub mod Solid
+pub mod Strict
+pub mod Forms
+pub mod Shows

@@ -1,0 +1,51 @@
+use mathlib.Core.Path.{_≡_, sym, ap, _∙_}
+use Prim.Native.Nat.{ℕ, _*_}
+use Rattle.image_size.specs.Sides.{sizeRefusal, blocksOf}
+use Rattle.canonical_image.proofs.Laws.{frame-size, frame-4, frame-5, frame-none}
+use borrow.Author.Needs.{needs}
+use Rattle.canonical_image.proofs.frame_refusal.Statement.{statement}
+use Rattle.canonical_image.proofs.frame_refusal.Tie as tie
+
+size-refusal-requires : tie.Need-size-refusal-requires
+size-refusal-requires c κs = search needs
+
+returns : tie.Need-returns
+returns c = frame-size _ _ _ _ _ _ (c .before .size-refusal .ensures) (c .if1 .taken)
+
+none : (c : tie.Else1) → sizeRefusal (c .before .before .args .fp) (c .before .before .args .width) (c .before .before .args .height) ≡ 0
+none c = sym (c .before .size-refusal .ensures) ∙ c .if1 .left
+
+-- sixteen bytes for each block
+sixteen : (c : tie.After-blocks-of) → let a = c .before .before .before .args in 16 * c .blocks-of .result ≡ 16 * blocksOf (a .fp) (a .width) (a .height)
+sixteen c = ap (λ (n : ℕ). 16 * n) (c .blocks-of .ensures .0)
+
+blocks-of-requires : tie.Need-blocks-of-requires
+blocks-of-requires c κs = search needs
+
+cast-if2 : tie.Need-cast-if2
+cast-if2 c = search needs
+
+mul-if2 : tie.Need-mul-if2
+mul-if2 c = search needs
+
+returns-2 : tie.Need-returns-2
+returns-2 c = frame-4 _ _ _ _ _ (none (c .before .before)) (λ q. c .if2 .taken (q ∙ sym (sixteen (c .before))))
+
+returns-3 : tie.Need-returns-3
+returns-3 c = frame-5 _ _ _ _ _ (none (c .before .before .before)) (c .before .if2 .left ∙ sixteen (c .before .before)) (c .if3 .taken)
+
+returns-4 : tie.Need-returns-4
+returns-4 c = frame-none _ _ _ _ _ (none (c .before .before .before)) (c .before .if2 .left ∙ sixteen (c .before .before)) (c .if3 .left)
+
+pub frame-refusal-spec : {M : Type 1} → statement M
+frame-refusal-spec =
+    tie.close
+    (tie.spec
+    size-refusal-requires
+    returns
+    blocks-of-requires
+    cast-if2
+    mul-if2
+    returns-2
+    returns-3
+    returns-4)

@@ -1,0 +1,17 @@
+-- What the calls for C that rewrite the blocks of an image answer and write, in a tally of three numbers that the caller lends.
+-- Assumes nothing.
+use Prim.Native.Nat.{ℕ}
+use mathlib.Core.List.{List}
+use lib.ListN.{length}
+use Rattle.image_layout.specs.Call.{toldOf}
+use Rattle.image_numbers.specs.Calls.{numberWith, outWith, tallyWith}
+use Rattle.canonical_image.specs.Frames.{frameRefusal, frameAnswer, frameOut}
+
+abbrev pub frameNumber : ℕ → ℕ → ℕ → List ℕ → ℕ → ℕ → ℕ
+frameNumber fp w h s places n = numberWith (toldOf (frameAnswer fp w h s places)) (frameRefusal fp w h (length s) places) n
+
+abbrev pub frameShown : ℕ → ℕ → ℕ → List ℕ → List ℕ → ℕ → List ℕ
+frameShown fp w h s old n = outWith n (frameOut fp w h s old) old
+
+abbrev pub frameTally : ℕ → ℕ → ℕ → List ℕ → ℕ → List ℕ → List ℕ
+frameTally fp w h s places old = tallyWith (toldOf (frameAnswer fp w h s places)) old
