@@ -56,24 +56,13 @@ fn held_of(state: &[u32]) -> [u8; 16]
     requires { ⌜ length (now state) ≡ 26 ⌝ }
     ensures { λ r. ⌜ r ≡ heldOf (now (state .entry)) ⌝ }
 {
-    [
-        low(state[10]),
-        low(state[11]),
-        low(state[12]),
-        low(state[13]),
-        low(state[14]),
-        low(state[15]),
-        low(state[16]),
-        low(state[17]),
-        low(state[18]),
-        low(state[19]),
-        low(state[20]),
-        low(state[21]),
-        low(state[22]),
-        low(state[23]),
-        low(state[24]),
-        low(state[25]),
-    ]
+    let mut held = [0u8; 16];
+    let mut k: usize = 0;
+    while k < 16 {
+        held[k] = low(state[10 + k]);
+        k += 1;
+    }
+    held
 }
 
 fn clip_of(state: &[u32]) -> Clip

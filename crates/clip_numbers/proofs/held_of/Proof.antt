@@ -1,48 +1,64 @@
-use mathlib.Core.List.{[], _∷_}
+-- `clip_numbers::held_of` meets its contract.
+use mathlib.Core.Path.{refl}
+use native.Mathlib.Omega.{arith}
+use Prim.Native.Nat.{_+_, _-_, _≤_, _%_}
 use borrow.Author.Needs.{needs}
-use Rattle.laws.specs.Table.{tabFrom, tab}
+use lib.ListN.{getD}
+use Rattle.laws.proofs.Filling.{Filling, filling-start, filling-more, filling-done}
 use Rattle.clip_numbers.specs.Numbers.{heldOf}
 use Rattle.clip_numbers.proofs.held_of.Statement.{statement}
 use Rattle.clip_numbers.proofs.held_of.Tie as tie
 
-returns : tie.Need-returns
-unfolding heldOf tab tabFrom
-returns c = λ t. (c .before .before .before .before .before .before .before .before .before .before .before .before .before .before .before .before .before .before .before .before .before .before .before .before .before .before .before .before .before .before .low .ensures t) ∷ (c .before .before .before .before .before .before .before .before .before .before .before .before .before .before .before .before .before .before .before .before .before .before .before .before .before .before .before .before .low2 .ensures t) ∷ (c .before .before .before .before .before .before .before .before .before .before .before .before .before .before .before .before .before .before .before .before .before .before .before .before .before .before .low3 .ensures t) ∷ (c .before .before .before .before .before .before .before .before .before .before .before .before .before .before .before .before .before .before .before .before .before .before .before .before .low4 .ensures t) ∷ (c .before .before .before .before .before .before .before .before .before .before .before .before .before .before .before .before .before .before .before .before .before .before .low5 .ensures t) ∷ (c .before .before .before .before .before .before .before .before .before .before .before .before .before .before .before .before .before .before .before .before .low6 .ensures t) ∷ (c .before .before .before .before .before .before .before .before .before .before .before .before .before .before .before .before .before .before .low7 .ensures t) ∷ (c .before .before .before .before .before .before .before .before .before .before .before .before .before .before .before .before .low8 .ensures t) ∷ (c .before .before .before .before .before .before .before .before .before .before .before .before .before .before .low9 .ensures t) ∷ (c .before .before .before .before .before .before .before .before .before .before .before .before .low10 .ensures t) ∷ (c .before .before .before .before .before .before .before .before .before .before .low11 .ensures t) ∷ (c .before .before .before .before .before .before .before .before .low12 .ensures t) ∷ (c .before .before .before .before .before .before .low13 .ensures t) ∷ (c .before .before .before .before .low14 .ensures t) ∷ (c .before .before .low15 .ensures t) ∷ (c .low16 .ensures t) ∷ []
+abbrev Inv-loop : tie.InvT-loop
+Inv-loop state held₀ k₀ held k = (k ≤ 16) × Filling (λ i. getD state (10 + i) 0 % 256) 0 16 held k
+
+abbrev μ-loop : tie.MeasureT-loop
+μ-loop state held₀ k₀ held k = 16 - k
+
+loop-holds : tie.Need-loop-holds Inv-loop μ-loop
+loop-holds c = (omega arith, filling-start _ 0 16 _ refl)
+
+add-low : tie.Need-add-low Inv-loop μ-loop
+add-low c = omega arith
+
+mul-low : tie.Need-mul-low Inv-loop μ-loop
+mul-low c = search needs
+
+shared-slice-read-low : tie.Need-shared-slice-read-low Inv-loop μ-loop
+shared-slice-read-low c = search needs
+
+low-requires : tie.Need-low-requires Inv-loop μ-loop
+low-requires c κs = search needs
+
+array-write-held : tie.Need-array-write-held Inv-loop μ-loop
+array-write-held c = omega arith
+
+add-k : tie.Need-add-k Inv-loop μ-loop
+add-k c = omega arith
+
+loop-less : tie.Need-loop-less Inv-loop μ-loop
+loop-less c = omega arith
+
+loop-again : tie.Need-loop-again Inv-loop μ-loop
+loop-again c = (omega arith, filling-more _ 0 16 _ _ _ (omega arith) (c .before .before .before .loop .inv .1) (c .low .ensures))
+
+returns : tie.Need-returns Inv-loop μ-loop
+unfolding heldOf
+returns c = filling-done _ 0 16 _ _ (omega arith) (c .before .loop .inv .1)
 
 pub held-of-spec : {M : Type 1} → statement M
 held-of-spec =
     tie.close
     (tie.spec
-    (λ c. search needs)
-    (λ c κs. search needs)
-    (λ c. search needs)
-    (λ c κs. search needs)
-    (λ c. search needs)
-    (λ c κs. search needs)
-    (λ c. search needs)
-    (λ c κs. search needs)
-    (λ c. search needs)
-    (λ c κs. search needs)
-    (λ c. search needs)
-    (λ c κs. search needs)
-    (λ c. search needs)
-    (λ c κs. search needs)
-    (λ c. search needs)
-    (λ c κs. search needs)
-    (λ c. search needs)
-    (λ c κs. search needs)
-    (λ c. search needs)
-    (λ c κs. search needs)
-    (λ c. search needs)
-    (λ c κs. search needs)
-    (λ c. search needs)
-    (λ c κs. search needs)
-    (λ c. search needs)
-    (λ c κs. search needs)
-    (λ c. search needs)
-    (λ c κs. search needs)
-    (λ c. search needs)
-    (λ c κs. search needs)
-    (λ c. search needs)
-    (λ c κs. search needs)
+    Inv-loop
+    μ-loop
+    loop-holds
+    add-low
+    mul-low
+    shared-slice-read-low
+    low-requires
+    array-write-held
+    add-k
+    loop-less
+    loop-again
     returns)
