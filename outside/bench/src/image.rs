@@ -35,7 +35,7 @@ fn mixed_blocks(footprint: usize) -> Vec<u8> {
 }
 
 fn solid_blocks(footprint: usize) -> Vec<u8> {
-    written(footprint, |r, _| void_extent(r))
+    written(footprint, |r, _| void_extent(r, footprint))
 }
 
 /// Blocks with a fault in kinds 0 and 1, random but for an even choice of block modes.

@@ -11,7 +11,7 @@ fn any_block(r: &mut Random, footprint: usize) -> [u8; 16] {
     match r.below(20) {
         0..4 => r.bytes(),
         4..7 => block_of_any_mode(r),
-        7 => void_extent_block(r),
+        7 => void_extent_block(r, footprint),
         8..13 => write(footprint, &any_symbolic_block(r, footprint)).unwrap(),
         13..16 => {
             let s = any_symbolic_block(r, footprint);
@@ -25,7 +25,7 @@ fn any_block(r: &mut Random, footprint: usize) -> [u8; 16] {
 }
 
 pub fn block(r: &mut Random) -> BlockCase {
-    let footprint = footprint(r);
+    let footprint = flat_footprint(r);
     let block = any_block(r, footprint);
     BlockCase::new(footprint, block)
 }
@@ -65,7 +65,7 @@ pub fn spare_bits(r: &mut Random) -> Vec<BlockCase> {
 pub fn hdr_edges(r: &mut Random) -> Vec<BlockCase> {
     let mut cases = Vec::new();
     for f in 0..FOOTPRINTS.len() {
-        for s in every_submode(r) {
+        for s in every_submode(r, f) {
             cases.push(BlockCase::new(f, write(f, &s).unwrap()));
         }
         for mode in 0..2048 {
@@ -75,7 +75,7 @@ pub fn hdr_edges(r: &mut Random) -> Vec<BlockCase> {
         }
         for mode in HDR_MODES {
             for (n, weight) in [(0, 0), (0, 3), (255, 0), (255, 3), (127, 1), (128, 2)] {
-                let mut s = block_of_submode(r, mode, 0);
+                let mut s = block_of_submode(r, f, mode, 0);
                 s.endpoints[..2 * (mode as usize / 4 + 1)].fill(n);
                 s.weights[..16].fill(weight);
                 cases.push(BlockCase::new(f, write(f, &s).unwrap()));
@@ -89,7 +89,7 @@ pub fn hdr_edges(r: &mut Random) -> Vec<BlockCase> {
             (1, [0x7C00, 0xFC00, 0x7C01, 0xFC01]),
             (1, [0x7DFF, 0x7E00, 0x7FFF, 0xFFFF]),
         ] {
-            let s = SymbolicBlock { hdr, colours, ..void_extent(r) };
+            let s = SymbolicBlock { hdr, colours, ..void_extent(r, f) };
             cases.push(BlockCase::new(f, write(f, &s).unwrap()));
         }
     }
@@ -101,7 +101,7 @@ pub fn hdr_marks(r: &mut Random) -> Vec<SymbolicCase> {
     let mut cases = Vec::new();
     for f in 0..FOOTPRINTS.len() {
         for mode in 0..16 {
-            let mut s = block_of_submode(r, 2, 0);
+            let mut s = block_of_submode(r, f, 2, 0);
             s.modes[0] = mode;
             s.endpoints = [0; 18];
             for hdr in [0, 1, 2, 3, 255, 256, 257, 65535] {
@@ -112,9 +112,9 @@ pub fn hdr_marks(r: &mut Random) -> Vec<SymbolicCase> {
             }
         }
         for hdr in [0, 1, 2, 3, 255, 256, 257, 65535] {
-            cases.push(SymbolicCase::new(f as u8, &SymbolicBlock { hdr, ..void_extent(r) }.to_numbers()));
+            cases.push(SymbolicCase::new(f as u8, &SymbolicBlock { hdr, ..void_extent(r, f) }.to_numbers()));
             // 31 comes before 12
-            let s = SymbolicBlock { hdr, extents: [1, 1, 0, 1], ..void_extent(r) };
+            let s = SymbolicBlock { hdr, extents: [1, 1, 0, 1, 0, 0], ..void_extent(r, f) };
             cases.push(SymbolicCase::new(f as u8, &s.to_numbers()));
         }
     }
@@ -169,7 +169,7 @@ const LIMITS: [u16; 28] = [
 
 /// Numbers of a symbolic block: acceptable, nearly so, or anything.
 pub fn symbolic(r: &mut Random) -> SymbolicCase {
-    let f = footprint(r);
+    let f = flat_footprint(r);
     let sort = r.below(16);
     let s = match sort {
         0..3 => any_symbolic_block(r, f),
@@ -183,7 +183,7 @@ pub fn symbolic(r: &mut Random) -> SymbolicCase {
         }
         11..13 => {
             // Settings that no block of this footprint may have; numbers where they are acceptable.
-            let mut s = SymbolicBlock { hdr: r.below(2) as u16, ..settings(r, true) };
+            let mut s = SymbolicBlock { hdr: r.below(2) as u16, ..settings(r, f, true) };
             if refusal(f, &s) == 0 {
                 fill_numbers(r, &mut s);
             }
@@ -199,7 +199,7 @@ pub fn symbolic(r: &mut Random) -> SymbolicCase {
             SymbolicBlock::from_numbers(&numbers)
         }
         _ => {
-            let mut s = void_extent(r);
+            let mut s = void_extent(r, f);
             match r.below(4) {
                 0 => s.extents.swap(0, 1),
                 1 => s.extents.swap(2, 3),
@@ -218,7 +218,7 @@ pub fn above_255(r: &mut Random) -> Vec<SymbolicCase> {
     let mut cases = Vec::new();
     for f in 0..FOOTPRINTS.len() {
         for place in 0..NUMBERS {
-            for s in [mode_block(r, f), mode_block(r, f), hdr_mode_block(r, f), void_extent(r)] {
+            for s in [mode_block(r, f), mode_block(r, f), hdr_mode_block(r, f), void_extent(r, f)] {
                 for above in [256 * (1 + r.below(255)), 256, 1024, 8192, 256 + r.below(65280), 65535] {
                     let mut numbers = s.to_numbers();
                     numbers[place] = if above % 256 == 0 { numbers[place] % 256 + above as u16 } else { above as u16 };
@@ -250,7 +250,7 @@ pub fn refused_lists(r: &mut Random) -> SymbolicCase {
 /// A symbolic block that is refused by 20 alone: HDR, without its mark.
 fn unmarked_block(r: &mut Random, footprint: usize) -> SymbolicBlock {
     loop {
-        let s = settings(r, true);
+        let s = settings(r, footprint, true);
         if refusal(footprint, &s) == 20 {
             return s;
         }
@@ -319,7 +319,7 @@ fn spoil(r: &mut Random, s: &mut SymbolicBlock, used: &Used) {
 
 /// An image of small sides, some of its blocks faulty.
 pub fn image(r: &mut Random) -> ImageCase {
-    let f = footprint(r);
+    let f = flat_footprint(r);
     let side = |r: &mut Random| 1 + if r.once_in(3) { r.below(13) } else { r.below(40) } as u32;
     let (width, height) = (side(r), side(r));
     // From no faulty block to many; mostly few, so that every fault comes first now and then.

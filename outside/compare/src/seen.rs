@@ -3,7 +3,7 @@
 use std::collections::{BTreeMap, BTreeSet};
 
 use reference::hdr::submodes;
-use reference::random::{HDR_MODES, spare_edges};
+use reference::random::{HDR_MODES, one_partition, spare_edges};
 use reference::tables::{BLOCK_MODES, BlockMode, Digit, ENDPOINT_RANGES};
 use reference::{Kind, NUMBERS, SymbolicBlock, endings, fault, present, read, read_spare, write};
 
@@ -320,12 +320,6 @@ fn possible(mode: u32) -> bool {
 
 /// The grid of a block mode, with one partition.
 fn grid_of(mode: u32) -> Option<SymbolicBlock> {
-    let BlockMode::Grid(g) = BLOCK_MODES[mode as usize] else { return None };
-    let mut s = SymbolicBlock::ZERO;
-    s.width = g.width as u16;
-    s.height = g.height as u16;
-    s.range = g.range as u16;
-    s.planes = g.planes as u16;
-    s.partitions = 1;
-    Some(s)
+    let BlockMode::Grid(grid) = BLOCK_MODES[0][mode as usize] else { return None };
+    Some(one_partition(grid))
 }

@@ -68,7 +68,7 @@ fn faulty(r: &mut Random, footprint: usize, each: usize) -> Vec<[u8; 16]> {
     let mut seen = [0; 21];
     for round in 0..4000 * each {
         let block = match round % 4 {
-            0 => void_extent_block(r),
+            0 => void_extent_block(r, footprint),
             1 => {
                 let block = write(footprint, &symbolic_block(r, footprint)).unwrap();
                 flip_bits(r, block)

@@ -11,11 +11,11 @@ fn blocks(r: &mut Random, footprint: usize, count: usize) -> Vec<[u8; 16]> {
     let mut put = |r: &mut Random, s: &SymbolicBlock| {
         blocks.push(if r.once_in(2) { write(footprint, s).unwrap() } else { loose_block(r, footprint, s) })
     };
-    for s in every_submode(r) {
+    for s in every_submode(r, footprint) {
         put(r, &s);
     }
     for _ in 0..count / 20 {
-        let s = hdr_void_extent(r);
+        let s = hdr_void_extent(r, footprint);
         put(r, &s);
     }
     for _ in 0..count / 2 {

@@ -3,6 +3,7 @@
 //! each HDR endpoint mode with every bit mode, major component and alpha mode, LDR partitions beside HDR ones, two planes, solid blocks with
 //! infinities and NaN; and two blocks with a fault.
 
+use reference::random::all_ones;
 use reference::{FOOTPRINTS, NUMBERS, SymbolicBlock, refusal, write};
 use std::io::Write;
 
@@ -17,6 +18,7 @@ fn sheet(
         n[17 + p] = mode;
     }
     n[103] = [2, 3, 7, 11, 14, 15].contains(&mode) as u16;
+    n[104] = 1;
     n[21..21 + endpoints.len()].copy_from_slice(endpoints);
     let most = [1, 2, 3, 4, 5, 7, 9, 11, 15, 19, 23, 31][range as usize];
     // at 4x4 the four texels that are looked at have all four weights
@@ -103,7 +105,7 @@ fn hdr() -> Vec<(usize, SymbolicBlock)> {
         all.push((footprint, s));
     }
     all.push((13, sheet((4, 4), 1, 1, 0, 3, 900, 2, &[3, 20, 30, 9, 14, 14])));
-    let solid = SymbolicBlock { mark: 1, extents: [8191; 4], ..SymbolicBlock::ZERO };
+    let solid = SymbolicBlock { mark: 1, extents: all_ones(0), ..SymbolicBlock::ZERO };
     for (hdr, colours) in [(0, [0, 1, 2, 3]), (0, [4, 5, 2047, 2049]), (0, [21504, 65504, 65534, 65535])] {
         all.push((1, SymbolicBlock { hdr, colours, ..solid }));
     }
