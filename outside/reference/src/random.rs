@@ -255,15 +255,19 @@ pub fn places(footprint: usize) -> impl Iterator<Item = [usize; 3]> {
     (0..width * height * depth).map(move |i| [i % width, i / width % height, i / width / height])
 }
 
+/// The block with another block mode in its low bits.
+pub fn with_mode(block: [u8; 16], mode: usize) -> [u8; 16] {
+    (u128::from_le_bytes(block) & !2047 | mode as u128).to_le_bytes()
+}
+
 /// The same block by the other of two block modes that say the same: 6x2x2 and its turns, one plane, the six low ranges (02, h).
 pub fn twin(footprint: usize, block: [u8; 16]) -> Option<[u8; 16]> {
-    let block = u128::from_le_bytes(block);
-    let (modes, mode) = (block_modes(footprint), (block & 2047) as usize);
+    let (modes, mode) = (block_modes(footprint), (u128::from_le_bytes(block) & 2047) as usize);
     if !is_volume(footprint) || !matches!(modes[mode], BlockMode::Grid(_)) {
         return None;
     }
     let other = (0..2048).find(|&m| m != mode && modes[m] == modes[mode])?;
-    Some((block & !2047 | other as u128).to_le_bytes())
+    Some(with_mode(block, other))
 }
 
 /// A block that reads as the acceptable symbolic block: any fitting codes, any spare bits, either of two block modes.
