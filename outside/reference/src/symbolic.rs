@@ -112,7 +112,7 @@ impl SymbolicBlock {
         mode_number(self.grid(), self.range as usize, self.planes as usize)
     }
 
-    pub(crate) fn weight_bits(&self) -> u32 {
+    pub fn weight_bits(&self) -> u32 {
         bit_count(WEIGHT_RANGES[self.range as usize], self.weight_count() as u32)
     }
 

@@ -4,6 +4,7 @@ pub mod bc7;
 pub mod caption;
 pub mod file;
 pub mod pvrtc;
+pub mod sheet;
 pub mod volume;
 
 /// The footprints in 01's order, then the volumes in 02's.

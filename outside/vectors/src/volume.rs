@@ -1,5 +1,10 @@
 //! Volumes of several blocks as astcenc shows them, and slices of flat footprints (README.md).
 
+/// Places x, y, z that the program of make_volume_runs prints of each block, and after these the last of all: the first, all turns of 0, 1 and 2,
+/// and one whose fractions may be equal.
+pub const PLACES: [[usize; 3]; 8] =
+    [[0, 0, 0], [0, 1, 2], [0, 2, 1], [1, 0, 2], [1, 2, 0], [2, 0, 1], [2, 1, 0], [1, 1, 1]];
+
 /// Records: footprint, width, height and depth (2 bytes each), the blocks, then for each texel four half floats, then for each texel four sRGB
 /// bytes. All numbers are little-endian.
 const STORED: &[u8] = include_bytes!("../data/volume_pictures.bin");
