@@ -273,7 +273,7 @@ class Bc7Sheet(TypedDict, total=False):
     secondary: List[int]
 
 
-Fields = Mapping[str, Union[int, List[int]]]
+_Fields = Mapping[str, Union[int, List[int]]]
 """Where the fields stand in a flat list: a number's place, or the places of a list's numbers."""
 
 
@@ -604,13 +604,13 @@ def decode_block(
     return texels.array, _fault(number)
 
 
-def _read(number: int, numbers: Any, fields: Fields) -> Any:
+def _read(number: int, numbers: Any, fields: _Fields) -> Any:
     if number:
         raise (Refused if number <= 5 else Faulty)(number)
     return {name: [numbers[i] for i in at] if isinstance(at, list) else numbers[at] for name, at in fields.items()}
 
 
-def _numbers(sheet: Mapping[str, Any], fields: Fields, count: int, most: int) -> List[int]:
+def _numbers(sheet: Mapping[str, Any], fields: _Fields, count: int, most: int) -> List[int]:
     """A sheet's fields as one list; fields that are not there are 0."""
     unknown = sorted(set(sheet) - set(fields))
     if unknown:

@@ -354,20 +354,18 @@ impl Seen {
             if s.depth != 0 && accepted(SymbolicBlock { depth: 0, ..*s }) {
                 self.count("void extent refused by its depth alone: 0 flat, 1 of a volume", volume as u32);
             }
-            let most = if volume { 511 } else { 8191 };
-            let above = |i: &usize| s.extents[*i] > if *i < 4 || volume { most } else { 0 };
-            let alone = SymbolicBlock { extents: s.extents.map(|e| e.min(most)), ..*s };
-            if let [place] = (0..6).filter(above).collect::<Vec<_>>()[..]
-                && reference::refusal(footprint, &SymbolicBlock { extents: only_flat(volume, alone.extents), ..alone })
-                    != 31
-            {
-                let sort = if volume {
-                    "volume's void extent refused by an extent above 511 alone"
-                } else {
-                    "flat void extent refused by an extent of the third axis alone"
-                };
-                if volume || place > 3 {
-                    self.count(sort, place as u32);
+            let most = |i: usize| match i {
+                _ if volume => 511,
+                0..4 => 8191,
+                _ => 0,
+            };
+            let above: Vec<usize> = (0..6).filter(|&i| s.extents[i] > most(i)).collect();
+            let right = SymbolicBlock { extents: std::array::from_fn(|i| s.extents[i].min(most(i))), ..*s };
+            if let ([place], true) = (&above[..], reference::refusal(footprint, &right) != 31) {
+                if volume {
+                    self.count("volume's void extent refused by an extent above 511 alone", *place as u32);
+                } else if *place > 3 {
+                    self.count("flat void extent refused by an extent of the third axis alone", *place as u32);
                 }
             }
         }
@@ -472,9 +470,4 @@ fn possible(footprint: usize) -> impl Iterator<Item = u32> {
 fn grid_of(footprint: usize, mode: u32) -> Option<SymbolicBlock> {
     let BlockMode::Grid(grid) = block_modes(footprint)[mode as usize] else { return None };
     Some(one_partition(grid))
-}
-
-/// The extents without those that a flat void extent does not use.
-fn only_flat(volume: bool, extents: [u16; 6]) -> [u16; 6] {
-    std::array::from_fn(|i| if i < 4 || volume { extents[i] } else { 0 })
 }
