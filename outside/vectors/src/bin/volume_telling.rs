@@ -1,7 +1,7 @@
 //! Writes the blocks of make_volume_runs to standard output, 18 bytes each: footprint, fault in kinds 0 and 1 (0 for none), block. Each row of the 3D
 //! mode table and both modes of three settings that have two; simplex infill in each of its six orders and with ties, at every volume footprint; two
-//! to four partitions, where all three shifts of the hash differ, at 3x3x3 and at larger ones; two planes with each channel; solid blocks, LDR and
-//! HDR; HDR endpoint modes, LDR partitions beside them; and each fault, its block made by hand so that only this row of 01's table holds.
+//! to four partitions with either shift of z in the hash, at 3x3x3 and at larger ones; two planes with each channel; solid blocks, LDR and
+//! HDR; HDR endpoint modes, LDR partitions beside them; and each fault, in a block made by hand to have it.
 
 use std::collections::BTreeSet;
 use std::io::Write;
@@ -11,7 +11,7 @@ use reference::{Kind, SymbolicBlock, fault, sides, write};
 use vectors::sheet::sheet;
 use vectors::volume::PLACES;
 
-/// Base and five more of six colours, as mode 8 takes them.
+/// Two colours as mode 8 takes them.
 const SIX: [u16; 6] = [10, 120, 140, 20, 30, 150];
 
 /// One plane, one partition of mode 8; of mode 0 where the weights leave no room for six endpoint numbers.
@@ -133,6 +133,7 @@ fn solid(extents: [u128; 6]) -> u128 {
     extents.iter().enumerate().fold(0x1FC, |block, (i, extent)| block | extent << (10 + 9 * i))
 }
 
+/// Footprint, the first row of 01's table that holds, and the block.
 fn faulty() -> Vec<(usize, u8, u128)> {
     vec![
         (14, 11, 0),
