@@ -369,7 +369,7 @@ pub fn image_faults(
     Tally::told(number, tally)
 }
 
-/// How many blocks an image has, each of 16 bytes; none where a side is 0 or above 16,384.
+/// How many blocks an image has, each of 16 bytes; none where a side is 0 or above 16,384, or the footprint is a volume.
 ///
 /// ```
 /// use stallbrook::{Footprint, image_blocks};
