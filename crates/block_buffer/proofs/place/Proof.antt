@@ -2,8 +2,8 @@ use Prim.Native.Nat.{_*_, _≤_}
 use native.Mathlib.Nat.{mul-le-mul}
 use native.Mathlib.Omega.{arith}
 use borrow.Author.Needs.{needs}
-use Rattle.block_core.proofs.place.Statement.{statement}
-use Rattle.block_core.proofs.place.Tie as tie
+use Rattle.block_buffer.proofs.place.Statement.{statement}
+use Rattle.block_buffer.proofs.place.Tie as tie
 
 small : (c : tie.Start) → c .args .y * c .args .width ≤ 255 * 255
 small c = mul-le-mul {n₂ = 255} {m₂ = 255} (omega arith) (omega arith)
