@@ -41,6 +41,18 @@ int main(void)
     ANSWERS(5, stallbrook_astc_decode_image_float16(0, 4, 4, block, 16, words, 64, NULL, 0));
     ANSWERS(3, stallbrook_astc_decode_image_srgb8(0, 0, 0, NULL, 0, NULL, 0, NULL, 0));
 
+    ANSWERS(4, stallbrook_astc_decode_volume_unorm16(0, 4, 4, 1, NULL, 0, words, 64, tally, 3));
+    ANSWERS(5, stallbrook_astc_decode_volume_unorm16(0, 4, 4, 1, block, 16, NULL, 0, tally, 3));
+    ANSWERS(5, stallbrook_astc_decode_volume_unorm16(0, 4, 4, 1, block, 16, words, 64, NULL, 0));
+    ANSWERS(4, stallbrook_astc_decode_volume_srgb8(0, 4, 4, 1, NULL, 0, bytes, 64, tally, 3));
+    ANSWERS(5, stallbrook_astc_decode_volume_srgb8(0, 4, 4, 1, block, 16, NULL, 0, tally, 3));
+    ANSWERS(5, stallbrook_astc_decode_volume_srgb8(0, 4, 4, 1, block, 16, bytes, 64, NULL, 0));
+    ANSWERS(4, stallbrook_astc_decode_volume_float16(0, 4, 4, 1, NULL, 0, words, 64, tally, 3));
+    ANSWERS(5, stallbrook_astc_decode_volume_float16(0, 4, 4, 1, block, 16, NULL, 0, tally, 3));
+    ANSWERS(5, stallbrook_astc_decode_volume_float16(0, 4, 4, 1, block, 16, words, 64, NULL, 0));
+    ANSWERS(3, stallbrook_astc_decode_volume_srgb8(23, 1, 1, 0, NULL, 0, NULL, 0, NULL, 0));
+    ANSWERS(1, stallbrook_astc_decode_volume_srgb8(24, 1, 1, 0, NULL, 0, NULL, 0, NULL, 0));
+
     ANSWERS(4, stallbrook_astc_image_faults(0, 0, 4, 4, NULL, 0, bytes, 1, tally, 3));
     ANSWERS(5, stallbrook_astc_image_faults(0, 0, 4, 4, block, 16, NULL, 0, tally, 3));
     ANSWERS(5, stallbrook_astc_image_faults(0, 0, 4, 4, block, 16, bytes, 1, NULL, 0));
@@ -60,6 +72,15 @@ int main(void)
     ANSWERS(4, stallbrook_astc_strict_decode_image_float16(0, 4, 4, NULL, 0, words, 64, tally, 3));
     ANSWERS(5, stallbrook_astc_strict_decode_image_float16(0, 4, 4, block, 16, NULL, 0, tally, 3));
     ANSWERS(5, stallbrook_astc_strict_decode_image_float16(0, 4, 4, block, 16, words, 64, NULL, 0));
+    ANSWERS(4, stallbrook_astc_strict_decode_volume_unorm16(0, 4, 4, 1, NULL, 0, words, 64, tally, 3));
+    ANSWERS(5, stallbrook_astc_strict_decode_volume_unorm16(0, 4, 4, 1, block, 16, NULL, 0, tally, 3));
+    ANSWERS(5, stallbrook_astc_strict_decode_volume_unorm16(0, 4, 4, 1, block, 16, words, 64, NULL, 0));
+    ANSWERS(4, stallbrook_astc_strict_decode_volume_srgb8(0, 4, 4, 1, NULL, 0, bytes, 64, tally, 3));
+    ANSWERS(5, stallbrook_astc_strict_decode_volume_srgb8(0, 4, 4, 1, block, 16, NULL, 0, tally, 3));
+    ANSWERS(5, stallbrook_astc_strict_decode_volume_srgb8(0, 4, 4, 1, block, 16, bytes, 64, NULL, 0));
+    ANSWERS(4, stallbrook_astc_strict_decode_volume_float16(0, 4, 4, 1, NULL, 0, words, 64, tally, 3));
+    ANSWERS(5, stallbrook_astc_strict_decode_volume_float16(0, 4, 4, 1, block, 16, NULL, 0, tally, 3));
+    ANSWERS(5, stallbrook_astc_strict_decode_volume_float16(0, 4, 4, 1, block, 16, words, 64, NULL, 0));
     ANSWERS(4, stallbrook_astc_strict_image_faults(0, 0, 4, 4, NULL, 0, bytes, 1, tally, 3));
     ANSWERS(5, stallbrook_astc_strict_image_faults(0, 0, 4, 4, block, 16, NULL, 0, tally, 3));
     ANSWERS(5, stallbrook_astc_strict_image_faults(0, 0, 4, 4, block, 16, bytes, 1, NULL, 0));

@@ -7,12 +7,14 @@
 #include "stallbrook.h"
 
 enum { THREADS = 8, ROUNDS = 40, SIDE = 64, BLOCKS = SIDE / 4 * (SIDE / 4), NUMBERS = 4 * SIDE * SIDE };
+enum { CUBE = 24, VOLUME_BLOCKS = CUBE * CUBE * CUBE / 64, VOLUME_NUMBERS = 4 * CUBE * CUBE * CUBE }; /* of 4x4x4 blocks */
 
 /* What a picture's calls leave. */
 struct seen {
     uint16_t unorm16[NUMBERS], float16[NUMBERS], symbolic[STALLBROOK_SYMBOLIC];
-    uint8_t srgb8[NUMBERS], bc7[NUMBERS], pvrtc[NUMBERS], written[16], caption[BLOCKS * 16], clip_block[16], faults[BLOCKS], answers[12];
-    uint64_t tally[5][STALLBROOK_TALLY], told[STALLBROOK_CLIP_TOLD];
+    uint8_t srgb8[NUMBERS], bc7[NUMBERS], pvrtc[NUMBERS], written[16], caption[BLOCKS * 16], clip_block[16], faults[BLOCKS], answers[13];
+    uint8_t volume[VOLUME_NUMBERS];
+    uint64_t tally[6][STALLBROOK_TALLY], told[STALLBROOK_CLIP_TOLD];
     uint16_t texel[4], spare[STALLBROOK_SPARE];
 };
 struct picture {
@@ -55,6 +57,7 @@ static void see(const struct picture *p, struct seen *s)
     s->answers[7] = stallbrook_astc_caption_image(3, 200, SIDE, SIDE, p->blocks, SIDE * SIDE, s->caption, sizeof s->caption);
     s->answers[8] = stallbrook_astc_texel_unorm16(0, SIDE, SIDE, p->blocks, sizeof p->blocks, SIDE / 2, SIDE - 1, s->texel, 4);
     s->answers[11] = stallbrook_astc_image_faults(0, 1, SIDE, SIDE, p->blocks, sizeof p->blocks, s->faults, sizeof s->faults, s->tally[4], 3);
+    s->answers[12] = stallbrook_astc_decode_volume_srgb8(STALLBROOK_4X4X4, CUBE, CUBE, CUBE, p->blocks, 16 * VOLUME_BLOCKS, s->volume, VOLUME_NUMBERS, s->tally[5], 3);
     s->answers[9] = stallbrook_clip_start(state, STALLBROOK_CLIP_STATE);
     s->answers[10] = stallbrook_clip_feed(state, STALLBROOK_CLIP_STATE, p->frame, sizeof p->frame, s->clip_block, 16, s->told, STALLBROOK_CLIP_TOLD);
 }
@@ -79,7 +82,7 @@ int main(void)
     for (int i = 0; i <= THREADS; i++) {
         make(&pictures[i], (uint32_t)i);
         see(&pictures[i], &alone[i]);
-        for (int a = 0; a < 12; a++)
+        for (int a = 0; a < 13; a++)
             wrong |= alone[i].answers[a] != 0; /* none of them is refused */
         wrong |= alone[i].tally[1][STALLBROOK_TALLY_FAULTY] == 0 || alone[i].tally[1][STALLBROOK_TALLY_FAULTY] == BLOCKS;
     }

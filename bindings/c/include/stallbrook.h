@@ -1,5 +1,5 @@
-/* Stallbrook: compressed textures read exactly. ASTC blocks, images and .astc files to texels, blocks to symbolic blocks and back, captions,
- * clips; BC7 blocks and pictures; PVRTC1 images. Link libstallbrook.a or libstallbrook.so.
+/* Stallbrook: compressed textures read exactly. ASTC blocks, images, volumes and .astc files to texels, blocks to symbolic blocks and back,
+ * captions, clips; BC7 blocks and pictures; PVRTC1 images. Link libstallbrook.a or libstallbrook.so.
  *
  * A list is lent as pointer and length, the length in elements. The pointer must be aligned and good for that many elements; where the length is
  * 0 it may be any, NULL too. A list that a call writes must not overlap any other list of the same call. Every call takes every number: nothing is
@@ -11,7 +11,7 @@
  *
  * Calls answer a uint8_t: 0 where all went well, else the number of a refusal or fault, below. stallbrook_text() says it in words.
  *
- * Texels are R, G, B, A, rows first. Kind 0, unorm16: 16-bit numbers (endpoints widen to 257c). Kind 1, srgb8: bytes before the sRGB curve (they
+ * Texels are R, G, B, A, rows first, of volumes layer by layer. Kind 0, unorm16: 16-bit numbers (endpoints widen to 257c). Kind 1, srgb8: bytes before the sRGB curve (they
  * widen to 256c+128, alpha as the colours, and the top byte is shown). Kind 2, float16: half floats, as 16-bit patterns, of LDR and of HDR
  * blocks: of an LDR channel 1.0 for the kind 0 number 65535, else that number / 65536 rounded towards zero; an HDR void extent shows its four
  * colours as they are stored, infinities and NaN too.
@@ -28,9 +28,9 @@ extern "C" {
 
 /* ---- Version, constants, and what the numbers mean. */
 
-#define STALLBROOK_VERSION "0.5.0"
+#define STALLBROOK_VERSION "0.6.0"
 #define STALLBROOK_VERSION_MAJOR 0
-#define STALLBROOK_VERSION_MINOR 5
+#define STALLBROOK_VERSION_MINOR 6
 #define STALLBROOK_VERSION_PATCH 0
 
 /* STALLBROOK_VERSION of the library that is linked or loaded. */
@@ -56,28 +56,45 @@ enum stallbrook_footprint {
     STALLBROOK_10X10 = 11,
     STALLBROOK_12X10 = 12,
     STALLBROOK_12X12 = 13,
-    STALLBROOK_FOOTPRINTS = 14
+    STALLBROOK_FLAT_FOOTPRINTS = 14, /* how many: those before are flat, those from here on are volumes */
+    STALLBROOK_3X3X3 = 14,
+    STALLBROOK_4X3X3 = 15,
+    STALLBROOK_4X4X3 = 16,
+    STALLBROOK_4X4X4 = 17,
+    STALLBROOK_5X4X4 = 18,
+    STALLBROOK_5X5X4 = 19,
+    STALLBROOK_5X5X5 = 20,
+    STALLBROOK_6X5X5 = 21,
+    STALLBROOK_6X6X5 = 22,
+    STALLBROOK_6X6X6 = 23,
+    STALLBROOK_FOOTPRINTS = 24
 };
 
-/* A footprint's sides in texels; 0 above 13. */
+/* A footprint's sides in texels; 0 above 23. A flat one has depth 1. */
 static inline uint32_t stallbrook_footprint_width(uint8_t footprint)
 {
-    static const uint8_t widths[STALLBROOK_FOOTPRINTS] = {4, 5, 5, 6, 6, 8, 8, 8, 10, 10, 10, 10, 12, 12};
+    static const uint8_t widths[STALLBROOK_FOOTPRINTS] = {4, 5, 5, 6, 6, 8, 8, 8, 10, 10, 10, 10, 12, 12, 3, 4, 4, 4, 5, 5, 5, 6, 6, 6};
     return footprint < STALLBROOK_FOOTPRINTS ? widths[footprint] : 0;
 }
 static inline uint32_t stallbrook_footprint_height(uint8_t footprint)
 {
-    static const uint8_t heights[STALLBROOK_FOOTPRINTS] = {4, 4, 5, 5, 6, 5, 6, 8, 5, 6, 8, 10, 10, 12};
+    static const uint8_t heights[STALLBROOK_FOOTPRINTS] = {4, 4, 5, 5, 6, 5, 6, 8, 5, 6, 8, 10, 10, 12, 3, 3, 4, 4, 4, 5, 5, 5, 6, 6};
     return footprint < STALLBROOK_FOOTPRINTS ? heights[footprint] : 0;
 }
+static inline uint32_t stallbrook_footprint_depth(uint8_t footprint)
+{
+    static const uint8_t depths[STALLBROOK_FOOTPRINTS] = {1, 1, 1, 1, 1, 1, 1, 1, 1, 1, 1, 1, 1, 1, 3, 3, 3, 4, 4, 4, 5, 5, 5, 6};
+    return footprint < STALLBROOK_FOOTPRINTS ? depths[footprint] : 0;
+}
 
-/* Lengths of lists, in elements, and the largest side of an image. */
+/* Lengths of lists, in elements, and the largest sides of a picture. */
 enum {
     STALLBROOK_LARGEST_SIDE = 16384,
+    STALLBROOK_LARGEST_DEPTH = 2048,
     STALLBROOK_BLOCK = 16,        /* bytes of an ASTC or BC7 block */
     STALLBROOK_TEXEL = 4,         /* numbers of a texel */
     STALLBROOK_TALLY = 3,         /* numbers of a tally */
-    STALLBROOK_SYMBOLIC = 104,    /* numbers of a symbolic block */
+    STALLBROOK_SYMBOLIC = 107,    /* numbers of a symbolic block */
     STALLBROOK_SPARE = 2,         /* numbers told of a block's spare bits */
     STALLBROOK_HEADER = 3,        /* numbers of a file's header as it is read */
     STALLBROOK_FILE_HEADER = 16,  /* bytes of it as it is written */
@@ -108,7 +125,7 @@ enum {
 enum {
     STALLBROOK_SYMBOLIC_VOID_EXTENT = 0,
     STALLBROOK_SYMBOLIC_COLOURS = 1, /* 4 */
-    STALLBROOK_SYMBOLIC_EXTENTS = 5, /* 4 */
+    STALLBROOK_SYMBOLIC_EXTENTS = 5, /* 4: low s, high s, low t, high t */
     STALLBROOK_SYMBOLIC_GRID_WIDTH = 9,
     STALLBROOK_SYMBOLIC_GRID_HEIGHT = 10,
     STALLBROOK_SYMBOLIC_WEIGHT_RANGE = 11,
@@ -120,7 +137,9 @@ enum {
     STALLBROOK_SYMBOLIC_MODES = 17,     /* 4 */
     STALLBROOK_SYMBOLIC_ENDPOINTS = 21, /* 18 */
     STALLBROOK_SYMBOLIC_WEIGHTS = 39,   /* 64 */
-    STALLBROOK_SYMBOLIC_HDR = 103
+    STALLBROOK_SYMBOLIC_HDR = 103,
+    STALLBROOK_SYMBOLIC_GRID_DEPTH = 104,
+    STALLBROOK_SYMBOLIC_DEPTH_EXTENTS = 105 /* 2: low r, high r */
 };
 enum {
     STALLBROOK_BC7_MODE = 0,
@@ -136,9 +155,9 @@ enum {
 /* Refusals. A call tells the first that holds, in the order that it says. */
 enum stallbrook_refusal {
     STALLBROOK_DONE = 0,
-    STALLBROOK_REFUSED_FOOTPRINT = 1,       /* footprint above 13 */
+    STALLBROOK_REFUSED_FOOTPRINT = 1,       /* footprint above 23; above 13 where a call takes flat ones only */
     STALLBROOK_REFUSED_KIND = 2,            /* kind above 2 */
-    STALLBROOK_REFUSED_SIDE = 3,            /* an image side is 0 or above 16384 */
+    STALLBROOK_REFUSED_SIDE = 3,            /* an image or volume side is 0 or above 16384, or a depth 0 or above 2048 */
     STALLBROOK_REFUSED_BLOCKS = 4,          /* block bytes not exactly 16 for each block; of PVRTC1 not 8 for each word */
     STALLBROOK_REFUSED_LENGTH = 5,          /* the call's other list (texels, tally, numbers or wanted greys) not exactly as long as said */
     STALLBROOK_REFUSED_FIELD = 31,          /* symbolic block: a field outside its limits, or an unused field not 0 */
@@ -162,9 +181,9 @@ enum stallbrook_refusal {
  * symbolic block too, and 20 where its HDR mark is clear with an HDR endpoint mode. */
 enum stallbrook_fault {
     STALLBROOK_FAULT_RESERVED = 11,         /* reserved block mode */
-    STALLBROOK_FAULT_VOID_EXTENT = 12,      /* void extent: bits 11..10 not both 1, or extents neither all ones nor low < high on both axes */
+    STALLBROOK_FAULT_VOID_EXTENT = 12,      /* void extent: flat with bits 11..10 not both 1, or extents neither all ones nor low < high on every axis */
     STALLBROOK_FAULT_HDR_VOID_EXTENT = 13,  /* void extent with bit 9 set (HDR) */
-    STALLBROOK_FAULT_GRID = 14,             /* weight grid wider or higher than the footprint */
+    STALLBROOK_FAULT_GRID = 14,             /* weight grid wider, higher or deeper than the footprint */
     STALLBROOK_FAULT_WEIGHTS = 15,          /* more than 64 weights, both planes counted */
     STALLBROOK_FAULT_WEIGHT_BITS = 16,      /* weight bits below 24 or above 96 */
     STALLBROOK_FAULT_PLANES = 17,           /* two planes with four partitions */
@@ -175,7 +194,7 @@ enum stallbrook_fault {
     STALLBROOK_FAULT_BC7_RESERVED = 71      /* BC7: a first byte of 0 */
 };
 
-/* ---- Sizes of ASTC images, so that no table is typed again. */
+/* ---- Sizes of ASTC images and volumes, so that no table is typed again. */
 
 /* How many blocks an image has, each of 16 bytes: 0 where the footprint is above 13 or a side is 0 or above 16384. */
 uint64_t stallbrook_astc_image_blocks(uint8_t footprint, uint32_t width, uint32_t height);
@@ -183,10 +202,17 @@ uint64_t stallbrook_astc_image_blocks(uint8_t footprint, uint32_t width, uint32_
 /* How many numbers an image's texels are, 4 for each: 0 where a side is 0 or above 16384. */
 uint64_t stallbrook_astc_image_numbers(uint32_t width, uint32_t height);
 
-/* How many numbers a block's texels are, 4 for each: 0 where the footprint is above 13. */
+/* How many blocks a volume has, each of 16 bytes: 0 where the footprint is above 23, a side is 0 or above 16384, or the depth 0 or above 2048. */
+uint64_t stallbrook_astc_volume_blocks(uint8_t footprint, uint32_t width, uint32_t height, uint32_t depth);
+
+/* How many numbers a volume's texels are, 4 for each: 0 where a side is 0 or above 16384, or the depth 0 or above 2048. */
+uint64_t stallbrook_astc_volume_numbers(uint32_t width, uint32_t height, uint32_t depth);
+
+/* How many numbers a block's texels are, 4 for each: 0 where the footprint is above 23. */
 uint32_t stallbrook_astc_block_numbers(uint8_t footprint);
 
-/* ---- ASTC blocks and images. */
+/* ---- ASTC blocks, images and volumes. The calls of one block take all footprints, 0 to 23, and so do the volume calls; those of an image, a file, a
+ * clip, a texel or a view take the flat ones, 0 to 13. */
 
 /* A block's texels: 16 bytes to 4 numbers for each texel of the footprint.
  * Answers 0, the block's fault (11 to 20; every texel is then 65535, 0, 65535, 65535, in srgb8 255, 0, 255, 255, in float16 65535 four times),
@@ -205,6 +231,16 @@ uint8_t stallbrook_astc_decode_image_srgb8(uint8_t footprint, uint32_t width, ui
     uint8_t *out, size_t out_len, uint64_t *tally, size_t tally_len);
 uint8_t stallbrook_astc_decode_image_float16(uint8_t footprint, uint32_t width, uint32_t height, const uint8_t *blocks, size_t blocks_len,
     uint16_t *out, size_t out_len, uint64_t *tally, size_t tally_len);
+
+/* A volume's texels: blocks of 16 bytes, x fastest, then y, then z, to 4 numbers for each texel of width x height x depth, in the same order. A flat
+ * footprint is taken too: its blocks are one layer thick.
+ * Answers 0, or the refusal 1, 3, 4 or 5, which leaves out as it was. tally as in the image calls; the first block's index is its place in the list. */
+uint8_t stallbrook_astc_decode_volume_unorm16(uint8_t footprint, uint32_t width, uint32_t height, uint32_t depth, const uint8_t *blocks,
+    size_t blocks_len, uint16_t *out, size_t out_len, uint64_t *tally, size_t tally_len);
+uint8_t stallbrook_astc_decode_volume_srgb8(uint8_t footprint, uint32_t width, uint32_t height, uint32_t depth, const uint8_t *blocks,
+    size_t blocks_len, uint8_t *out, size_t out_len, uint64_t *tally, size_t tally_len);
+uint8_t stallbrook_astc_decode_volume_float16(uint8_t footprint, uint32_t width, uint32_t height, uint32_t depth, const uint8_t *blocks,
+    size_t blocks_len, uint16_t *out, size_t out_len, uint64_t *tally, size_t tally_len);
 
 /* Which blocks of an image have a fault: one byte for each block in raster order, 0 or the fault that the image call of that kind tells of it. No
  * texel is painted. A block has 0 exactly where the image call shows its own texels: magenta with 0 is a magenta picture.
@@ -227,19 +263,22 @@ uint8_t stallbrook_astc_texel_float16(uint8_t footprint, uint32_t width, uint32_
 /* What a view of these blocks is refused by: 1, 3 or 4, or 0. The calls above test it at each asking. */
 uint8_t stallbrook_astc_view_refusal(uint8_t footprint, uint32_t width, uint32_t height, const uint8_t *blocks, size_t blocks_len);
 
-/* A block's symbolic block: its settings and stored numbers, as 104 numbers. In order, with their places: void-extent mark (0), 4 colours
+/* A block's symbolic block: its settings and stored numbers, as 107 numbers. In order, with their places: void-extent mark (0), 4 colours
  * (1 to 4), 4 extents (5 to 8), grid width (9), grid height (10), weight range (11), planes (12), plane channel (13), partitions (14),
- * partition index (15), selector (16), 4 endpoint modes (17 to 20), 18 endpoint numbers (21 to 38), 64 weights (39 to 102), HDR mark (103); unused
- * ones are 0. The HDR mark is a void extent's bit 9; of any other block it is 1 exactly where some partition's endpoint mode is HDR.
+ * partition index (15), selector (16), 4 endpoint modes (17 to 20), 18 endpoint numbers (21 to 38), 64 weights (39 to 102), HDR mark (103), grid
+ * depth (104), 2 extents of the third axis (105, 106); unused ones are 0. The HDR mark is a void extent's bit 9; of any other block it is 1 exactly
+ * where some partition's endpoint mode is HDR. The grid depth is 1 at flat footprints, 2 to 6 at volumes, and 0 of a void extent, whose extents are at
+ * most 8191 and four at flat footprints, at most 511 and six at volumes.
  * And its spare bits, those between endpoint numbers and weights that no field has, as 2 numbers: how many there are (0), which is 128 less the
  * bits of all fields, then 1 where any of them is set, else 0 (1). A void extent has none: 0, 0. The writer below sets none.
- * Answers 0, or the block's fault in float16 (11, 12, 14 to 19) or the refusal 1 or 4, all 104 and 2 numbers being 0 then. Where numbers is not
- * of 104 numbers or spare not of 2 it answers 1, 4 or else 5, and leaves both as they were. */
+ * Answers 0, or the block's fault in float16 (11, 12, 14 to 19) or the refusal 1 or 4, all 107 and 2 numbers being 0 then. Where numbers is not
+ * of 107 numbers or spare not of 2 it answers 1, 4 or else 5, and leaves both as they were. */
 uint8_t stallbrook_astc_read_symbolic(uint8_t footprint, const uint8_t *block, size_t block_len, uint16_t *numbers, size_t numbers_len,
     uint16_t *spare, size_t spare_len);
 
-/* The block of a symbolic block, with the smallest codes and spare bits 0: 104 numbers in the order above, whatever they are, to 16 bytes.
- * Answers 0, or the first refusal in the order 1, 4 (block not of 16 bytes), 5 (numbers not of 104), 31, 32, 14 to 17, 33, 18 to 20, 34, 35
+/* The block of a symbolic block, with the smallest codes and spare bits 0, and where two block modes say the same (volumes: 6x2x2 and its turns, one
+ * plane, the six low ranges) the smaller: 107 numbers in the order above, whatever they are, to 16 bytes.
+ * Answers 0, or the first refusal in the order 1, 4 (block not of 16 bytes), 5 (numbers not of 107), 31, 32, 14 to 17, 33, 18 to 20, 34, 35
  * (with mark 1: 1, 4, 5, 31, 12). On every refusal block is 16 zeros when it has 16 bytes, also where numbers has a wrong length; a block of
  * another length is left as it was. */
 uint8_t stallbrook_astc_write_symbolic(uint8_t footprint, const uint16_t *numbers, size_t numbers_len, uint8_t *block, size_t block_len);
@@ -328,7 +367,7 @@ uint8_t stallbrook_astc_decode_file_float16(const uint8_t *file, size_t file_len
 
 /* ---- One agreed form of each block: strict reading, and the canonical form.
  *
- * Many blocks read as the same symbolic block (set spare bits, larger codes of trit or quint groups); exactly one of them is what
+ * Many blocks read as the same symbolic block (set spare bits, larger codes of trit or quint groups, the larger of two block modes); exactly one of them is what
  * stallbrook_astc_write_symbolic makes, the canonical one. The strict calls tell any other block by fault 21, the last of the list, which shows the
  * error colour, is counted in a tally and gives zeros for a symbolic block, as every fault. In all else they are the calls without `strict`.
  * Files of other encoders hold blocks that are not canonical: rewrite them first. */
@@ -341,6 +380,12 @@ uint8_t stallbrook_astc_strict_decode_image_srgb8(uint8_t footprint, uint32_t wi
     uint8_t *out, size_t out_len, uint64_t *tally, size_t tally_len);
 uint8_t stallbrook_astc_strict_decode_image_float16(uint8_t footprint, uint32_t width, uint32_t height, const uint8_t *blocks, size_t blocks_len,
     uint16_t *out, size_t out_len, uint64_t *tally, size_t tally_len);
+uint8_t stallbrook_astc_strict_decode_volume_unorm16(uint8_t footprint, uint32_t width, uint32_t height, uint32_t depth, const uint8_t *blocks,
+    size_t blocks_len, uint16_t *out, size_t out_len, uint64_t *tally, size_t tally_len);
+uint8_t stallbrook_astc_strict_decode_volume_srgb8(uint8_t footprint, uint32_t width, uint32_t height, uint32_t depth, const uint8_t *blocks,
+    size_t blocks_len, uint8_t *out, size_t out_len, uint64_t *tally, size_t tally_len);
+uint8_t stallbrook_astc_strict_decode_volume_float16(uint8_t footprint, uint32_t width, uint32_t height, uint32_t depth, const uint8_t *blocks,
+    size_t blocks_len, uint16_t *out, size_t out_len, uint64_t *tally, size_t tally_len);
 uint8_t stallbrook_astc_strict_image_faults(uint8_t footprint, uint8_t kind, uint32_t width, uint32_t height, const uint8_t *blocks,
                                             size_t blocks_len, uint8_t *faults, size_t faults_len, uint64_t *tally, size_t tally_len);
 uint8_t stallbrook_astc_strict_read_symbolic(uint8_t footprint, const uint8_t *block, size_t block_len, uint16_t *numbers, size_t numbers_len,

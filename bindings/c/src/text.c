@@ -7,9 +7,9 @@ const char *stallbrook_text(uint8_t number)
 {
     switch (number) {
     case STALLBROOK_DONE: return "no refusal and no fault";
-    case STALLBROOK_REFUSED_FOOTPRINT: return "the footprint is above 13";
+    case STALLBROOK_REFUSED_FOOTPRINT: return "the footprint is above 23, or above 13 where only flat ones are taken";
     case STALLBROOK_REFUSED_KIND: return "the kind is above 2";
-    case STALLBROOK_REFUSED_SIDE: return "a side is 0 or above 16,384";
+    case STALLBROOK_REFUSED_SIDE: return "a side is 0 or above 16,384, or a volume's depth is 0 or above 2,048";
     case STALLBROOK_REFUSED_BLOCKS: return "the blocks' bytes are not exactly 16 for each block (PVRTC1: 8 for each word)";
     case STALLBROOK_REFUSED_LENGTH: return "a list is not exactly as long as said";
     case STALLBROOK_FAULT_RESERVED: return "the block mode is reserved";

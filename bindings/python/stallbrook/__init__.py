@@ -1,4 +1,4 @@
-"""Compressed textures read exactly: ASTC pictures, .astc files and clips, BC7 and PVRTC1, to texels; ASTC and BC7 settings to blocks and back.
+"""Compressed textures read exactly: ASTC pictures, volumes, .astc files and clips, BC7 and PVRTC1, to texels; ASTC and BC7 settings to blocks and back.
 
 A picture is opened from an .astc file (a path, or its bytes), or made from blocks:
 
@@ -34,6 +34,13 @@ A block's settings are a dict, and written back:
 >>> stallbrook.write_sheet("4x4", sheet) == sound
 True
 
+A volume is made from blocks of several layers (or, slice by slice, of flat ones):
+
+>>> cube = bytes([0x13, 0, 0, 0xFE, 1, 0, 0, 0, 0, 0, 0, 0, 0, 0x5F, 0x63, 0x11])
+>>> texels, tally = stallbrook.Volume(cube * 2, "3x3x3", 3, 3, 5).decode("srgb8")
+>>> texels.shape, int(texels[1, 0, 0, 0])
+((5, 3, 3, 4), 76)
+
 Pictures are numpy arrays where numpy can be imported, else memoryviews of the same shape. Inputs are anything with bytes: bytes, bytearray, memoryview,
 arrays. Calls may run on several threads, and let other Python threads run meanwhile; what is lent to a call must not change while it runs.
 """
@@ -55,7 +62,7 @@ except ImportError:
     numpy = None  # type: ignore[assignment]
 
 __all__ = [
-    "Bc7Sheet", "Clip", "Decoded", "Error", "Fault", "Faulty", "FirstFault", "Footprint", "Frame", "Kind", "Picture", "Refused", "Sheet", "Spare", "Tally", "Texel",
+    "Bc7Sheet", "Clip", "Decoded", "Error", "Fault", "Faulty", "FirstFault", "Footprint", "Frame", "Kind", "Picture", "Refused", "Sheet", "Spare", "Tally", "Texel", "Volume",
     "caption", "decode_bc7", "decode_block", "decode_pvrtc", "open", "read_bc7_sheet", "read_sheet", "spare_bits", "write_bc7_sheet", "write_frame", "write_sheet",
 ]
 
@@ -66,12 +73,14 @@ Array = Any
 
 
 class Footprint(enum.IntEnum):
-    """How many texels a block covers. Where a footprint is taken, its number, "6x6" and (6, 6) are too.
+    """How many texels a block covers, of a volume in several layers. Where a footprint is taken, its number, "6x6" and (6, 6) are too.
 
     >>> Footprint.of("6x6"), Footprint.of((6, 6)), Footprint.of(4)
     (<Footprint.F6X6: 4>, <Footprint.F6X6: 4>, <Footprint.F6X6: 4>)
-    >>> str(Footprint.F10X8), Footprint.F10X8.sides
-    ('10x8', (10, 8))
+    >>> str(Footprint.F10X8), Footprint.F10X8.sides, Footprint.F10X8.depth
+    ('10x8', (10, 8), 1)
+    >>> str(Footprint.F5X4X4), Footprint.F5X4X4.sides, Footprint.F5X4X4.depth
+    ('5x4x4', (5, 4, 4), 4)
     """
 
     F4X4 = 0
@@ -88,19 +97,33 @@ class Footprint(enum.IntEnum):
     F10X10 = 11
     F12X10 = 12
     F12X12 = 13
+    F3X3X3 = 14
+    F4X3X3 = 15
+    F4X4X3 = 16
+    F4X4X4 = 17
+    F5X4X4 = 18
+    F5X5X4 = 19
+    F5X5X5 = 20
+    F6X5X5 = 21
+    F6X6X5 = 22
+    F6X6X6 = 23
 
     @property
-    def sides(self) -> Tuple[int, int]:
-        """Texels in a row, and rows."""
-        width, height = self.name[1:].split("X")
-        return int(width), int(height)
+    def sides(self) -> Tuple[int, ...]:
+        """Texels in a row, rows, and of a volume layers."""
+        return tuple(map(int, self.name[1:].split("X")))
+
+    @property
+    def depth(self) -> int:
+        """Layers: 1 of a flat footprint."""
+        return self.sides[2] if len(self.sides) == 3 else 1
 
     def __str__(self) -> str:
-        return "{}x{}".format(*self.sides)
+        return "x".join(map(str, self.sides))
 
     @classmethod
     def of(cls, footprint: "FootprintLike") -> "Footprint":
-        """The footprint of a number, of "6x6" or of (6, 6); others are refused by 1."""
+        """The footprint of a number, of "6x6" or "4x4x4", of (6, 6) or (4, 4, 4); others are refused by 1."""
         if not isinstance(footprint, (str, tuple)):
             footprint = operator.index(footprint)
         for one in cls:
@@ -109,7 +132,7 @@ class Footprint(enum.IntEnum):
         raise Refused(1)
 
 
-FootprintLike = Union[Footprint, int, str, Tuple[int, int]]
+FootprintLike = Union[Footprint, int, str, Tuple[int, ...]]
 
 
 class Kind(enum.IntEnum):
@@ -180,7 +203,7 @@ class Fault(NamedTuple):
 
 
 class FirstFault(NamedTuple):
-    """The first block of a picture that has a fault: its index in raster order, and the fault."""
+    """The first block of a picture that has a fault: its index in the blocks' order, and the fault."""
 
     block: int
     fault: Fault
@@ -194,7 +217,7 @@ class Tally(NamedTuple):
 
 
 class Decoded(NamedTuple):
-    """A picture's texels, by row, column and channel, and what is told of its blocks."""
+    """A picture's texels, by row, column and channel, of a volume by layer first, and what is told of its blocks."""
 
     texels: Array
     tally: Tally
@@ -216,7 +239,8 @@ class Frame(NamedTuple):
 
 
 class Sheet(TypedDict, total=False):
-    """A block's settings and stored numbers; unused ones are 0. `void_extent` marks a solid block, `hdr` an HDR one."""
+    """A block's settings and stored numbers; unused ones are 0. `void_extent` marks a solid block, `hdr` an HDR one. `grid_depth` is 1 at flat footprints
+    and 2 to 6 at volumes; the six extents are low and high of s, t and r, of which a flat solid block has no r."""
 
     void_extent: int
     colours: List[int]
@@ -233,6 +257,7 @@ class Sheet(TypedDict, total=False):
     endpoints: List[int]
     weights: List[int]
     hdr: int
+    grid_depth: int
 
 
 class Bc7Sheet(TypedDict, total=False):
@@ -248,11 +273,25 @@ class Bc7Sheet(TypedDict, total=False):
     secondary: List[int]
 
 
-# the fields in the order of the flat lists, and how many numbers a list has
-_SHEET = dict.fromkeys(Sheet.__annotations__, 0)
-_SHEET.update(colours=4, extents=4, modes=4, endpoints=18, weights=64)
-_BC7_SHEET = dict.fromkeys(Bc7Sheet.__annotations__, 0)
-_BC7_SHEET.update(endpoints=18, p_bits=6, primary=16, secondary=16)
+_Fields = Mapping[str, Union[int, List[int]]]
+"""Where the fields stand in a flat list: a number's place, or the places of a list's numbers."""
+
+
+def _fields(sheet: Any, **lists: int) -> Any:
+    """The fields of a sheet, which stand in their order; how many numbers a list has."""
+    places: Dict[str, Union[int, List[int]]] = {}
+    at = 0
+    for name in sheet.__annotations__:
+        places[name] = list(range(at, at + lists[name])) if name in lists else at
+        at += lists.get(name, 1)
+    return places
+
+
+_SHEET = _fields(Sheet, colours=4, extents=4, modes=4, endpoints=18, weights=64)
+_SHEET["extents"] += [105, 106]  # those of the third axis stand last
+_SHEET_NUMBERS = 107
+_BC7_SHEET = _fields(Bc7Sheet, endpoints=18, p_bits=6, primary=16, secondary=16)
+_BC7_NUMBERS = 60
 
 
 def _told(number: int) -> None:
@@ -452,6 +491,67 @@ class Picture:
         return bytes(header) + self.blocks
 
 
+class Volume:
+    """A volume's blocks, x fastest, then y, then z, with its footprint and sides in texels. Refused by 1, 3 (sides, or a depth above 2,048) and 4 (length of
+    the blocks). Of a flat footprint each block is one layer thick. The blocks are kept as a Picture keeps them.
+
+    >>> volume = Volume(bytes(64), "4x4x4", 5, 4, 8)
+    >>> volume, volume.counts
+    (<Volume 5 by 4 by 8, 4x4x4>, (2, 1, 2))
+    """
+
+    __slots__ = ("footprint", "width", "height", "depth", "blocks")
+
+    footprint: Footprint
+    width: int
+    height: int
+    depth: int
+    blocks: bytes
+
+    def __init__(self, blocks: Bytes, footprint: FootprintLike, width: int, height: int, depth: int) -> None:
+        self.footprint = Footprint.of(footprint)
+        self.width, self.height, self.depth = _side(width), _side(height), _side(depth)
+        self.blocks = blocks if isinstance(blocks, bytes) else memoryview(blocks).tobytes()
+        count = _library.VOLUME_BLOCKS(*self._lent()[:4])
+        if not count:
+            raise Refused(3)
+        if len(self.blocks) != 16 * count:
+            raise Refused(4)
+
+    def _lent(self) -> Tuple[Any, ...]:
+        return self.footprint, self.width, self.height, self.depth, self.blocks, len(self.blocks)
+
+    def __repr__(self) -> str:
+        return f"<Volume {self.width} by {self.height} by {self.depth}, {self.footprint}>"
+
+    def __eq__(self, other: object) -> bool:
+        return isinstance(other, Volume) and self._lent() == other._lent()
+
+    def __hash__(self) -> int:
+        return hash(self._lent())
+
+    @property
+    def counts(self) -> Tuple[int, int, int]:
+        """Blocks in a row, rows of blocks, and layers of blocks."""
+        width, height = self.footprint.sides[:2]
+        return -(-self.width // width), -(-self.height // height), -(-self.depth // self.footprint.depth)
+
+    def decode(self, kind: KindLike = Kind.SRGB8, *, strict: bool = False) -> Decoded:
+        """All texels, an array of depth x height x width x 4 (R, G, B, A), and what is told of blocks with a fault, as `Picture.decode`.
+
+        >>> block = bytes([0x13, 0, 0, 0xFE, 1, 0, 0, 0, 0, 0, 0, 0, 0, 0x5F, 0x63, 0x11])
+        >>> texels, tally = Volume(block + bytes(16), "3x3x3", 3, 3, 4).decode("unorm16")
+        >>> [int(texels[z, 2, 2, 1]) for z in range(4)]
+        [27648, 47103, 65535, 0]
+        >>> tally.first
+        FirstFault(block=1, fault=Fault(number=11))
+        """
+        kind = Kind.of(kind)
+        texels, tally = _Texels(kind, (self.depth, self.height, self.width, 4)), (ctypes.c_uint64 * 3)()
+        call = (_library.STRICT_DECODE_VOLUME if strict else _library.DECODE_VOLUME)[kind]
+        return _decoded(call(*self._lent(), texels.address, texels.count, tally, 3), texels, tally)
+
+
 def _side(side: int) -> int:
     """A side that the calls take as a 32-bit number; others are refused by 3, as they would be."""
     side = operator.index(side)
@@ -483,15 +583,20 @@ def open(file: Union[str, "os.PathLike[str]", Bytes]) -> Picture:
 def decode_block(
     footprint: FootprintLike, block: Bytes, kind: KindLike = Kind.SRGB8, *, strict: bool = False
 ) -> Tuple[Array, Optional[Fault]]:
-    """One block's texels, an array of its rows x columns x 4, and its fault, None where it has none. Refused by 4 where it is not of 16 bytes.
+    """One block's texels, an array of its rows x columns x 4, of a volume layers x rows x columns x 4, and its fault, None where it has none. Refused by 4
+    where it is not of 16 bytes.
 
     >>> texels, fault = decode_block("4x4", bytes(16))
     >>> fault
     Fault(number=11)
+    >>> decode_block("5x4x3", bytes(16))
+    Traceback (most recent call last):
+    stallbrook.Refused: 1: the footprint is above 23, or above 13 where only flat ones are taken
+    >>> decode_block("5x4x4", bytes(16))[0].shape
+    (4, 4, 5, 4)
     """
     footprint, kind = Footprint.of(footprint), Kind.of(kind)
-    width, height = footprint.sides
-    texels = _Texels(kind, (height, width, 4))
+    texels = _Texels(kind, (*reversed(footprint.sides), 4))
     call = (_library.STRICT_DECODE_BLOCK if strict else _library.DECODE_BLOCK)[kind]
     number = call(footprint, *_lent(block), texels.address, texels.count)
     if 0 < number <= 5:
@@ -499,31 +604,27 @@ def decode_block(
     return texels.array, _fault(number)
 
 
-def _read(number: int, numbers: Any, fields: Mapping[str, int]) -> Any:
+def _read(number: int, numbers: Any, fields: _Fields) -> Any:
     if number:
         raise (Refused if number <= 5 else Faulty)(number)
-    sheet: Any = {}
-    at = 0
-    for name, count in fields.items():
-        sheet[name] = list(numbers[at : at + count]) if count else numbers[at]
-        at += count or 1
-    return sheet
+    return {name: [numbers[i] for i in at] if isinstance(at, list) else numbers[at] for name, at in fields.items()}
 
 
-def _numbers(sheet: Mapping[str, Any], fields: Mapping[str, int], most: int) -> List[int]:
+def _numbers(sheet: Mapping[str, Any], fields: _Fields, count: int, most: int) -> List[int]:
     """A sheet's fields as one list; fields that are not there are 0."""
     unknown = sorted(set(sheet) - set(fields))
     if unknown:
         raise KeyError("no such field: " + ", ".join(unknown))
-    numbers: List[int] = []
-    for name, count in fields.items():
-        field = sheet.get(name, [0] * count if count else 0)
-        field = list(field) if count else [field]
-        if len(field) != (count or 1):
-            raise ValueError(f"{name} is of {count} numbers")
+    numbers = [0] * count
+    for name, given in sheet.items():
+        at = fields[name]
+        places, field = (at, list(given)) if isinstance(at, list) else ([at], [given])
+        if len(field) != len(places):
+            raise ValueError(f"{name} is of {len(places)} numbers")
         if not all(0 <= number <= most for number in field):
             raise ValueError(f"a number of {name} is not from 0 to {most}")
-        numbers += field
+        for place, number in zip(places, field):
+            numbers[place] = number
     return numbers
 
 
@@ -549,20 +650,23 @@ def spare_bits(footprint: FootprintLike, block: Bytes) -> Spare:
 
 
 def _read_symbolic(footprint: FootprintLike, block: Bytes, strict: bool = False) -> Tuple[Sheet, Spare]:
-    numbers, spare = (ctypes.c_uint16 * 104)(), (ctypes.c_uint16 * 2)()
+    numbers, spare = (ctypes.c_uint16 * _SHEET_NUMBERS)(), (ctypes.c_uint16 * 2)()
     call = _library.STRICT_READ_SYMBOLIC if strict else _library.READ_SYMBOLIC
-    number = call(Footprint.of(footprint), *_lent(block), numbers, 104, spare, 2)
+    number = call(Footprint.of(footprint), *_lent(block), numbers, _SHEET_NUMBERS, spare, 2)
     return _read(number, numbers, _SHEET), Spare(spare[0], spare[1] == 1)
 
 
 def write_sheet(footprint: FootprintLike, sheet: Sheet) -> bytes:
     """The block of a sheet, with the smallest codes; fields that are not there are 0. Refused by 31 to 35, and by a fault's number.
 
-    >>> write_sheet("4x4", {"void_extent": 1, "colours": [65535, 0, 0, 65535], "extents": [8191] * 4}).hex()
+    >>> write_sheet("4x4", {"void_extent": 1, "colours": [65535, 0, 0, 65535], "extents": [8191, 8191, 8191, 8191, 0, 0]}).hex()
+    'fcfdffffffffffffffff00000000ffff'
+    >>> write_sheet("4x4x4", {"void_extent": 1, "colours": [65535, 0, 0, 65535], "extents": [511] * 6}).hex()
     'fcfdffffffffffffffff00000000ffff'
     """
-    numbers, block = (ctypes.c_uint16 * 104)(*_numbers(sheet, _SHEET, 65535)), _bytes(16)
-    _told(_library.WRITE_SYMBOLIC(Footprint.of(footprint), numbers, 104, block, 16))
+    numbers = (ctypes.c_uint16 * _SHEET_NUMBERS)(*_numbers(sheet, _SHEET, _SHEET_NUMBERS, 65535))
+    block = _bytes(16)
+    _told(_library.WRITE_SYMBOLIC(Footprint.of(footprint), numbers, _SHEET_NUMBERS, block, 16))
     return bytes(block)
 
 
@@ -606,8 +710,8 @@ def read_bc7_sheet(block: Bytes) -> Bc7Sheet:
     >>> read_bc7_sheet(bytes([0x40] * 16))["mode"]
     6
     """
-    numbers = _bytes(60)
-    return _read(_library.BC7_READ_SYMBOLIC(*_lent(block), numbers, 60), numbers, _BC7_SHEET)
+    numbers = _bytes(_BC7_NUMBERS)
+    return _read(_library.BC7_READ_SYMBOLIC(*_lent(block), numbers, _BC7_NUMBERS), numbers, _BC7_SHEET)
 
 
 def write_bc7_sheet(sheet: Bc7Sheet) -> bytes:
@@ -616,8 +720,9 @@ def write_bc7_sheet(sheet: Bc7Sheet) -> bytes:
     >>> write_bc7_sheet(read_bc7_sheet(bytes([0x40] * 16))) == bytes([0x40] * 16)
     True
     """
-    numbers, block = (ctypes.c_uint8 * 60)(*_numbers(sheet, _BC7_SHEET, 255)), _bytes(16)
-    _told(_library.BC7_WRITE_SYMBOLIC(numbers, 60, block, 16))
+    numbers = (ctypes.c_uint8 * _BC7_NUMBERS)(*_numbers(sheet, _BC7_SHEET, _BC7_NUMBERS, 255))
+    block = _bytes(16)
+    _told(_library.BC7_WRITE_SYMBOLIC(numbers, _BC7_NUMBERS, block, 16))
     return bytes(block)
 
 

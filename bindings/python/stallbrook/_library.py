@@ -65,8 +65,12 @@ def _call(name: str, *types: Any) -> Any:
 KINDS = ("unorm16", "srgb8", "float16")
 DECODE_BLOCK = [_call("astc_decode_block_" + kind, BYTE, LIST, LIST) for kind in KINDS]
 DECODE_IMAGE = [_call("astc_decode_image_" + kind, BYTE, SIDE, SIDE, LIST, LIST, LIST) for kind in KINDS]
+DECODE_VOLUME = [_call("astc_decode_volume_" + kind, BYTE, SIDE, SIDE, SIDE, LIST, LIST, LIST) for kind in KINDS]
 STRICT_DECODE_BLOCK = [_call("astc_strict_decode_block_" + kind, BYTE, LIST, LIST) for kind in KINDS]
 STRICT_DECODE_IMAGE = [_call("astc_strict_decode_image_" + kind, BYTE, SIDE, SIDE, LIST, LIST, LIST) for kind in KINDS]
+STRICT_DECODE_VOLUME = [_call("astc_strict_decode_volume_" + kind, BYTE, SIDE, SIDE, SIDE, LIST, LIST, LIST) for kind in KINDS]
+VOLUME_BLOCKS = _call("astc_volume_blocks", BYTE, SIDE, SIDE, SIDE)
+VOLUME_BLOCKS.restype = ctypes.c_uint64
 STRICT_IMAGE_FAULTS = _call("astc_strict_image_faults", BYTE, BYTE, SIDE, SIDE, LIST, LIST, LIST)
 STRICT_READ_SYMBOLIC = _call("astc_strict_read_symbolic", BYTE, LIST, LIST, LIST)
 CANONICAL_IMAGE = _call("astc_canonical_image", BYTE, SIDE, SIDE, LIST, LIST, LIST)

@@ -15,10 +15,11 @@ import unittest
 import unittest.mock
 
 import stallbrook
-from stallbrook import Fault, Footprint, Kind, Picture, Refused
+from stallbrook import Fault, Footprint, Kind, Picture, Refused, Volume
 
 SOUND = bytes([0x42, 0, 0, 0xFE, 1, 0, 0, 0, 0, 0, 0, 0, 0, 0, 0, 0x80])
 HDR = bytes([0xFC] + [0xFF] * 7 + [0, 0x3C, 0, 0x7C, 0, 0x38, 0, 0x40])  # an HDR void extent: 1.0, infinity, 0.5, 2.0
+CUBE = bytes([0x13, 0, 0, 0xFE, 1, 0, 0, 0, 0, 0, 0, 0, 0, 0x5F, 0x63, 0x11])  # 3x3x3: greys 0 to 255 from corner to corner
 PACKAGE = pathlib.Path(stallbrook.__file__).parent
 
 
@@ -80,7 +81,8 @@ class Pictures(Told):
         self.assertEqual((tally.faulty, tally.first), (3, (1, Fault(13))))
 
     def test_refusals(self):
-        self.refused(1, Picture, SOUND, 14, 4, 4)
+        self.refused(1, Picture, SOUND, 14, 3, 3)
+        self.refused(1, Picture, SOUND, 24, 4, 4)
         self.refused(1, Picture, SOUND, "4x5", 4, 4)
         self.refused(3, Picture, SOUND, "4x4", 0, 4)
         self.refused(3, Picture, SOUND, "4x4", -1, 4)
@@ -118,6 +120,51 @@ class Pictures(Told):
         self.assertEqual(picture.texel(0, 0).fault, None)
 
 
+class Volumes(Told):
+    def test_kinds(self):
+        # two blocks in a row, the second showing a column, and two behind them that are damaged
+        volume = Volume(CUBE + CUBE + bytes(32), "3x3x3", 4, 3, 4)
+        for kind, corner, bad in ((Kind.UNORM16, 65535, [65535, 0, 65535, 65535]), (Kind.SRGB8, 255, [255, 0, 255, 255])):
+            texels, tally = volume.decode(kind)
+            self.assertEqual(texels.shape, (4, 3, 4, 4))
+            self.assertEqual(texels.tolist()[2][2][2], [corner] * 4)
+            self.assertEqual(texels.tolist()[3][0][0], bad)
+            self.assertEqual(tally, (2, (2, Fault(11))))
+        greys = [[[texel[0] for texel in row] for row in layer] for layer in volume.decode("srgb8").texels.tolist()]
+        self.assertEqual(greys[0], [[0, 20, 36, 0], [36, 56, 72, 36], [72, 92, 108, 72]])
+        self.assertEqual(greys[2], [[147, 167, 183, 147], [183, 203, 219, 183], [219, 239, 255, 219]])
+        self.assertEqual(Volume(HDR, "6x5x5", 1, 1, 2).decode("float16").tally, (0, None))
+        self.assertEqual(Volume(HDR, "6x5x5", 1, 1, 2).decode("unorm16").tally.first.fault, Fault(13))
+
+    def test_slices(self):
+        volume = Volume(SOUND + bytes(16) + SOUND, "4x4", 4, 4, 3)
+        texels, tally = volume.decode()
+        slices = [Picture(block, "4x4", 4, 4).decode().texels.tolist() for block in (SOUND, bytes(16), SOUND)]
+        self.assertEqual((texels.tolist(), tally), (slices, (1, (1, Fault(11)))))
+
+    def test_strict(self):
+        volume = Volume(CUBE[:5] + bytes([1]) + CUBE[6:], "3x3x3", 3, 3, 3)
+        self.assertEqual(volume.decode().tally, (0, None))
+        self.assertEqual(volume.decode(strict=True).tally, (1, (0, Fault(21))))
+        self.assertEqual(Volume(CUBE, "3x3x3", 3, 3, 3).decode("float16", strict=True).tally, (0, None))
+
+    def test_refusals(self):
+        self.refused(1, Volume, CUBE, 24, 1, 1, 1)
+        self.refused(1, Volume, CUBE, "3x3x4", 1, 1, 1)
+        for sides in ((0, 1, 1), (1, 0, 1), (1, 1, 0), (16385, 1, 1), (1, 16385, 1), (1, 1, 2049), (1, 1, -1), (1, 1, 1 << 40)):
+            self.refused(3, Volume, CUBE, "3x3x3", *sides)
+        self.refused(4, Volume, CUBE, "3x3x3", 3, 3, 4)
+        self.refused(4, Volume, CUBE * 2, "3x3x3", 3, 3, 3)
+        self.refused(4, Volume, CUBE, "4x4", 4, 4, 2)
+        self.refused(2, Volume(CUBE, "3x3x3", 3, 3, 3).decode, 3)
+
+    def test_a_volume_is_a_value(self):
+        volume = Volume(bytearray(CUBE), (3, 3, 3), 2, 3, 1)
+        self.assertEqual((volume, hash(volume)), (Volume(CUBE, 14, 2, 3, 1), hash(Volume(CUBE, 14, 2, 3, 1))))
+        self.assertNotEqual(volume, Volume(CUBE, 14, 2, 3, 2))
+        self.assertEqual((volume.counts, Volume(CUBE * 12, 14, 4, 6, 7).counts), ((1, 1, 1), (2, 2, 3)))
+
+
 class Files(Told):
     def test_bytes_and_path(self):
         file = Picture(SOUND, "4x4", 3, 2).to_file()
@@ -141,9 +188,12 @@ class Files(Told):
 
     def test_sides_are_the_librarys(self):
         for footprint in Footprint:
-            width, height = footprint.sides
-            self.assertEqual(tuple(Picture(SOUND, footprint, 1, 1).to_file()[4:6]), (width, height))
-            self.assertEqual(stallbrook.decode_block(footprint, bytes(16))[0].shape, (height, width, 4))
+            self.assertEqual(stallbrook.decode_block(footprint, bytes(16))[0].shape, (*footprint.sides[::-1], 4))
+            self.assertEqual(len(footprint.sides), 2 if footprint < 14 else 3)
+            if footprint < 14:
+                self.assertEqual(tuple(Picture(SOUND, footprint, 1, 1).to_file()[4:7]), (*footprint.sides, footprint.depth))
+            else:
+                self.assertEqual(Volume(SOUND, footprint, *footprint.sides).counts, (1, 1, 1))
 
 
 class Sheets(Told):
@@ -160,6 +210,22 @@ class Sheets(Told):
         sheet = stallbrook.read_sheet("4x4", HDR)
         self.assertEqual((sheet["void_extent"], sheet["colours"], sheet["hdr"]), (1, [0x3C00, 0x7C00, 0x3800, 0x4000], 1))
         self.assertEqual(stallbrook.write_sheet("4x4", sheet), HDR)
+
+    def test_volumes(self):
+        sheet = stallbrook.read_sheet("3x3x3", CUBE)
+        self.assertEqual([sheet[name] for name in ("grid_width", "grid_height", "grid_depth", "weight_range")], [2, 2, 2, 5])
+        self.assertEqual((sheet["weights"][:9], sheet["extents"]), ([0, 1, 2, 3, 4, 5, 6, 7, 0], [0] * 6))
+        self.assertEqual(stallbrook.write_sheet("3x3x3", sheet), CUBE)
+        self.refused(31, stallbrook.write_sheet, "4x4", sheet)
+        self.refused(14, stallbrook.write_sheet, "3x3x3", dict(sheet, grid_depth=4))
+        self.refused(32, stallbrook.write_sheet, "6x6x6", dict(sheet, grid_width=7))
+        solid = {"void_extent": 1, "colours": [1, 2, 3, 4], "extents": [0, 1, 2, 3, 4, 511]}
+        block = stallbrook.write_sheet("6x6x6", solid)
+        self.assertEqual({name: stallbrook.read_sheet("6x6x6", block)[name] for name in solid}, solid)
+        self.refused(31, stallbrook.write_sheet, "6x6", solid)
+        self.refused(31, stallbrook.write_sheet, "6x6x6", dict(solid, extents=[0, 1, 2, 3, 4, 512]))
+        self.refused(12, stallbrook.write_sheet, "6x6x6", dict(solid, extents=[0, 1, 2, 3, 5, 5]))
+        self.assertRaises(ValueError, stallbrook.write_sheet, "6x6x6", dict(solid, extents=[511] * 4))
 
     def test_bad_sheets(self):
         self.assertRaises(KeyError, stallbrook.write_sheet, "4x4", {"colors": [0] * 4})
@@ -223,14 +289,14 @@ class Others(Told):
         for footprint in Footprint:
             for given in (footprint, int(footprint), str(footprint), footprint.sides):
                 self.assertIs(Footprint.of(given), footprint)
-        for other in (14, -1, "4X4", (4, 5)):
+        for other in (24, -1, "4X4", (4, 5), "4x4x5", (3, 3, 4), (4, 4, 1)):
             self.refused(1, Footprint.of, other)
         self.assertRaises(TypeError, Footprint.of, 4.0)
         self.assertEqual([Kind.of(str(kind)) for kind in Kind], list(Kind))
 
     def test_errors_are_values(self):
         error = pickle.loads(pickle.dumps(Refused(3)))
-        self.assertEqual((type(error), error.number, str(error)), (Refused, 3, "3: a side is 0 or above 16,384"))
+        self.assertEqual((type(error), error.number, str(error)), (Refused, 3, "3: a side is 0 or above 16,384, or a volume's depth is 0 or above 2,048"))
         self.assertTrue(issubclass(Refused, ValueError))
 
     def test_threads(self):

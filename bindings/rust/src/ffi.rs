@@ -31,6 +31,20 @@ unsafe extern "C" {
         tally: *mut u64, tally_len: usize,
     ) -> u8;
 
+    /// 0 or 1, 3, 4, 5; blocks and texels x fastest, then y, then z. Tally as above.
+    pub fn stallbrook_astc_decode_volume_unorm16(
+        footprint: u8, width: u32, height: u32, depth: u32, blocks: *const u8, blocks_len: usize, out: *mut u16,
+        out_len: usize, tally: *mut u64, tally_len: usize,
+    ) -> u8;
+    pub fn stallbrook_astc_decode_volume_srgb8(
+        footprint: u8, width: u32, height: u32, depth: u32, blocks: *const u8, blocks_len: usize, out: *mut u8,
+        out_len: usize, tally: *mut u64, tally_len: usize,
+    ) -> u8;
+    pub fn stallbrook_astc_decode_volume_float16(
+        footprint: u8, width: u32, height: u32, depth: u32, blocks: *const u8, blocks_len: usize, out: *mut u16,
+        out_len: usize, tally: *mut u64, tally_len: usize,
+    ) -> u8;
+
     /// 0 or 1, 2, 3, 4, 5; one byte for each block, its fault or 0. Tally as above.
     pub fn stallbrook_astc_image_faults(
         footprint: u8, kind: u8, width: u32, height: u32, blocks: *const u8, blocks_len: usize, faults: *mut u8,
@@ -40,16 +54,18 @@ unsafe extern "C" {
     /// Sizes, 0 where a footprint or a side is refused.
     pub fn stallbrook_astc_image_blocks(footprint: u8, width: u32, height: u32) -> u64;
     pub fn stallbrook_astc_image_numbers(width: u32, height: u32) -> u64;
+    pub fn stallbrook_astc_volume_blocks(footprint: u8, width: u32, height: u32, depth: u32) -> u64;
+    pub fn stallbrook_astc_volume_numbers(width: u32, height: u32, depth: u32) -> u64;
     pub fn stallbrook_astc_block_numbers(footprint: u8) -> u32;
 
-    /// 0, a fault of float16, or 1, 4; the 104 numbers and the two of the spare bits are all 0 unless it answers 0. 5 where there are not 104
+    /// 0, a fault of float16, or 1, 4; the 107 numbers and the two of the spare bits are all 0 unless it answers 0. 5 where there are not 107
     /// and 2, nothing written.
     pub fn stallbrook_astc_read_symbolic(
         footprint: u8, block: *const u8, block_len: usize, numbers: *mut u16, numbers_len: usize, spare: *mut u16,
         spare_len: usize,
     ) -> u8;
 
-    /// 0 or the first refusal; the 16 bytes are all 0 unless it answers 0. Where there are not 16 bytes or not 104 numbers, 1, 4 or 5,
+    /// 0 or the first refusal; the 16 bytes are all 0 unless it answers 0. Where there are not 16 bytes or not 107 numbers, 1, 4 or 5,
     /// nothing written.
     pub fn stallbrook_astc_write_symbolic(
         footprint: u8, numbers: *const u16, numbers_len: usize, block: *mut u8, block_len: usize,
@@ -76,6 +92,18 @@ unsafe extern "C" {
     pub fn stallbrook_astc_strict_decode_image_float16(
         footprint: u8, width: u32, height: u32, blocks: *const u8, blocks_len: usize, out: *mut u16, out_len: usize,
         tally: *mut u64, tally_len: usize,
+    ) -> u8;
+    pub fn stallbrook_astc_strict_decode_volume_unorm16(
+        footprint: u8, width: u32, height: u32, depth: u32, blocks: *const u8, blocks_len: usize, out: *mut u16,
+        out_len: usize, tally: *mut u64, tally_len: usize,
+    ) -> u8;
+    pub fn stallbrook_astc_strict_decode_volume_srgb8(
+        footprint: u8, width: u32, height: u32, depth: u32, blocks: *const u8, blocks_len: usize, out: *mut u8,
+        out_len: usize, tally: *mut u64, tally_len: usize,
+    ) -> u8;
+    pub fn stallbrook_astc_strict_decode_volume_float16(
+        footprint: u8, width: u32, height: u32, depth: u32, blocks: *const u8, blocks_len: usize, out: *mut u16,
+        out_len: usize, tally: *mut u64, tally_len: usize,
     ) -> u8;
     pub fn stallbrook_astc_strict_image_faults(
         footprint: u8, kind: u8, width: u32, height: u32, blocks: *const u8, blocks_len: usize, faults: *mut u8,

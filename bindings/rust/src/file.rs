@@ -112,7 +112,7 @@ impl<'a> AstcFile<'a> {
     }
 }
 
-/// The header of an image's file, refused by 3; its blocks stand behind it.
+/// The header of an image's file, refused by 1 (a volume footprint) and 3; its blocks stand behind it.
 ///
 /// ```
 /// use stallbrook::{Footprint, Refusal, file::write_header};

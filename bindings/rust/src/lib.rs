@@ -1,4 +1,4 @@
-//! Compressed textures read exactly: ASTC blocks, images and .astc files (2D, LDR and HDR) to texels, ASTC settings to blocks and back, the best
+//! Compressed textures read exactly: ASTC blocks, images, volumes and .astc files (LDR and HDR) to texels, ASTC settings to blocks and back, the best
 //! grey [captions](caption), [clips](clip) of ASTC frames piece by piece, [BC7](bc7) blocks and pictures, and [PVRTC1](pvrtc) images.
 //!
 //! These are safe wrappers over `libstallbrook`, in which every function is proved to meet its contract: for every input, wrong ones included, it is
@@ -29,7 +29,7 @@
 //! its texels are the error colour (magenta, in half floats NaN), and its [`Fault`] is told: of a block as `Option<Fault>`, of a picture as a [`Tally`].
 //! Calls that read a block's settings have none to give where it has a fault: their [`Error`] is either.
 //!
-//! Texels are four numbers R, G, B, A, rows first, in three [kinds](Kind). The calls may run on any number of threads at once.
+//! Texels are four numbers R, G, B, A, rows first, of volumes layer by layer, in three [kinds](Kind). The calls may run on any number of threads at once.
 //!
 //! # The library
 //!
@@ -61,13 +61,16 @@ pub fn version() -> &'static str {
     unsafe { std::ffi::CStr::from_ptr(ffi::stallbrook_version()) }.to_str().expect("digits and dots")
 }
 
+/// Numbers of a symbolic block's flat form.
+pub const NUMBERS: usize = 107;
+
 /// A block's settings and stored numbers; unused fields are 0. The default is all 0, which no block has.
 ///
 /// ```
 /// use stallbrook::{Footprint, SymbolicBlock, read_symbolic};
 /// let block = [0x42, 0, 0, 0xFE, 1, 0, 0, 0, 0, 0, 0, 0, 0, 0, 0, 0x80];
 /// let settings = read_symbolic(Footprint::F4x4, &block)?;
-/// assert_eq!((settings.width, settings.height, settings.partitions), (4, 4, 1));
+/// assert_eq!((settings.width, settings.height, settings.depth, settings.partitions), (4, 4, 1, 1));
 /// assert_eq!(settings.endpoints[..2], [0, 255]);
 /// let numbers = settings.to_numbers();
 /// assert_eq!(numbers[9..11], [4, 4]);
@@ -80,12 +83,14 @@ pub struct SymbolicBlock {
     pub mark: u16,
     /// R, G, B, A of a void extent.
     pub colours: [u16; 4],
-    /// Low s, high s, low t, high t.
-    pub extents: [u16; 4],
+    /// Low s, high s, low t, high t, low r, high r; of a flat void extent the last two are 0.
+    pub extents: [u16; 6],
     /// Width of the weight grid.
     pub width: u16,
     /// Height of the weight grid.
     pub height: u16,
+    /// Depth of the weight grid: 1 at flat footprints, 2 to 6 at volumes, 0 of a void extent.
+    pub depth: u16,
     /// Range of the weights.
     pub range: u16,
     /// Weight planes, 1 or 2.
@@ -109,12 +114,12 @@ pub struct SymbolicBlock {
 }
 
 impl SymbolicBlock {
-    /// The flat form: all fields in order.
-    pub fn to_numbers(&self) -> [u16; 104] {
-        let mut numbers = [0; 104];
+    /// The flat form: all fields in order, but for the depth and the last two extents, which stand at the end.
+    pub fn to_numbers(&self) -> [u16; NUMBERS] {
+        let mut numbers = [0; NUMBERS];
         numbers[0] = self.mark;
         numbers[1..5].copy_from_slice(&self.colours);
-        numbers[5..9].copy_from_slice(&self.extents);
+        numbers[5..9].copy_from_slice(&self.extents[..4]);
         numbers[9..17].copy_from_slice(&[
             self.width,
             self.height,
@@ -129,18 +134,21 @@ impl SymbolicBlock {
         numbers[21..39].copy_from_slice(&self.endpoints);
         numbers[39..103].copy_from_slice(&self.weights);
         numbers[103] = self.hdr;
+        numbers[104] = self.depth;
+        numbers[105..].copy_from_slice(&self.extents[4..]);
         numbers
     }
 
     /// From the flat form.
-    pub fn from_numbers(numbers: &[u16; 104]) -> SymbolicBlock {
+    pub fn from_numbers(numbers: &[u16; NUMBERS]) -> SymbolicBlock {
         let four = |from: usize| [0, 1, 2, 3].map(|i| numbers[from + i]);
         SymbolicBlock {
             mark: numbers[0],
             colours: four(1),
-            extents: four(5),
+            extents: [5, 6, 7, 8, 105, 106].map(|i: usize| numbers[i]),
             width: numbers[9],
             height: numbers[10],
+            depth: numbers[104],
             range: numbers[11],
             planes: numbers[12],
             component: numbers[13],
@@ -157,7 +165,7 @@ impl SymbolicBlock {
 
 impl Default for SymbolicBlock {
     fn default() -> SymbolicBlock {
-        SymbolicBlock::from_numbers(&[0; 104])
+        SymbolicBlock::from_numbers(&[0; NUMBERS])
     }
 }
 
@@ -271,6 +279,73 @@ pub fn decode_image_float16(
     Tally::told(number, tally)
 }
 
+/// A volume's texels as four 16-bit numbers each: width, height and depth; blocks and texels x fastest, then y, then z.
+///
+/// ```
+/// use stallbrook::{Fault, FirstFault, Footprint};
+/// // a block of 3x3x3, and behind it one of zeros
+/// let mut blocks = [0; 32];
+/// blocks[..16].copy_from_slice(&[0x13, 0, 0, 0xFE, 1, 0, 0, 0, 0, 0, 0, 0, 0, 0x5F, 0x63, 0x11]);
+/// let mut texels = [0u16; 4 * 3 * 3 * 4];
+/// let tally = stallbrook::decode_volume_unorm16(Footprint::F3x3x3, 3, 3, 4, &blocks, &mut texels)?;
+/// assert_eq!((tally.faulty, tally.first), (1, Some(FirstFault { block: 1, fault: Fault::Reserved })));
+/// // the last texel of the first block, and the first of the second
+/// assert_eq!(texels[4 * 26..][..8], [65535, 65535, 65535, 65535, 65535, 0, 65535, 65535]);
+/// # Ok::<(), stallbrook::Refusal>(())
+/// ```
+pub fn decode_volume_unorm16(
+    footprint: Footprint, width: u32, height: u32, depth: u32, blocks: &[u8], out: &mut [u16],
+) -> Result<Tally, Refusal> {
+    let mut tally = [0; 3];
+    let number = raw::decode_volume_unorm16(footprint.number(), width, height, depth, blocks, out, &mut tally);
+    Tally::told(number, tally)
+}
+
+/// A volume's texels as four bytes each, before the sRGB curve. A flat footprint is taken too: its blocks are one layer thick.
+///
+/// ```
+/// use stallbrook::{Footprint, Refusal, decode_volume_srgb8};
+/// let block = [0x13, 0, 0, 0xFE, 1, 0, 0, 0, 0, 0, 0, 0, 0, 0x5F, 0x63, 0x11];
+/// let mut texels = [0; 4 * 27];
+/// assert_eq!(decode_volume_srgb8(Footprint::F3x3x3, 3, 3, 3, &block, &mut texels)?.faulty, 0);
+/// // texels 1, 0, 0; 0, 1, 0; 0, 0, 1
+/// assert_eq!([texels[4], texels[4 * 3], texels[4 * 9]], [20, 36, 76]);
+///
+/// // two slices of a flat block
+/// let slice = [0x42, 0, 0, 0xFE, 1, 0, 0, 0, 0, 0, 0, 0, 0, 0, 0, 0x80];
+/// let mut texels = [0; 4 * 16 * 2];
+/// decode_volume_srgb8(Footprint::F4x4, 4, 4, 2, &[slice, slice].concat(), &mut texels)?;
+/// assert_eq!((texels[0], texels[4 * 16]), (84, 84));
+/// assert_eq!(decode_volume_srgb8(Footprint::F4x4, 4, 4, 2049, &slice, &mut texels), Err(Refusal::Side));
+/// # Ok::<(), Refusal>(())
+/// ```
+pub fn decode_volume_srgb8(
+    footprint: Footprint, width: u32, height: u32, depth: u32, blocks: &[u8], out: &mut [u8],
+) -> Result<Tally, Refusal> {
+    let mut tally = [0; 3];
+    let number = raw::decode_volume_srgb8(footprint.number(), width, height, depth, blocks, out, &mut tally);
+    Tally::told(number, tally)
+}
+
+/// A volume's texels as four half floats each, as 16-bit patterns; HDR blocks too.
+///
+/// ```
+/// // three texels behind each other of an HDR void extent: 1.0, 2.0, 0.5, 1.0
+/// let block = [0xFC, 0xFF, 0xFF, 0xFF, 0xFF, 0xFF, 0xFF, 0xFF, 0, 0x3C, 0, 0x40, 0, 0x38, 0, 0x3C];
+/// let mut texels = [0u16; 4 * 3];
+/// let tally = stallbrook::decode_volume_float16(stallbrook::Footprint::F4x4x4, 1, 1, 3, &block, &mut texels)?;
+/// assert_eq!(tally.faulty, 0);
+/// assert_eq!(texels[8..], [0x3C00, 0x4000, 0x3800, 0x3C00]);
+/// # Ok::<(), stallbrook::Refusal>(())
+/// ```
+pub fn decode_volume_float16(
+    footprint: Footprint, width: u32, height: u32, depth: u32, blocks: &[u8], out: &mut [u16],
+) -> Result<Tally, Refusal> {
+    let mut tally = [0; 3];
+    let number = raw::decode_volume_float16(footprint.number(), width, height, depth, blocks, out, &mut tally);
+    Tally::told(number, tally)
+}
+
 /// The fault of each block of an image in a kind, a byte for each block in raster order, 0 for none; no texel is painted. A block has 0 exactly where
 /// the image call shows its own texels.
 ///
@@ -294,7 +369,7 @@ pub fn image_faults(
     Tally::told(number, tally)
 }
 
-/// How many blocks an image has, each of 16 bytes; none where a side is 0 or above 16,384.
+/// How many blocks an image has, each of 16 bytes; none where a side is 0 or above 16,384, or the footprint is a volume.
 ///
 /// ```
 /// use stallbrook::{Footprint, image_blocks};
@@ -314,6 +389,29 @@ pub fn image_blocks(footprint: Footprint, width: u32, height: u32) -> Option<usi
 /// ```
 pub fn image_numbers(width: u32, height: u32) -> Option<usize> {
     Some(raw::image_numbers(width, height) as usize).filter(|&numbers| numbers != 0)
+}
+
+/// How many blocks a volume has, each of 16 bytes; none where a side is 0 or above 16,384, or the depth 0 or above 2,048.
+///
+/// ```
+/// use stallbrook::{Footprint, volume_blocks};
+/// assert_eq!(volume_blocks(Footprint::F6x6x6, 13, 6, 7), Some(6));
+/// assert_eq!(volume_blocks(Footprint::F6x6, 13, 6, 7), Some(21));
+/// assert_eq!(volume_blocks(Footprint::F6x6x6, 13, 6, 0), None);
+/// ```
+pub fn volume_blocks(footprint: Footprint, width: u32, height: u32, depth: u32) -> Option<usize> {
+    Some(raw::volume_blocks(footprint.number(), width, height, depth) as usize).filter(|&blocks| blocks != 0)
+}
+
+/// How many numbers a volume's texels are, 4 for each; none where a side is 0 or above 16,384, or the depth 0 or above 2,048.
+///
+/// ```
+/// use stallbrook::volume_numbers;
+/// assert_eq!(volume_numbers(128, 128, 128), Some(1 << 23));
+/// assert_eq!(volume_numbers(1, 1, 2049), None);
+/// ```
+pub fn volume_numbers(width: u32, height: u32, depth: u32) -> Option<usize> {
+    Some(raw::volume_numbers(width, height, depth) as usize).filter(|&numbers| numbers != 0)
 }
 
 /// The symbolic block of a block without fault, LDR or HDR: faults are those of half floats, without 13 and 20.
@@ -341,7 +439,7 @@ pub struct SymbolicReading {
 }
 
 impl SymbolicReading {
-    fn told(numbers: &[u16; 104], spare: [u16; 2]) -> SymbolicReading {
+    fn told(numbers: &[u16; NUMBERS], spare: [u16; 2]) -> SymbolicReading {
         let block = SymbolicBlock::from_numbers(numbers);
         SymbolicReading { block, spare_count: spare[0] as u8, spare_set: spare[1] == 1 }
     }
@@ -361,14 +459,14 @@ impl SymbolicReading {
 /// # Ok::<(), stallbrook::Error>(())
 /// ```
 pub fn read_symbolic_spare(footprint: Footprint, block: &[u8]) -> Result<SymbolicReading, Error> {
-    let (mut numbers, mut spare) = ([0; 104], [0; 2]);
+    let (mut numbers, mut spare) = ([0; NUMBERS], [0; 2]);
     if let Some(fault) = of_block(raw::read_symbolic(footprint.number(), block, &mut numbers, &mut spare))? {
         return Err(Error::Faulty(fault));
     }
     Ok(SymbolicReading::told(&numbers, spare))
 }
 
-/// The block of an acceptable symbolic block, with the smallest codes and spare bits 0.
+/// The block of an acceptable symbolic block, with the smallest codes and spare bits 0, and of two block modes that say the same the smaller.
 ///
 /// ```
 /// use stallbrook::{Fault, Footprint, Refusal, read_symbolic, write_symbolic};
@@ -388,6 +486,13 @@ pub fn read_symbolic_spare(footprint: Footprint, block: &[u8]) -> Result<Symboli
 /// assert!(write_symbolic(Footprint::F4x4, &settings).is_ok());
 /// settings.hdr = 0;
 /// assert_eq!(write_symbolic(Footprint::F4x4, &settings), Err(Refusal::Settings(Fault::HdrMode)));
+///
+/// // a grid of two layers is no flat block's
+/// let mut settings = read_symbolic(Footprint::F3x3x3, &[0x13, 0, 0, 0xFE, 1, 0, 0, 0, 0, 0, 0, 0, 0, 0x5F, 0x63, 0x11])?;
+/// assert_eq!((settings.width, settings.height, settings.depth), (2, 2, 2));
+/// assert_eq!(write_symbolic(Footprint::F4x4, &settings), Err(Refusal::Field));
+/// settings.depth = 4;
+/// assert_eq!(write_symbolic(Footprint::F3x3x3, &settings), Err(Refusal::Settings(Fault::Grid)));
 /// # Ok::<(), stallbrook::Error>(())
 /// ```
 pub fn write_symbolic(footprint: Footprint, block: &SymbolicBlock) -> Result<[u8; 16], Refusal> {

@@ -62,14 +62,18 @@ macro_rules! numbered {
 }
 
 numbered! {
-    /// How many texels a block covers. A number above 13 is refused by 1.
+    /// How many texels a block covers: those before [`F3x3x3`](Footprint::F3x3x3) are flat, the others volumes. A number above 23 is refused by 1, and
+    /// a volume too where a call takes flat ones only.
     ///
     /// ```
     /// use stallbrook::{Footprint, Refusal};
     /// let footprint = Footprint::try_from(4)?;
     /// assert_eq!((footprint, footprint.width(), footprint.height()), (Footprint::F6x6, 6, 6));
     /// assert_eq!(footprint.to_string(), "6x6");
-    /// assert_eq!(Footprint::try_from(14), Err(Refusal::Footprint));
+    /// let volume = Footprint::F5x4x4;
+    /// assert_eq!((volume.width(), volume.height(), volume.depth()), (5, 4, 4));
+    /// assert_eq!(volume.to_string(), "5x4x4");
+    /// assert_eq!(Footprint::try_from(24), Err(Refusal::Footprint));
     /// # Ok::<(), Refusal>(())
     /// ```
     Footprint, Refusal, |_| Refusal::Footprint;
@@ -101,46 +105,92 @@ numbered! {
     F12x10 = 12,
     /// 12 by 12 texels.
     F12x12 = 13,
+    /// 3 by 3 by 3 texels.
+    F3x3x3 = 14,
+    /// 4 by 3 by 3 texels.
+    F4x3x3 = 15,
+    /// 4 by 4 by 3 texels.
+    F4x4x3 = 16,
+    /// 4 by 4 by 4 texels.
+    F4x4x4 = 17,
+    /// 5 by 4 by 4 texels.
+    F5x4x4 = 18,
+    /// 5 by 5 by 4 texels.
+    F5x5x4 = 19,
+    /// 5 by 5 by 5 texels.
+    F5x5x5 = 20,
+    /// 6 by 5 by 5 texels.
+    F6x5x5 = 21,
+    /// 6 by 6 by 5 texels.
+    F6x6x5 = 22,
+    /// 6 by 6 by 6 texels.
+    F6x6x6 = 23,
 }
 
 impl Footprint {
-    const SIDES: [(u32, u32); 14] = [
-        (4, 4),
-        (5, 4),
-        (5, 5),
-        (6, 5),
-        (6, 6),
-        (8, 5),
-        (8, 6),
-        (8, 8),
-        (10, 5),
-        (10, 6),
-        (10, 8),
-        (10, 10),
-        (12, 10),
-        (12, 12),
+    const SIDES: [[u32; 3]; 24] = [
+        [4, 4, 1],
+        [5, 4, 1],
+        [5, 5, 1],
+        [6, 5, 1],
+        [6, 6, 1],
+        [8, 5, 1],
+        [8, 6, 1],
+        [8, 8, 1],
+        [10, 5, 1],
+        [10, 6, 1],
+        [10, 8, 1],
+        [10, 10, 1],
+        [12, 10, 1],
+        [12, 12, 1],
+        [3, 3, 3],
+        [4, 3, 3],
+        [4, 4, 3],
+        [4, 4, 4],
+        [5, 4, 4],
+        [5, 5, 4],
+        [5, 5, 5],
+        [6, 5, 5],
+        [6, 6, 5],
+        [6, 6, 6],
     ];
 
     /// Texels in a row of a block.
     pub const fn width(self) -> u32 {
-        Footprint::SIDES[self as usize].0
+        Footprint::SIDES[self as usize][0]
     }
 
-    /// Rows of a block.
+    /// Rows of a block, of a volume those of a layer.
     pub const fn height(self) -> u32 {
-        Footprint::SIDES[self as usize].1
+        Footprint::SIDES[self as usize][1]
+    }
+
+    /// Layers of a block, 1 of a flat one.
+    pub const fn depth(self) -> u32 {
+        Footprint::SIDES[self as usize][2]
+    }
+
+    /// Whether a block has several layers.
+    ///
+    /// ```
+    /// use stallbrook::Footprint;
+    /// assert!(Footprint::F3x3x3.is_volume() && !Footprint::F12x12.is_volume());
+    /// ```
+    pub const fn is_volume(self) -> bool {
+        self.depth() > 1
     }
 
     /// How many numbers a block's texels are, 4 for each.
     ///
     /// ```
-    /// assert_eq!(stallbrook::Footprint::F12x12.numbers(), 576);
+    /// use stallbrook::Footprint;
+    /// assert_eq!((Footprint::F12x12.numbers(), Footprint::F6x6x6.numbers()), (576, 864));
     /// ```
     pub fn numbers(self) -> usize {
         crate::raw::block_numbers(self.number()) as usize
     }
 
-    /// The footprint of these sides, if there is one.
+    /// The flat footprint of these sides, if there is one.
     ///
     /// ```
     /// use stallbrook::Footprint;
@@ -148,13 +198,27 @@ impl Footprint {
     /// assert_eq!(Footprint::of_sides(8, 10), None);
     /// ```
     pub fn of_sides(width: u32, height: u32) -> Option<Footprint> {
-        Footprint::ALL.iter().copied().find(|footprint| (footprint.width(), footprint.height()) == (width, height))
+        Footprint::of_three_sides(width, height, 1)
+    }
+
+    /// The footprint of these sides, if there is one; flat ones have depth 1.
+    ///
+    /// ```
+    /// use stallbrook::Footprint;
+    /// assert_eq!(Footprint::of_three_sides(6, 5, 5), Some(Footprint::F6x5x5));
+    /// assert_eq!(Footprint::of_three_sides(6, 5, 1), Some(Footprint::F6x5));
+    /// assert_eq!(Footprint::of_three_sides(5, 5, 6), None);
+    /// ```
+    pub fn of_three_sides(width: u32, height: u32, depth: u32) -> Option<Footprint> {
+        let found = Footprint::SIDES.iter().position(|&sides| sides == [width, height, depth])?;
+        Some(Footprint::ALL[found])
     }
 }
 
 impl fmt::Display for Footprint {
     fn fmt(&self, f: &mut fmt::Formatter) -> fmt::Result {
-        write!(f, "{}x{}", self.width(), self.height())
+        write!(f, "{}x{}", self.width(), self.height())?;
+        if self.is_volume() { write!(f, "x{}", self.depth()) } else { Ok(()) }
     }
 }
 
@@ -203,7 +267,7 @@ numbered! {
     VoidExtent = 12,
     /// HDR void extent, which half floats alone show.
     HdrVoidExtent = 13,
-    /// Weight grid wider or higher than the footprint.
+    /// Weight grid wider, higher or deeper than the footprint.
     Grid = 14,
     /// More than 64 weights, both planes counted.
     Weights = 15,
@@ -249,7 +313,7 @@ macro_rules! refusals {
         /// ```
         /// use stallbrook::{Fault, Refusal};
         /// assert_eq!(Refusal::Side.number(), 3);
-        /// assert_eq!(Refusal::Side.to_string(), "a side is 0 or above 16,384");
+        /// assert_eq!(Refusal::Kind.to_string(), "the kind is above 2");
         /// assert_eq!(Refusal::try_from(44), Ok(Refusal::Place));
         /// // of a symbolic block, with the number of the fault
         /// assert_eq!(Refusal::Settings(Fault::Grid).number(), 14);
@@ -287,11 +351,11 @@ macro_rules! refusals {
 }
 
 refusals! {
-    /// Footprint above 13.
+    /// Footprint above 23; a volume where a call takes flat ones only.
     Footprint = 1,
     /// Kind above 2.
     Kind = 2,
-    /// A side of the image is 0 or above 16,384.
+    /// A side of the image or volume is 0 or above 16,384, or the depth 0 or above 2,048.
     Side = 3,
     /// Block bytes not exactly 16 for each block; of PVRTC1 not 8 for each word.
     Blocks = 4,
@@ -422,14 +486,14 @@ pub(crate) fn of_block(number: u8) -> Result<Option<Fault>, Refusal> {
 pub struct Tally {
     /// How many blocks have a fault.
     pub faulty: u64,
-    /// The first of them in raster order; none where all blocks are sound.
+    /// The first of them in the blocks' order; none where all blocks are sound.
     pub first: Option<FirstFault>,
 }
 
 /// The first block of a picture that has a fault.
 #[derive(Clone, Copy, PartialEq, Eq, Hash, Debug)]
 pub struct FirstFault {
-    /// Its index in raster order.
+    /// Its index in the blocks' order: raster order, of volumes x fastest, then y, then z.
     pub block: u64,
     /// Its fault.
     pub fault: Fault,

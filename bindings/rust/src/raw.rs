@@ -103,9 +103,51 @@ pub fn image_numbers(width: u32, height: u32) -> u64 {
     unsafe { ffi::stallbrook_astc_image_numbers(width, height) }
 }
 
+pub fn volume_blocks(footprint: u8, width: u32, height: u32, depth: u32) -> u64 {
+    unsafe { ffi::stallbrook_astc_volume_blocks(footprint, width, height, depth) }
+}
+
+pub fn volume_numbers(width: u32, height: u32, depth: u32) -> u64 {
+    unsafe { ffi::stallbrook_astc_volume_numbers(width, height, depth) }
+}
+
 pub fn block_numbers(footprint: u8) -> u32 {
     unsafe { ffi::stallbrook_astc_block_numbers(footprint) }
 }
+
+// ---- volumes, in both readings
+
+macro_rules! volume {
+    ($name:ident, $call:ident, $number:ty) => {
+        pub fn $name(
+            footprint: u8, width: u32, height: u32, depth: u32, blocks: &[u8], out: &mut [$number], tally: &mut [u64],
+        ) -> u8 {
+            unsafe {
+                ffi::$call(
+                    footprint,
+                    width,
+                    height,
+                    depth,
+                    blocks.as_ptr(),
+                    blocks.len(),
+                    out.as_mut_ptr(),
+                    out.len(),
+                    tally.as_mut_ptr(),
+                    tally.len(),
+                )
+            }
+        }
+    };
+}
+
+volume!(decode_volume_unorm16, stallbrook_astc_decode_volume_unorm16, u16);
+volume!(decode_volume_srgb8, stallbrook_astc_decode_volume_srgb8, u8);
+volume!(decode_volume_float16, stallbrook_astc_decode_volume_float16, u16);
+volume!(strict_decode_volume_unorm16, stallbrook_astc_strict_decode_volume_unorm16, u16);
+volume!(strict_decode_volume_srgb8, stallbrook_astc_strict_decode_volume_srgb8, u8);
+volume!(strict_decode_volume_float16, stallbrook_astc_strict_decode_volume_float16, u16);
+
+// ---- symbolic blocks
 
 pub fn read_symbolic(footprint: u8, block: &[u8], numbers: &mut [u16], spare: &mut [u16]) -> u8 {
     unsafe {

@@ -118,6 +118,60 @@ pub fn decode_image_float16(
     Tally::told(number, tally)
 }
 
+/// A volume's texels as four 16-bit numbers each.
+///
+/// ```
+/// use stallbrook::{Fault, Footprint, strict};
+/// let mut texels = [0u16; 4 * 27];
+/// let other = [0x13, 0, 0, 0xFE, 1, 1, 0, 0, 0, 0, 0, 0, 0, 0x5F, 0x63, 0x11];
+/// let tally = strict::decode_volume_unorm16(Footprint::F3x3x3, 3, 3, 3, &other, &mut texels)?;
+/// assert_eq!(tally.first.map(|first| first.fault), Some(Fault::NotCanonical));
+/// # Ok::<(), stallbrook::Refusal>(())
+/// ```
+pub fn decode_volume_unorm16(
+    footprint: Footprint, width: u32, height: u32, depth: u32, blocks: &[u8], out: &mut [u16],
+) -> Result<Tally, Refusal> {
+    let mut tally = [0; 3];
+    let number = raw::strict_decode_volume_unorm16(footprint.number(), width, height, depth, blocks, out, &mut tally);
+    Tally::told(number, tally)
+}
+
+/// A volume's texels as four bytes each.
+///
+/// ```
+/// use stallbrook::{Fault, Footprint, strict};
+/// let mut texels = [0u8; 4 * 27];
+/// let other = [0x13, 0, 0, 0xFE, 1, 1, 0, 0, 0, 0, 0, 0, 0, 0x5F, 0x63, 0x11];
+/// let tally = strict::decode_volume_srgb8(Footprint::F3x3x3, 3, 3, 3, &other, &mut texels)?;
+/// assert_eq!(tally.first.map(|first| first.fault), Some(Fault::NotCanonical));
+/// # Ok::<(), stallbrook::Refusal>(())
+/// ```
+pub fn decode_volume_srgb8(
+    footprint: Footprint, width: u32, height: u32, depth: u32, blocks: &[u8], out: &mut [u8],
+) -> Result<Tally, Refusal> {
+    let mut tally = [0; 3];
+    let number = raw::strict_decode_volume_srgb8(footprint.number(), width, height, depth, blocks, out, &mut tally);
+    Tally::told(number, tally)
+}
+
+/// A volume's texels as four half floats each.
+///
+/// ```
+/// use stallbrook::{Fault, Footprint, strict};
+/// let mut texels = [0u16; 4 * 27];
+/// let other = [0x13, 0, 0, 0xFE, 1, 1, 0, 0, 0, 0, 0, 0, 0, 0x5F, 0x63, 0x11];
+/// let tally = strict::decode_volume_float16(Footprint::F3x3x3, 3, 3, 3, &other, &mut texels)?;
+/// assert_eq!(tally.first.map(|first| first.fault), Some(Fault::NotCanonical));
+/// # Ok::<(), stallbrook::Refusal>(())
+/// ```
+pub fn decode_volume_float16(
+    footprint: Footprint, width: u32, height: u32, depth: u32, blocks: &[u8], out: &mut [u16],
+) -> Result<Tally, Refusal> {
+    let mut tally = [0; 3];
+    let number = raw::strict_decode_volume_float16(footprint.number(), width, height, depth, blocks, out, &mut tally);
+    Tally::told(number, tally)
+}
+
 /// The fault of each block of an image, 21 too.
 ///
 /// ```
@@ -147,7 +201,7 @@ pub fn image_faults(
 /// # Ok::<(), Error>(())
 /// ```
 pub fn read_symbolic_spare(footprint: Footprint, block: &[u8]) -> Result<SymbolicReading, Error> {
-    let (mut numbers, mut spare) = ([0; 104], [0; 2]);
+    let (mut numbers, mut spare) = ([0; crate::NUMBERS], [0; 2]);
     match of_block(raw::strict_read_symbolic(footprint.number(), block, &mut numbers, &mut spare))? {
         Some(fault) => Err(Error::Faulty(fault)),
         None => Ok(SymbolicReading::told(&numbers, spare)),

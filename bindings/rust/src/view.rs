@@ -98,7 +98,7 @@ pub struct View<'a> {
 }
 
 impl<'a> View<'a> {
-    /// A view of an image's blocks, in raster order; refused by 3 and 4.
+    /// A view of an image's blocks, in raster order; refused by 1 (a volume footprint), 3 and 4.
     pub fn new(blocks: &'a [u8], footprint: Footprint, width: u32, height: u32) -> Result<View<'a>, Refusal> {
         Refusal::told(raw::view_refusal(footprint.number(), width, height, blocks))?;
         Ok(View { blocks, footprint, width, height })

@@ -1,25 +1,26 @@
 -- A block of 4x4 texels in a picture: its rows lie within 64 bytes, and what is copied of it shows the picture's bytes.
 -- Assumes nothing.
-use mathlib.Core.Path.{_≡_, refl, sym, ap, _∙_}
+use mathlib.Core.Path.{_≡_, refl, sym, ap, _∙_, subst}
 use mathlib.Core.List.{List}
 use Prim.Native.Nat.{ℕ, _+_, _*_, _/_, _%_, _≤_, _<_}
-use native.Mathlib.Nat.{div-add-mod'}
+use native.Mathlib.Nat.{div-add-mod', mod-lt}
 use native.Mathlib.Omega.{arith}
 use lib.ListN.{length, getD}
 use Rattle.laws.specs.Table.{tab}
 use Rattle.laws.proofs.Filling.{getD-tab, length-tab}
 use Rattle.footprint.specs.Footprint.{footprints, widthOf, heightOf}
-use Rattle.interpolation.specs.declared.Kind.the-variants.{Unorm16}
 use Rattle.image_size.specs.Sides.{blocksAcross}
 use Rattle.image_layout.specs.declared.ImageGrid.{ImageGrid}
 use Rattle.image_layout.specs.declared.Part.{Part}
 use Rattle.image_layout.specs.declared.Run.{Run}
 use Rattle.image_layout.specs.Geometry.{blockIndex}
 use Rattle.image_layout.specs.Numbers.{blockAt}
-use Rattle.image_layout.specs.OwnBlock.{place}
-use Rattle.image_layout.proofs.Regions.{Placed, Tile, tile-of}
-use Rattle.image_layout.proofs.Calls.{Sound}
-use Rattle.image_layout.proofs.Parts.{Fits, PartOf, RunOf, RunFits, products}
+use Rattle.picture_regions.specs.Picture.{place}
+use Rattle.picture_regions.proofs.Blocks.{Tile, tile-of}
+use Rattle.image_layout.specs.inner.Rows.{flatPicture}
+use Rattle.image_layout.proofs.Blocks.{row-in, row-of}
+use Rattle.image_layout.proofs.Calls.{Sound, covered}
+use Rattle.image_layout.proofs.Parts.{Fits, PartOf, RunOf, RunFits, PlacedRows, products}
 use Rattle.bc7_block.specs.Picture.{blockTexel}
 use Rattle.bc7_core.specs.Bytes.{texelBytes, blockBytes}
 use Rattle.bc7_image.specs.Image.{bc7NumberAt}
@@ -73,16 +74,21 @@ module _ (w nx bx by : ℕ) (s : List ℕ) (en : nx ≡ blocksAcross w 4) where
 
 module _ (g : ImageGrid) (sound : Sound g) (z : g .footprint ≡ 0) (s : List ℕ) where
   pub tile-bc7 : (b : ℕ) (p : Part) (B : ℕ) (buf old new : List ℕ) → PartOf g b p → B ≡ blockAt s b → buf ≡ blockBytes B
-      → Placed Unorm16 (g .width) (p .x) (p .y) (p .columns) (p .rows) (g .columns) buf old new
-      → Tile (g .width) (g .height) (g .columns) (g .rows) (b % g .across) (b / g .across) (bc7NumberAt (g .width) s) old new
+      → PlacedRows (λ n. n) g p (p .rows) buf old new → Tile (flatPicture g) b (bc7NumberAt (g .width) s) old new
   tile-bc7 b p B buf old new o e held pl =
       let k = four g sound z in
-      let i : b / g .across * g .across + b % g .across ≡ b = div-add-mod' b (g .across) in
-      let h : buf ≡ blockBytes (blockAt s (b / g .across * g .across + b % g .across)) = held ∙ ap blockBytes (e ∙ ap (blockAt s) (sym i)) in
+      let bx : ℕ = b % g .across in
+      let by : ℕ = b / g .across in
+      let i : by * g .across + bx ≡ b = div-add-mod' b (g .across) in
+      let h : buf ≡ blockBytes (blockAt s (by * g .across + bx)) = held ∙ ap blockBytes (e ∙ ap (blockAt s) (sym i)) in
       let en : g .across ≡ blocksAcross (g .width) 4 = sound .across ∙ ap (blocksAcross (g .width)) (k .columns) in
-      tile-of Unorm16 (g .width) (g .height) (g .columns) (g .rows) (b % g .across) (b / g .across) (p .columns) (p .rows) (bc7NumberAt (g .width) s) buf old new
-      (sound .columns-least) (sound .rows-least) (rw (o .x) at (o .fits .columns)) (rw (o .y) at (o .fits .rows)) (rw (o .x, o .y) at pl)
-      (rw (k .columns, k .rows, h) (at-place (g .width) (g .across) (b % g .across) (b / g .across) s en))
+      let rows = rw (o .y) at (o .fits .rows) in
+      subst (λ (n : ℕ). Tile (flatPicture g) n (bc7NumberAt (g .width) s) old new) i
+      (tile-of (flatPicture g) (covered g sound) (λ n. n) bx by (p .columns) (p .rows) (λ i. by * g .rows + i) (λ i. i) (bc7NumberAt (g .width) s) buf old new (mod-lt b (sound .across-least))
+      (rw (o .x) at (o .fits .columns)) (row-in g sound bx by (p .columns) (p .rows) rows) (row-of g sound bx by (p .columns) (p .rows) rows) (rw (o .x, o .y) at pl)
+      (λ dx dy c hx hy hc.
+      let l = rows .in-block in
+      rw (k .columns, k .rows, h) (at-place (g .width) (g .across) bx by s en dx dy c (omega (arith, k .columns)) (omega (arith, k .rows)) hc)))
 
 pub bytes-64 : (B : ℕ) → length (blockBytes B) ≡ 64
 unfolding blockBytes texelBytes

@@ -6,15 +6,16 @@ use image_layout::Part;
 use image_layout::Run;
 use image_layout::Tally;
 ghost use mathlib.Core.Path.{_≡_};
-ghost use Prim.Native.Nat.{_+_, _*_, _/_, _%_, _≤_, _<_};
+ghost use Prim.Native.Nat.{_+_, _*_, _≤_, _<_};
 ghost use lib.ListN.{length, getD};
 ghost use Rattle.laws.specs.Table.{tab};
-ghost use Rattle.interpolation.specs.declared.Kind.the-variants.{Unorm16};
 ghost use Rattle.image_layout.specs.Faulty.{tallyOf};
 ghost use Rattle.image_layout.specs.Call.{checkedOf, toldOf};
-ghost use Rattle.image_layout.proofs.Regions.{Pasted, Placed, Tile};
+ghost use Rattle.image_layout.specs.inner.Rows.{flatPicture};
+ghost use Rattle.picture_regions.proofs.Regions.{Pasted};
+ghost use Rattle.picture_regions.proofs.Blocks.{Tile};
 ghost use Rattle.image_layout.proofs.Calls.{Sound};
-ghost use Rattle.image_layout.proofs.Parts.{Fits, RunFits};
+ghost use Rattle.image_layout.proofs.Parts.{Fits, RunFits, PlacedRows};
 ghost use Rattle.bc7_image.specs.Image.{bc7FaultAt, bc7NumberAt, bc7Numbers, bc7Answer, bc7Told, bc7Out};
 
 // Room for a block's bytes.
@@ -41,7 +42,7 @@ fn row_from(src: &[u8; 64], from: usize) -> [u8; 16]
 // Puts it into the picture.
 fn put_row(row: [u8; 16], out: &mut [u8], at: usize)
     requires { ⌜ at + 16 ≤ length (now out) ⌝ }
-    ensures { λ _. ⌜ Pasted Unorm16 row 0 16 (now (out .entry)) at (now (out .exit)) ⌝ }
+    ensures { λ _. ⌜ Pasted (λ n. n) row 0 16 (now (out .entry)) at (now (out .exit)) ⌝ }
 {
     for i in 0..16usize {
         out[at + i] = row[i];
@@ -51,7 +52,7 @@ fn put_row(row: [u8; 16], out: &mut [u8], at: usize)
 // Copies a run of a block's bytes, one by one.
 fn copy_some(src: &[u8; 64], r: Run, out: &mut [u8])
     requires { ⌜ RunFits r 64 (length (now out)) ⌝ }
-    ensures { λ _. ⌜ Pasted Unorm16 (now (src .entry)) (r .from) (r .n) (now (out .entry)) (r .at) (now (out .exit)) ⌝ }
+    ensures { λ _. ⌜ Pasted (λ n. n) (now (src .entry)) (r .from) (r .n) (now (out .entry)) (r .at) (now (out .exit)) ⌝ }
 {
     let from = r.from;
     let at = r.at;
@@ -63,7 +64,7 @@ fn copy_some(src: &[u8; 64], r: Run, out: &mut [u8])
 // Copies a run of a block's bytes; a whole row at once.
 fn copy_run(src: &[u8; 64], r: Run, out: &mut [u8])
     requires { ⌜ RunFits r 64 (length (now out)) ⌝ }
-    ensures { λ _. ⌜ Pasted Unorm16 (now (src .entry)) (r .from) (r .n) (now (out .entry)) (r .at) (now (out .exit)) ⌝ }
+    ensures { λ _. ⌜ Pasted (λ n. n) (now (src .entry)) (r .from) (r .n) (now (out .entry)) (r .at) (now (out .exit)) ⌝ }
 {
     let from = r.from;
     let at = r.at;
@@ -81,7 +82,7 @@ fn place(buf: &[u8; 64], g: ImageGrid, p: Part, out: &mut [u8])
     requires { ⌜ Fits g p ⌝ }
     requires { ⌜ length (now out) ≡ 4 * (g .height * g .width) ⌝ }
     requires { ⌜ g .footprint ≡ 0 ⌝ }
-    ensures { λ _. ⌜ Placed Unorm16 (g .width) (p .x) (p .y) (p .columns) (p .rows) (g .columns) (now (buf .entry)) (now (out .entry)) (now (out .exit)) ⌝ }
+    ensures { λ _. ⌜ PlacedRows (λ n. n) g p (p .rows) (now (buf .entry)) (now (out .entry)) (now (out .exit)) ⌝ }
 {
     for dy in 0..p.rows {
         copy_run(buf, image_parts::run_of(g, p, dy), out);
@@ -97,7 +98,7 @@ fn show(g: ImageGrid, b: usize, s: &[u8], buf: &mut [u8; 64], out: &mut [u8]) ->
     requires { ⌜ length (now buf) ≡ 64 ⌝ }
     requires { ⌜ g .footprint ≡ 0 ⌝ }
     ensures { λ r. ⌜ r ≡ bc7FaultAt (now (s .entry)) b ⌝ }
-    ensures { λ _. ⌜ Tile (g .width) (g .height) (g .columns) (g .rows) (b % g .across) (b / g .across) (bc7NumberAt (g .width) (now (s .entry))) (now (out .entry)) (now (out .exit)) ⌝ }
+    ensures { λ _. ⌜ Tile (flatPicture g) b (bc7NumberAt (g .width) (now (s .entry))) (now (out .entry)) (now (out .exit)) ⌝ }
     ensures { λ _. ⌜ length (now (buf .exit)) ≡ 64 ⌝ }
 {
     let p = image_parts::part_of(g, b);

@@ -12,11 +12,11 @@ use Rattle.footprint.proofs.Laws.{texels-le}
 use Rattle.block_answer.specs.Told.{blockRefusal}
 
 module _ (fp bytes numbers : ℕ) where
-  pub unknown-footprint : 13 < fp → 1 ≡ blockRefusal fp bytes numbers
+  pub unknown-footprint : 23 < fp → 1 ≡ blockRefusal fp bytes numbers
   unfolding blockRefusal
   unknown-footprint h = rw (lt-ltb _ _ h)
 
-  module _ (known : fp ≤ 13) where
+  module _ (known : fp ≤ 23) where
     pub not-sixteen : (bytes ≡ 16 → ⊥) → 4 ≡ blockRefusal fp bytes numbers
     unfolding blockRefusal
     not-sixteen h = rw (le-ltb _ _ known, ne-eqb _ _ h)
@@ -31,20 +31,20 @@ module _ (fp bytes numbers : ℕ) where
 
 -- and back
 pub record Accepted (fp bytes numbers : ℕ) : Type 0 where
-  pub known : fp ≤ 13
+  pub known : fp ≤ 23
   pub sixteen : bytes ≡ 16
   pub size : numbers ≡ 4 * texelsOf fp
 
 pub not-refused : (fp bytes numbers : ℕ) → blockRefusal fp bytes numbers ≡ 0 → Accepted fp bytes numbers
 unfolding blockRefusal
-not-refused fp bytes numbers e = go (ltb 13 fp) (eqb bytes 16) (eqb numbers (4 * texelsOf fp)) refl refl refl e where
-  go : (a b c : Bool) → ltb 13 fp ≡ a → eqb bytes 16 ≡ b → eqb numbers (4 * texelsOf fp) ≡ c
+not-refused fp bytes numbers e = go (ltb 23 fp) (eqb bytes 16) (eqb numbers (4 * texelsOf fp)) refl refl refl e where
+  go : (a b c : Bool) → ltb 23 fp ≡ a → eqb bytes 16 ≡ b → eqb numbers (4 * texelsOf fp) ≡ c
       → _≡_ {A = ℕ} (pick a 1 (pick (not b) 4 (pick (not c) 5 0))) 0 → Accepted fp bytes numbers
   go true b c p q r e = absurd (omega arith)
   go false false c p q r e = absurd (omega arith)
   go false true false p q r e = absurd (omega arith)
-  go false true true p q r e = record { known = ltb-false 13 fp p; sixteen = eqb-true bytes 16 q; size = eqb-true numbers _ r }
+  go false true true p q r e = record { known = ltb-false 23 fp p; sixteen = eqb-true bytes 16 q; size = eqb-true numbers _ r }
 
--- the buffer of 576 numbers is long enough
-pub fits-in : (fp bytes numbers : ℕ) → blockRefusal fp bytes numbers ≡ 0 → numbers ≤ 576
+-- the buffer of 864 numbers is long enough
+pub fits-in : (fp bytes numbers : ℕ) → blockRefusal fp bytes numbers ≡ 0 → numbers ≤ 864
 fits-in fp bytes numbers e = omega (arith, not-refused fp bytes numbers e .size, texels-le fp)

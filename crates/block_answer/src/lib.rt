@@ -24,7 +24,7 @@ pub fn number_told(a: Answer) -> u8
 pub fn refusal(fp: u8, bytes: usize, numbers: usize) -> u8
     ensures { λ r. ⌜ r ≡ blockRefusal fp bytes numbers ⌝ }
 {
-    if 13 < fp {
+    if 23 < fp {
         return 1;
     }
     if bytes != 16 {

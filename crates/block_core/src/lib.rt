@@ -1,5 +1,7 @@
 // One block to texels of 16 bits in a lent buffer: its settings are read once, its numbers unquantised once.
 use bits::PhysicalBlock;
+use block_buffer::place;
+use block_buffer::put;
 use block_fault::Settings;
 use block_fault::Verdict;
 use block_mode::WeightGrid;
@@ -7,27 +9,25 @@ use encoding::LevelPair;
 use interpolation::Kind;
 use interpolation::Texel;
 use partition::Seeds;
+use volume_paint::VolumeFrame;
 ghost use mathlib.Core.Path.{_≡_};
-ghost use Prim.Native.Nat.{_+_, _*_, _≤_, _<_};
+ghost use Prim.Native.Nat.{_*_, _≤_};
 ghost use lib.Dec.{eqb};
 ghost use lib.ListN.{length};
 ghost use Rattle.laws.specs.Choice.{pick};
-ghost use Rattle.laws.specs.Table.{tab, putFour};
 ghost use Rattle.bits.specs.Block.{blockNumber};
-ghost use Rattle.footprint.specs.Footprint.{widthOf, texelsOf};
+ghost use Rattle.footprint.specs.Footprint.{widthOf, texelsOf, isVolume};
 ghost use Rattle.block_header.specs.Counts.{weightCount, endpointCount, endpointRangeOf};
 ghost use Rattle.block_mode.specs.Back2D.{Limits};
-ghost use Rattle.partition.specs.inner.Seeds.{selectBy};
 ghost use mathlib.Core.Bool.{false};
 ghost use Rattle.interpolation.specs.declared.Kind.the-variants.{Float16};
 ghost use Rattle.interpolation.specs.Expansion.{takesHdr};
-ghost use Rattle.encoding.specs.Levels.{firstLevel, secondLevel};
 ghost use Rattle.texel.specs.Meaning.{errorTexel, texelFrom};
-ghost use Rattle.texel.specs.BlockTexel.{blockInto};
+ghost use Rattle.texel.specs.BlockTexel.{inRow, blockInto};
 ghost use Rattle.block_fault.specs.Bits.{endpointAt, weightAt};
 ghost use Rattle.block_fault.specs.Faults.{faultOf};
-ghost use Rattle.block_core.specs.inner.Prepared.{frameOf, texelOn, texelIn, Inside, ByteLevels, halves};
-ghost use Rattle.block_core.specs.inner.Held.{painted};
+ghost use Rattle.block_buffer.specs.Painted.{painted};
+ghost use Rattle.block_core.specs.inner.Prepared.{frameOf, volumeFrameOf, texelIn, Inside, ByteLevels, halves};
 
 // A footprint's sides and the scale factors of a weight grid along them, once for each block.
 struct Frame {
@@ -50,40 +50,28 @@ fn frame_of(fp: u8) -> Frame
     }
 }
 
+// The same of a volume.
+fn volume_frame(fp: u8) -> VolumeFrame
+    ensures { λ r. ⌜ r ≡ volumeFrameOf fp ⌝ }
+{
+    let width = footprint::width(fp);
+    let height = footprint::height(fp);
+    let depth = footprint::depth(fp);
+    VolumeFrame {
+        width,
+        height,
+        depth,
+        across: weight_grid::scale(width),
+        down: weight_grid::scale(height),
+        inward: weight_grid::scale(depth),
+    }
+}
+
 // The component that takes the second weight, 4 for none.
 pub fn second_component(planes: u8, component: u8) -> u8
     ensures { λ r. ⌜ r ≡ pick (eqb planes 2) component 4 ⌝ }
 {
     if planes == 2 { component } else { 4 }
-}
-
-// The partitions of the texels of row y; all 0 where there is one partition.
-fn row_partitions(seeds: Seeds, partitions: u8, y: u8) -> [u16; 16]
-    ensures { λ r. ⌜ r ≡ tab (λ x. pick (eqb partitions 1) 0 (selectBy seeds x y)) 16 ⌝ }
-{
-    if partitions == 1 {
-        [0u16; 16]
-    } else {
-        partition::partition_row(seeds, y)
-    }
-}
-
-// Where the numbers of the texel at x, y begin.
-fn place(width: u8, x: u8, y: u8) -> usize
-    ensures { λ r. ⌜ r ≡ 4 * (y * width + x) ⌝ }
-{
-    4 * ((y as usize) * (width as usize) + x as usize)
-}
-
-// Four numbers of a texel at place i of the buffer.
-fn put(out: &mut [u16; 576], i: usize, r: u16, g: u16, b: u16, a: u16)
-    requires { ⌜ i + 4 ≤ 576 ⌝ }
-    ensures { λ _. ⌜ now (out .exit) ≡ putFour (now (out .entry)) i r g b a ⌝ }
-{
-    out[i] = r;
-    out[i + 1] = g;
-    out[i + 2] = b;
-    out[i + 3] = a;
 }
 
 // What every texel of a block with a fault is.
@@ -99,7 +87,7 @@ pub fn error_texel(kind: Kind) -> Texel
     }
 }
 
-// All texels in kinds 0 and 1, row by row; the row's partitions are found at once. Only points of the grid are read: at the last column or row a point stands
+// All texels of a flat block in kinds 0 and 1, row by row; the row's partitions are found at once. Only points of the grid are read: at the last column or row a point stands
 // for its neighbour outside, whose factor is 0.
 fn paint(
     kind: Kind,
@@ -110,12 +98,12 @@ fn paint(
     seeds: Seeds,
     partitions: u8,
     f: Frame,
-    out: &mut [u16; 576],
+    out: &mut [u16; 864],
 )
     requires { ⌜ takesHdr kind ≡ false ⌝ }
     requires { ⌜ Inside g f ⌝ }
     requires { ⌜ ByteLevels points ⌝ }
-    ensures { λ r. ⌜ (length (now (out .entry)) ≡ 576 → now (out .exit) ≡ painted (f .width) (texelIn kind g component points (now (lines .entry)) seeds partitions f) (f .height * f .width) (now (out .entry))) ⌝ }
+    ensures { λ r. ⌜ (length (now (out .entry)) ≡ 864 → now (out .exit) ≡ painted (f .width) (texelIn kind g component points (now (lines .entry)) seeds partitions f) (f .height * f .width) (now (out .entry))) ⌝ }
 {
     let row = g.width as usize;
     let mut y: u8 = 0;
@@ -123,7 +111,7 @@ fn paint(
         let gt = weight_grid::grid_place(f.down, y, g.height);
         let from = ((gt / 16) as usize) * row;
         let below = weight_grid::step(gt, g.height, row);
-        let which = row_partitions(seeds, partitions, y);
+        let which = partition::row_partitions(seeds, partitions, y);
         let mut x: u8 = 0;
         while x < f.width {
             let gs = weight_grid::grid_place(f.across, x, g.width);
@@ -143,7 +131,7 @@ fn paint(
     }
 }
 
-// All texels in kind 2. A loop of its own: the mix of kind 2 in the loop of the others would take their registers.
+// All texels of a flat block in kind 2. A loop of its own: the mix of kind 2 in the loop of the others would take their registers.
 fn paint_half(
     g: WeightGrid,
     component: u8,
@@ -152,11 +140,11 @@ fn paint_half(
     seeds: Seeds,
     partitions: u8,
     f: Frame,
-    out: &mut [u16; 576],
+    out: &mut [u16; 864],
 )
     requires { ⌜ Inside g f ⌝ }
     requires { ⌜ ByteLevels points ⌝ }
-    ensures { λ r. ⌜ (length (now (out .entry)) ≡ 576 → now (out .exit) ≡ painted (f .width) (texelIn Float16 g component points (now (lines .entry)) seeds partitions f) (f .height * f .width) (now (out .entry))) ⌝ }
+    ensures { λ r. ⌜ (length (now (out .entry)) ≡ 864 → now (out .exit) ≡ painted (f .width) (texelIn Float16 g component points (now (lines .entry)) seeds partitions f) (f .height * f .width) (now (out .entry))) ⌝ }
 {
     let row = g.width as usize;
     let mut y: u8 = 0;
@@ -164,7 +152,7 @@ fn paint_half(
         let gt = weight_grid::grid_place(f.down, y, g.height);
         let from = ((gt / 16) as usize) * row;
         let below = weight_grid::step(gt, g.height, row);
-        let which = row_partitions(seeds, partitions, y);
+        let which = partition::row_partitions(seeds, partitions, y);
         let mut x: u8 = 0;
         while x < f.width {
             let gs = weight_grid::grid_place(f.across, x, g.width);
@@ -185,30 +173,52 @@ fn paint_half(
 }
 
 // One texel everywhere.
-pub fn flood(t: Texel, fp: u8, out: &mut [u16; 576])
-    ensures { λ r. ⌜ (length (now (out .entry)) ≡ 576 → now (out .exit) ≡ painted (widthOf fp) (λ x y. t) (texelsOf fp) (now (out .entry))) ⌝ }
+pub fn flood(t: Texel, fp: u8, out: &mut [u16; 864])
+    ensures { λ r. ⌜ (length (now (out .entry)) ≡ 864 → now (out .exit) ≡ painted (widthOf fp) (λ x y. t) (texelsOf fp) (now (out .entry))) ⌝ }
 {
-    let count = footprint::texels(fp) as usize;
-    let mut i: usize = 0;
-    while i < count {
-        put(out, 4 * i, t.r, t.g, t.b, t.a);
-        i += 1;
-    }
+    block_buffer::flood(t, footprint::texels(fp) as usize, out);
 }
 
-// The texels of a coded block.
-fn paint_coded(block: PhysicalBlock, s: Settings, fp: u8, kind: Kind, out: &mut [u16; 576])
+// The texels of a coded block. Whether the footprint is a volume is said beside it: for a caller that knows, nothing of the other is left.
+fn paint_coded(
+    block: PhysicalBlock,
+    s: Settings,
+    fp: u8,
+    volume: bool,
+    kind: Kind,
+    out: &mut [u16; 864],
+)
+    requires { ⌜ volume ≡ isVolume fp ⌝ }
     requires { ⌜ (weightCount (s .header .grid) ≤ 64) × (endpointCount (s .header) ≤ 18) ⌝ }
     requires { ⌜ (s .numbers ≡ endpointCount (s .header)) × (s .range ≡ endpointRangeOf (s .header)) ⌝ }
-    requires { ⌜ Limits (s .header .grid) ⌝ }
-    ensures { λ r. ⌜ (length (now (out .entry)) ≡ 576 → now (out .exit) ≡ painted (widthOf fp) (texelFrom fp kind (s .header) (endpointAt (blockNumber block) (s .header)) (weightAt (blockNumber block) (s .header))) (texelsOf fp) (now (out .entry))) ⌝ }
+    requires { ⌜ Limits (s .header .grid) × (isVolume fp ≡ false → s .header .grid .depth ≡ 1) ⌝ }
+    ensures { λ r. ⌜ (length (now (out .entry)) ≡ 864 → now (out .exit) ≡ painted (widthOf fp) (inRow fp (texelFrom fp kind (s .header) (endpointAt (blockNumber block) (s .header)) (weightAt (blockNumber block) (s .header)))) (texelsOf fp) (now (out .entry))) ⌝ }
 {
     let h = s.header;
     let g = h.grid;
     let points = block_levels::points_of(block, g);
     let lines = block_levels::lines_of(block, h, kind, s.numbers, s.range);
-    let seeds = partition::partition_seeds(h.index, h.partitions, footprint::is_small(fp));
+    let small = footprint::is_small(fp);
     let component = second_component(g.planes, h.component);
+    if volume {
+        let frame = volume_frame(fp);
+        volume_paint::paint_volume(
+            kind,
+            g.width,
+            g.height,
+            g.depth,
+            component,
+            points,
+            &lines,
+            h.index,
+            h.partitions,
+            small,
+            frame,
+            out,
+        );
+        return;
+    }
+    let seeds = partition::partition_seeds(h.index, h.partitions, small);
     let frame = frame_of(fp);
     if interpolation::takes_hdr(kind) {
         paint_half(
@@ -237,12 +247,13 @@ fn paint_coded(block: PhysicalBlock, s: Settings, fp: u8, kind: Kind, out: &mut 
 }
 
 // What `decode_into` does, from the halves of a block: as two numbers they need no copy in memory.
-fn decode_halves(lo: u64, hi: u64, fp: u8, kind: Kind, out: &mut [u16; 576]) -> u8
+fn decode_halves(lo: u64, hi: u64, fp: u8, volume: bool, kind: Kind, out: &mut [u16; 864]) -> u8
+    requires { ⌜ volume ≡ isVolume fp ⌝ }
     ensures { λ r. ⌜ r ≡ faultOf (takesHdr kind) fp (blockNumber (halves lo hi)) ⌝ }
-    ensures { λ r. ⌜ (length (now (out .entry)) ≡ 576 → now (out .exit) ≡ blockInto fp kind (blockNumber (halves lo hi)) (now (out .entry))) ⌝ }
+    ensures { λ r. ⌜ (length (now (out .entry)) ≡ 864 → now (out .exit) ≡ blockInto fp kind (blockNumber (halves lo hi)) (now (out .entry))) ⌝ }
 {
     let block = PhysicalBlock { lo, hi };
-    let s = block_fault::read_settings(interpolation::takes_hdr(kind), block, fp);
+    let s = block_fault::read_settings(interpolation::takes_hdr(kind), volume, block, fp);
     let v = s.verdict;
     match v {
         Verdict::Fault(n) => {
@@ -254,17 +265,24 @@ fn decode_halves(lo: u64, hi: u64, fp: u8, kind: Kind, out: &mut [u16; 576]) -> 
             0
         }
         Verdict::Coded => {
-            paint_coded(block, s, fp, kind, out);
+            paint_coded(block, s, fp, volume, kind, out);
             0
         }
     }
 }
 
 // The numbers of a block, 16 bits each, into the first 4 * texels places of a lent buffer, whose other places stay as they were (all of
-// them at a footprint above 13, which has no texels); answers its fault, 0 for none.
-pub fn decode_into(block: PhysicalBlock, fp: u8, kind: Kind, out: &mut [u16; 576]) -> u8
+// them at a footprint above 23, which has no texels); answers its fault, 0 for none. Whether the footprint is a volume is said beside it.
+pub fn decode_into(
+    block: PhysicalBlock,
+    fp: u8,
+    volume: bool,
+    kind: Kind,
+    out: &mut [u16; 864],
+) -> u8
+    requires { ⌜ volume ≡ isVolume fp ⌝ }
     ensures { λ r. ⌜ r ≡ faultOf (takesHdr kind) fp (blockNumber block) ⌝ }
-    ensures { λ r. ⌜ (length (now (out .entry)) ≡ 576 → now (out .exit) ≡ blockInto fp kind (blockNumber block) (now (out .entry))) ⌝ }
+    ensures { λ r. ⌜ (length (now (out .entry)) ≡ 864 → now (out .exit) ≡ blockInto fp kind (blockNumber block) (now (out .entry))) ⌝ }
 {
-    decode_halves(block.lo, block.hi, fp, kind, out)
+    decode_halves(block.lo, block.hi, fp, volume, kind, out)
 }

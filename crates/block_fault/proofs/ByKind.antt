@@ -8,7 +8,9 @@ use Rattle.laws.specs.Choice.{pick, both}
 use Rattle.laws.specs.Reasons.{firstOf}
 use Rattle.block_header.specs.Reasons.{gridTooLarge, tooManyWeights, weightBitsOutside, fourWithTwoPlanes, tooManyEndpoints, tooFewEndpointBits, someHdr, hdrRefused}
 use Rattle.block_fault.specs.Bits.{modeAt, isVoid, isReserved, headerAt}
-use Rattle.block_fault.specs.Faults.{badVoidExtent, hdrVoidExtent, voidReasons, modeReasons, faultOf, hdrBlock}
+use Rattle.footprint.specs.Footprint.{isVolume}
+use Rattle.void_extent.specs.Layout.{badVoidExtent, hdrVoidExtent}
+use Rattle.block_fault.specs.Faults.{voidReasons, modeReasons, faultOf, hdrBlock}
 
 void-both : (bad h : Bool) → _≡_ {A = ℕ} (pick bad 12 0) 0 → _≡_ {A = ℕ} (pick bad 12 (pick h 13 0)) (pick h 13 0)
 void-both true h e = absurd (omega arith)
@@ -27,30 +29,30 @@ mode-both false false false false false false true h z = absurd (omega arith)
 mode-both false false false false false false false h z = refl
 
 module _ (fp B : ℕ) where
-  void-ldr : firstOf (voidReasons true B) ≡ 0 → firstOf (voidReasons false B) ≡ pick (hdrVoidExtent B) 13 0
+  void-ldr : firstOf (voidReasons true fp B) ≡ 0 → firstOf (voidReasons false fp B) ≡ pick (hdrVoidExtent B) 13 0
   unfolding voidReasons
-  void-ldr e = void-both (badVoidExtent B) (hdrVoidExtent B) e
+  void-ldr e = void-both (badVoidExtent (isVolume fp) B) (hdrVoidExtent B) e
 
-  mode-ldr : firstOf (modeReasons true fp B) ≡ 0 → firstOf (modeReasons false fp B) ≡ pick (someHdr (headerAt B)) 20 0
+  mode-ldr : firstOf (modeReasons true fp B) ≡ 0 → firstOf (modeReasons false fp B) ≡ pick (someHdr (headerAt fp B)) 20 0
   unfolding modeReasons hdrRefused
   mode-ldr e =
-      let h = headerAt B in
-      mode-both (isReserved (modeAt B)) (gridTooLarge fp (h .grid)) (tooManyWeights (h .grid)) (weightBitsOutside (h .grid)) (fourWithTwoPlanes h)
+      let h = headerAt fp B in
+      mode-both (isReserved (modeAt fp B)) (gridTooLarge fp (h .grid)) (tooManyWeights (h .grid)) (weightBitsOutside (h .grid)) (fourWithTwoPlanes h)
       (tooManyEndpoints h) (tooFewEndpointBits h) (someHdr h) e
 
   -- the fault in kinds 0 and 1 of a block that has none in kind 2
-  pub fault-ldr : faultOf true fp B ≡ 0 → faultOf false fp B ≡ pick (hdrBlock B) (pick (isVoid (modeAt B)) 13 20) 0
+  pub fault-ldr : faultOf true fp B ≡ 0 → faultOf false fp B ≡ pick (hdrBlock fp B) (pick (isVoid (modeAt fp B)) 13 20) 0
   unfolding faultOf hdrBlock
-  fault-ldr e = go (isVoid (modeAt B)) refl e where
-    go : (v : Bool) → isVoid (modeAt B) ≡ v → pick v (firstOf (voidReasons true B)) (firstOf (modeReasons true fp B)) ≡ 0
-        → pick v (firstOf (voidReasons false B)) (firstOf (modeReasons false fp B)) ≡ pick (pick v (hdrVoidExtent B) (someHdr (headerAt B))) (pick v 13 20) 0
+  fault-ldr e = go (isVoid (modeAt fp B)) refl e where
+    go : (v : Bool) → isVoid (modeAt fp B) ≡ v → pick v (firstOf (voidReasons true fp B)) (firstOf (modeReasons true fp B)) ≡ 0
+        → pick v (firstOf (voidReasons false fp B)) (firstOf (modeReasons false fp B)) ≡ pick (pick v (hdrVoidExtent B) (someHdr (headerAt fp B))) (pick v 13 20) 0
     go true q z = void-ldr z
     go false q z = mode-ldr z
 
   -- a block that has none in kinds 0 and 1 has none in kind 2
   pub fault-hdr : faultOf false fp B ≡ 0 → faultOf true fp B ≡ 0
   unfolding faultOf voidReasons modeReasons hdrRefused
-  fault-hdr e = go (isVoid (modeAt B)) e where
+  fault-hdr e = go (isVoid (modeAt fp B)) e where
     void : (bad h : Bool) → _≡_ {A = ℕ} (pick bad 12 (pick h 13 0)) 0 → _≡_ {A = ℕ} (pick bad 12 0) 0
     void true h z = absurd (omega arith)
     void false h z = refl
@@ -67,9 +69,9 @@ module _ (fp B : ℕ) where
     mode false false false false false false true h z = absurd (omega arith)
     mode false false false false false false false h z = refl
 
-    go : (v : Bool) → pick v (firstOf (voidReasons false B)) (firstOf (modeReasons false fp B)) ≡ 0 → pick v (firstOf (voidReasons true B)) (firstOf (modeReasons true fp B)) ≡ 0
-    go true z = void (badVoidExtent B) (hdrVoidExtent B) z
+    go : (v : Bool) → pick v (firstOf (voidReasons false fp B)) (firstOf (modeReasons false fp B)) ≡ 0 → pick v (firstOf (voidReasons true fp B)) (firstOf (modeReasons true fp B)) ≡ 0
+    go true z = void (badVoidExtent (isVolume fp) B) (hdrVoidExtent B) z
     go false z =
-        let h = headerAt B in
-        mode (isReserved (modeAt B)) (gridTooLarge fp (h .grid)) (tooManyWeights (h .grid)) (weightBitsOutside (h .grid)) (fourWithTwoPlanes h)
+        let h = headerAt fp B in
+        mode (isReserved (modeAt fp B)) (gridTooLarge fp (h .grid)) (tooManyWeights (h .grid)) (weightBitsOutside (h .grid)) (fourWithTwoPlanes h)
         (tooManyEndpoints h) (tooFewEndpointBits h) (someHdr h) z

@@ -8,9 +8,8 @@ use native.Mathlib.Nat.{lt-of-lt-of-le}
 use lib.Pow.{pow-mono}
 use native.Mathlib.Omega.{arith}
 use lib.Dec.{eqb, ltb}
-use lib.ListN.{getD}
 use borrow.Author.Tests.{eq-eqb, ne-eqb, lt-ltb, le-ltb}
-use Rattle.laws.specs.Choice.{pick, both, either}
+use Rattle.laws.specs.Choice.{pick, both}
 use Rattle.laws.specs.Table.{padded}
 use Rattle.bits.specs.Field.{field}
 use Rattle.bits.proofs.Fields.{field-lt}
@@ -18,33 +17,24 @@ use Rattle.block_header.specs.Counts.{extraBits, componentBits, indexBits, sele
 use Rattle.block_header.specs.declared.Header.{Header}
 use Rattle.block_mode.specs.declared.WeightGrid.{WeightGrid}
 use Rattle.laws.specs.Reasons.{firstOf}
-use Rattle.block_fault.specs.Bits.{extentAt, modeOf, indexAt, baseAt, extraAt, componentAt, headerWith}
-use Rattle.block_fault.specs.Faults.{badExtents, badVoidExtent, hdrVoidExtent, voidReasons}
+use Rattle.footprint.specs.Footprint.{isVolume}
+use Rattle.void_extent.specs.Layout.{badVoidExtent, hdrVoidExtent}
+use Rattle.block_fault.specs.Bits.{modeOf, indexAt, baseAt, extraAt, componentAt, headerWith}
+use Rattle.block_fault.specs.Faults.{voidReasons}
 
--- four extents by themselves
-pub four-extents : (B : ℕ) {s0 s1 t0 t1 : ℕ} → s0 ≡ extentAt B 0 → s1 ≡ extentAt B 1 → t0 ≡ extentAt B 2 → t1 ≡ extentAt B 3
-    → badExtents (λ i. getD (s0 ∷ s1 ∷ t0 ∷ t1 ∷ []) i 0) ≡ badExtents (extentAt B)
-unfolding badExtents
-four-extents B e0 e1 e2 e3 = rw (e0, e1, e2, e3)
+module _ (hdr : Bool) (fp B : ℕ) where
+  pub void-extents : badVoidExtent (isVolume fp) B ≡ true → 12 ≡ firstOf (voidReasons hdr fp B)
+  unfolding voidReasons
+  void-extents h = rw h
 
-module _ (hdr : Bool) (B : ℕ) where
-  pub void-bits : (field B 10 2 ≡ 3 → ⊥) → 12 ≡ firstOf (voidReasons hdr B)
-  unfolding voidReasons badVoidExtent
-  void-bits h = rw (ne-eqb (field B 10 2) 3 h)
+  module _ (f : badVoidExtent (isVolume fp) B ≡ false) where
+    pub void-hdr : both (not hdr) (hdrVoidExtent B) ≡ true → 13 ≡ firstOf (voidReasons hdr fp B)
+    unfolding voidReasons
+    void-hdr h = rw (f, h)
 
-  module _ (e : field B 10 2 ≡ 3) where
-    pub void-extents : badExtents (extentAt B) ≡ true → 12 ≡ firstOf (voidReasons hdr B)
-    unfolding voidReasons badVoidExtent
-    void-extents h = rw (eq-eqb (field B 10 2) 3 e, h)
-
-    module _ (f : badExtents (extentAt B) ≡ false) where
-      pub void-hdr : both (not hdr) (hdrVoidExtent B) ≡ true → 13 ≡ firstOf (voidReasons hdr B)
-      unfolding voidReasons badVoidExtent
-      void-hdr h = rw (eq-eqb (field B 10 2) 3 e, f, h)
-
-      pub void-sound : both (not hdr) (hdrVoidExtent B) ≡ false → 0 ≡ firstOf (voidReasons hdr B)
-      unfolding voidReasons badVoidExtent
-      void-sound h = rw (eq-eqb (field B 10 2) 3 e, f, h)
+    pub void-sound : both (not hdr) (hdrVoidExtent B) ≡ false → 0 ≡ firstOf (voidReasons hdr fp B)
+    unfolding voidReasons
+    void-sound h = rw (f, h)
 
 -- ---- the mode of a partition
 

@@ -46,27 +46,27 @@ staged false true c d rest = refl
 staged false false true d rest = refl
 staged false false false d rest = refl
 
-module _ (hdr : Bool) (fp B : ℕ) (g : WeightGrid) (m : modeAt B ≡ Grid g) where
-  pub header-is : headerAt B ≡ headerWith B g (partitionsAt B) (selectorAt B (partitionsAt B))
+module _ (hdr : Bool) (fp B : ℕ) (g : WeightGrid) (m : modeAt fp B ≡ Grid g) where
+  pub header-is : headerAt fp B ≡ headerWith B g (partitionsAt B) (selectorAt B (partitionsAt B))
   unfolding headerAt
   header-is = rw m
 
-  header-grid : headerAt B .grid ≡ g
+  header-grid : headerAt fp B .grid ≡ g
   header-grid = made-grid B g _ _ header-is
 
   fault-first : faultOf hdr fp B
-      ≡ pick (eqb (gridFault fp (headerAt B .grid)) 0) (pick (fourWithTwoPlanes (headerAt B)) 17 (endpointFault hdr (headerAt B))) (gridFault fp (headerAt B .grid))
+      ≡ pick (eqb (gridFault fp (headerAt fp B .grid)) 0) (pick (fourWithTwoPlanes (headerAt fp B)) 17 (endpointFault hdr (headerAt fp B))) (gridFault fp (headerAt fp B .grid))
   unfolding faultOf modeReasons gridFault endpointFault
   fault-first =
       rw m
-      (staged (gridTooLarge fp (headerAt B .grid)) (tooManyWeights (headerAt B .grid)) (weightBitsOutside (headerAt B .grid)) (fourWithTwoPlanes (headerAt B))
-      (firstOf (endpointReasons hdr (headerAt B) [])))
+      (staged (gridTooLarge fp (headerAt fp B .grid)) (tooManyWeights (headerAt fp B .grid)) (weightBitsOutside (headerAt fp B .grid)) (fourWithTwoPlanes (headerAt fp B))
+      (firstOf (endpointReasons hdr (headerAt fp B) [])))
 
-  pub fault-staged : faultOf hdr fp B ≡ pick (eqb (gridFault fp g) 0) (pick (fourWithTwoPlanes (headerAt B)) 17 (endpointFault hdr (headerAt B))) (gridFault fp g)
+  pub fault-staged : faultOf hdr fp B ≡ pick (eqb (gridFault fp g) 0) (pick (fourWithTwoPlanes (headerAt fp B)) 17 (endpointFault hdr (headerAt fp B))) (gridFault fp g)
   fault-staged =
-      fault-first ∙ ap (λ (k : WeightGrid). pick (eqb (gridFault fp k) 0) (pick (fourWithTwoPlanes (headerAt B)) 17 (endpointFault hdr (headerAt B))) (gridFault fp k)) header-grid
+      fault-first ∙ ap (λ (k : WeightGrid). pick (eqb (gridFault fp k) 0) (pick (fourWithTwoPlanes (headerAt fp B)) 17 (endpointFault hdr (headerAt fp B))) (gridFault fp k)) header-grid
 
-  four-is : fourWithTwoPlanes (headerAt B) ≡ both (eqb (g .planes) 2) (eqb (partitionsAt B) 4)
+  four-is : fourWithTwoPlanes (headerAt fp B) ≡ both (eqb (g .planes) 2) (eqb (partitionsAt B) 4)
   unfolding fourWithTwoPlanes headerWith
   four-is = rw header-is
 
@@ -75,7 +75,7 @@ module _ (hdr : Bool) (fp B : ℕ) (g : WeightGrid) (m : modeAt B ≡ Grid g) wh
   unfolding settingsOf verdictOf
   settled-fault n e h = rw (e, ne-eqb n 0 h)
 
-  pub settled-coded : faultOf hdr fp B ≡ 0 → withHeader verdict.Coded (headerAt B) ≡ settingsOf hdr fp B
+  pub settled-coded : faultOf hdr fp B ≡ 0 → withHeader verdict.Coded (headerAt fp B) ≡ settingsOf hdr fp B
   unfolding settingsOf verdictOf
   settled-coded e = rw (e, m)
 
@@ -87,27 +87,27 @@ module _ (hdr : Bool) (fp B : ℕ) (g : WeightGrid) (m : modeAt B ≡ Grid g) wh
       rw (er, ev, et) (settled-fault k f (λ z. q .1 (q .0 ∙ z)))
 
   module _ (pass : gridFault fp g ≡ 0) where
-    stop-planes-fault : faultOf hdr fp B ≡ pick (fourWithTwoPlanes (headerAt B)) 17 (endpointFault hdr (headerAt B))
+    stop-planes-fault : faultOf hdr fp B ≡ pick (fourWithTwoPlanes (headerAt fp B)) 17 (endpointFault hdr (headerAt fp B))
     stop-planes-fault = fault-staged ∙ rw pass
 
     pub stop-planes : {p k : ℕ} {st : Stage} {v : Verdict} {r : Settings} → p ≡ partitionsAt B → st ≡ stageOf (pick (both (eqb (g .planes) 2) (eqb p 4)) 17 0)
         → st ≡ Stopped k → v ≡ verdictFrom st → r ≡ bareOf v → r ≡ settingsOf hdr fp B
     stop-planes {p} {k} ep es et ev er =
         let q = stage-stopped (pick (both (eqb (g .planes) 2) (eqb p 4)) 17 0) k (sym es ∙ et) in
-        rw (er, ev, et) (settled-fault k (stop-planes-fault ∙ go (fourWithTwoPlanes (headerAt B)) (rw (ep, ← four-is)) q) (λ z. q .1 (q .0 ∙ z)))
+        rw (er, ev, et) (settled-fault k (stop-planes-fault ∙ go (fourWithTwoPlanes (headerAt fp B)) (rw (ep, ← four-is)) q) (λ z. q .1 (q .0 ∙ z)))
       where
-        go : {n : ℕ} (t : Bool) → n ≡ pick t 17 0 → (n ≡ k) × (n ≡ 0 → ⊥) → pick t 17 (endpointFault hdr (headerAt B)) ≡ k
+        go : {n : ℕ} (t : Bool) → n ≡ pick t 17 0 → (n ≡ k) × (n ≡ 0 → ⊥) → pick t 17 (endpointFault hdr (headerAt fp B)) ≡ k
         go true e q = sym e ∙ q .0
         go false e q = absurd (q .1 e)
 
     module _ {p : ℕ} (ep : p ≡ partitionsAt B) (ok : _≡_ {A = ℕ} (pick (both (eqb (g .planes) 2) (eqb p 4)) 17 0) 0) where
-      ends-fault : faultOf hdr fp B ≡ endpointFault hdr (headerAt B)
-      ends-fault = stop-planes-fault ∙ go (fourWithTwoPlanes (headerAt B)) (sym ok ∙ rw (ep, ← four-is)) where
-        go : (t : Bool) → _≡_ {A = ℕ} 0 (pick t 17 0) → pick t 17 (endpointFault hdr (headerAt B)) ≡ endpointFault hdr (headerAt B)
+      ends-fault : faultOf hdr fp B ≡ endpointFault hdr (headerAt fp B)
+      ends-fault = stop-planes-fault ∙ go (fourWithTwoPlanes (headerAt fp B)) (sym ok ∙ rw (ep, ← four-is)) where
+        go : (t : Bool) → _≡_ {A = ℕ} 0 (pick t 17 0) → pick t 17 (endpointFault hdr (headerAt fp B)) ≡ endpointFault hdr (headerAt fp B)
         go true e = absurd (omega arith)
         go false e = refl
 
-      pub header-read : {h : Header} → h ≡ headerWith B g p (selectorAt B p) → h ≡ headerAt B
+      pub header-read : {h : Header} → h ≡ headerWith B g p (selectorAt B p) → h ≡ headerAt fp B
       header-read e = e ∙ rw ep (sym header-is)
 
       pub stop-ends : {h : Header} {k : ℕ} {st : Stage} {v : Verdict} {r : Settings} → h ≡ headerWith B g p (selectorAt B p) → st ≡ stageOf (endpointFault hdr h)
@@ -124,13 +124,13 @@ module _ (hdr : Bool) (fp B : ℕ) (g : WeightGrid) (m : modeAt B ≡ Grid g) wh
 -- ---- the other modes
 
 module _ (hdr : Bool) (fp B : ℕ) where
-  pub settled-void : modeAt B ≡ VoidExtent → voidSettings hdr B ≡ settingsOf hdr fp B
+  pub settled-void : modeAt fp B ≡ VoidExtent → voidSettings hdr fp B ≡ settingsOf hdr fp B
   unfolding voidSettings settingsOf verdictOf faultOf
-  settled-void m = rw m (go (eqb (firstOf (voidReasons hdr B)) 0)) where
-    go : (t : Bool) → bareOf (pick t verdict.VoidExtent (verdict.Fault (firstOf (voidReasons hdr B)))) ≡ withHeader (pick t verdict.VoidExtent (verdict.Fault (firstOf (voidReasons hdr B)))) (headerAt B)
+  settled-void m = rw m (go (eqb (firstOf (voidReasons hdr fp B)) 0)) where
+    go : (t : Bool) → bareOf (pick t verdict.VoidExtent (verdict.Fault (firstOf (voidReasons hdr fp B)))) ≡ withHeader (pick t verdict.VoidExtent (verdict.Fault (firstOf (voidReasons hdr fp B)))) (headerAt fp B)
     go true = refl
     go false = refl
 
-  pub settled-reserved : modeAt B ≡ Reserved → bareOf (verdict.Fault 11) ≡ settingsOf hdr fp B
+  pub settled-reserved : modeAt fp B ≡ Reserved → bareOf (verdict.Fault 11) ≡ settingsOf hdr fp B
   unfolding settingsOf verdictOf faultOf modeReasons
   settled-reserved m = rw m

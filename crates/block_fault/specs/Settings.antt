@@ -14,11 +14,11 @@ use Rattle.block_fault.specs.Bits.{modeAt, isVoid, headerAt}
 use Rattle.block_fault.specs.Faults.{faultOf}
 
 unfoldable pub verdictOf : Bool → ℕ → ℕ → Verdict
-verdictOf hdr fp B = pick (eqb (faultOf hdr fp B) 0) (pick (isVoid (modeAt B)) VoidExtent Coded) (Fault (faultOf hdr fp B))
+verdictOf hdr fp B = pick (eqb (faultOf hdr fp B) 0) (pick (isVoid (modeAt fp B)) VoidExtent Coded) (Fault (faultOf hdr fp B))
 
 abbrev pub zeroHeader : Header
 zeroHeader = record {
-  grid = record { width = 0; height = 0; range = 0; planes = 0 };
+  grid = record { width = 0; height = 0; depth = 0; range = 0; planes = 0 };
   component = 0;
   partitions = 0;
   index = 0;
@@ -37,4 +37,4 @@ withHeader (Fault n) h = bareOf (Fault n)
 
 -- the settings of the block B at a footprint, HDR taken or not, all 0 unless it is a coded block without fault
 unfoldable pub settingsOf : Bool → ℕ → ℕ → Settings
-settingsOf hdr fp B = withHeader (verdictOf hdr fp B) (headerAt B)
+settingsOf hdr fp B = withHeader (verdictOf hdr fp B) (headerAt fp B)

@@ -7,10 +7,8 @@ use block_mode::WeightGrid;
 ghost use mathlib.Core.Path.{_≡_};
 ghost use Prim.Native.Nat.{_+_, _*_, _^_, _≤_, _<_};
 ghost use mathlib.Core.Bool.{not};
-ghost use mathlib.Core.List.{[], _∷_};
 ghost use lib.Dec.{eqb, ltb};
-ghost use lib.ListN.{getD};
-ghost use Rattle.laws.specs.Choice.{pick, both, either};
+ghost use Rattle.laws.specs.Choice.{pick, both};
 ghost use Rattle.laws.specs.Table.{padded};
 ghost use Rattle.bits.specs.Field.{field};
 ghost use Rattle.bits.specs.Block.{blockNumber};
@@ -18,8 +16,10 @@ ghost use Rattle.block_header.specs.Counts.{weightBits};
 ghost use Rattle.block_mode.specs.Back2D.{Limits};
 ghost use Rattle.block_mode.specs.declared.BlockMode.the-variants.{Grid};
 ghost use Rattle.laws.specs.Reasons.{firstOf};
-ghost use Rattle.block_fault.specs.Bits.{modeAt, modeOf, headerWith, selectorAt, extentAt, endpointsFrom};
-ghost use Rattle.block_fault.specs.Faults.{badExtents, hdrVoidExtent, voidReasons};
+ghost use Rattle.block_fault.specs.Bits.{modeAt, modeOf, headerWith, selectorAt, endpointsFrom};
+ghost use Rattle.block_fault.specs.Faults.{voidReasons};
+ghost use Rattle.footprint.specs.Footprint.{isVolume};
+ghost use Rattle.void_extent.specs.Layout.{hdrVoidExtent};
 ghost use Rattle.block_header.specs.Stages.{stageOf};
 ghost use Rattle.block_fault.specs.Settings.{bareOf, settingsOf};
 ghost use Rattle.block_fault.specs.inner.Stages.{verdictFrom, stageIn, voidSettings};
@@ -45,6 +45,7 @@ fn bare(verdict: Verdict) -> Settings
     let grid = WeightGrid {
         width: 0,
         height: 0,
+        depth: 0,
         range: 0,
         planes: 0,
     };
@@ -70,30 +71,6 @@ fn both(a: bool, b: bool) -> bool
     if a { b } else { false }
 }
 
-fn either(a: bool, b: bool) -> bool
-    ensures { λ r. ⌜ r ≡ either a b ⌝ }
-{
-    if a { true } else { b }
-}
-
-// Extent i of a void extent.
-fn extent(b: PhysicalBlock, i: u32) -> u64
-    requires { ⌜ i < 4 ⌝ }
-    ensures { λ r. ⌜ r ≡ extentAt (blockNumber b) i ⌝ }
-{
-    bits::field_at(b, 12 + 13 * i, 13)
-}
-
-fn bad_extents(s0: u64, s1: u64, t0: u64, t1: u64) -> bool
-    ensures { λ r. ⌜ r ≡ badExtents (λ i. getD (s0 ∷ s1 ∷ t0 ∷ t1 ∷ []) i 0) ⌝ }
-{
-    let ones = both(
-        t1 == 8191,
-        both(t0 == 8191, both(s1 == 8191, both(s0 == 8191, true))),
-    );
-    !either(ones, both(s0 < s1, t0 < t1))
-}
-
 // Whether a void extent is refused for its bit 9, HDR taken or not.
 fn hdr_refused(hdr: bool, b: PhysicalBlock) -> bool
     ensures { λ r. ⌜ r ≡ both (not hdr) (hdrVoidExtent (blockNumber b)) ⌝ }
@@ -101,17 +78,15 @@ fn hdr_refused(hdr: bool, b: PhysicalBlock) -> bool
     if hdr {
         return false;
     }
-    bits::field_at(b, 9, 1) == 1
+    void_extent::hdr_void_extent(b)
 }
 
 // The stage of a void extent: 12, then 13.
-fn void_stage(hdr: bool, b: PhysicalBlock) -> Stage
-    ensures { λ r. ⌜ r ≡ stageOf (firstOf (voidReasons hdr (blockNumber b))) ⌝ }
+fn void_stage(hdr: bool, volume: bool, b: PhysicalBlock, fp: u8) -> Stage
+    requires { ⌜ volume ≡ isVolume fp ⌝ }
+    ensures { λ r. ⌜ r ≡ stageOf (firstOf (voidReasons hdr fp (blockNumber b))) ⌝ }
 {
-    if bits::field_at(b, 10, 2) != 3 {
-        return Stage::Stopped(12);
-    }
-    if bad_extents(extent(b, 0), extent(b, 1), extent(b, 2), extent(b, 3)) {
+    if void_extent::bad_void_extent(volume, b) {
         return Stage::Stopped(12);
     }
     if hdr_refused(hdr, b) {
@@ -225,7 +200,7 @@ fn header_at(b: PhysicalBlock, g: WeightGrid, weights: u32, partitions: u8) -> H
 
 // The settings of a block whose mode is the grid g: each stage's fault is told at once.
 fn coded(hdr: bool, b: PhysicalBlock, fp: u8, g: WeightGrid) -> Settings
-    requires { ⌜ modeAt (blockNumber b) ≡ Grid g ⌝ }
+    requires { ⌜ modeAt fp (blockNumber b) ≡ Grid g ⌝ }
     ensures { λ r. ⌜ r ≡ settingsOf hdr fp (blockNumber b) ⌝ }
 {
     let weights = block_header::weight_bits(g);
@@ -238,7 +213,7 @@ fn coded(hdr: bool, b: PhysicalBlock, fp: u8, g: WeightGrid) -> Settings
     let Stage::Passed = planes else {
         return bare(verdict_of(planes));
     };
-    let h = header_at(b, g, weights, partitions);
+    let h = header_at(b, g, weights as u32, partitions);
     let count = block_header::endpoint_count(h);
     let left = block_header::bits_left_with(h, weights);
     let ends = block_header::endpoint_stage(hdr, h, count, left);
@@ -255,13 +230,14 @@ fn coded(hdr: bool, b: PhysicalBlock, fp: u8, g: WeightGrid) -> Settings
     }
 }
 
-// The settings of a block, HDR taken or not, read once.
-pub fn read_settings(hdr: bool, b: PhysicalBlock, fp: u8) -> Settings
+// The settings of a block, HDR taken or not, read once. Whether the footprint is a volume is said beside it: a caller that knows says so once.
+pub fn read_settings(hdr: bool, volume: bool, b: PhysicalBlock, fp: u8) -> Settings
+    requires { ⌜ volume ≡ isVolume fp ⌝ }
     ensures { λ r. ⌜ r ≡ settingsOf hdr fp (blockNumber b) ⌝ }
 {
-    let mode = block_mode::block_mode(bits::field_at(b, 0, 11) as u16);
+    let mode = volume_mode::block_mode_in(volume, bits::field_at(b, 0, 11) as u16);
     if let BlockMode::VoidExtent = mode {
-        return void_settings(hdr, b);
+        return void_settings(hdr, volume, b, fp);
     }
     let BlockMode::Grid(g) = mode else {
         return bare(Verdict::Fault(11));
@@ -270,10 +246,11 @@ pub fn read_settings(hdr: bool, b: PhysicalBlock, fp: u8) -> Settings
 }
 
 // A void extent, once its stage has passed.
-fn void_settings(hdr: bool, b: PhysicalBlock) -> Settings
-    ensures { λ r. ⌜ r ≡ voidSettings hdr (blockNumber b) ⌝ }
+fn void_settings(hdr: bool, volume: bool, b: PhysicalBlock, fp: u8) -> Settings
+    requires { ⌜ volume ≡ isVolume fp ⌝ }
+    ensures { λ r. ⌜ r ≡ voidSettings hdr fp (blockNumber b) ⌝ }
 {
-    let stage = void_stage(hdr, b);
+    let stage = void_stage(hdr, volume, b, fp);
     let Stage::Passed = stage else {
         return bare(verdict_of(stage));
     };

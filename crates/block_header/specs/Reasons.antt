@@ -7,15 +7,15 @@ use lib.Dec.{ltb, eqb}
 use lib.ListN.{getD}
 use Rattle.laws.specs.Choice.{both, either}
 use Rattle.laws.specs.Reasons.{Reason, when, firstOf, some}
-use Rattle.footprint.specs.Footprint.{widthOf, heightOf}
+use Rattle.footprint.specs.Footprint.{widthOf, heightOf, depthOf}
 use Rattle.color_endpoint.specs.Modes.{isHdr}
 use Rattle.block_mode.specs.declared.WeightGrid.{WeightGrid}
 use Rattle.block_header.specs.declared.Header.{Header}
 use Rattle.block_header.specs.Counts.{weightCount, weightBits, endpointCount, bitsLeft}
 
--- 14: "weight grid wider or higher than the footprint"
+-- 14: "weight grid wider or higher than the footprint"; 02, h: for volumes it speaks of three axes. A flat grid and a flat footprint have depth 1
 unfoldable pub gridTooLarge : ℕ → WeightGrid → Bool
-gridTooLarge fp g = either (ltb (widthOf fp) (g .width)) (ltb (heightOf fp) (g .height))
+gridTooLarge fp g = either (ltb (widthOf fp) (g .width)) (either (ltb (heightOf fp) (g .height)) (ltb (depthOf fp) (g .depth)))
 
 -- 15: "more than 64 weights, both planes counted"
 unfoldable pub tooManyWeights : WeightGrid → Bool

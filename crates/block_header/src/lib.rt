@@ -1,7 +1,7 @@
 // What a block's settings are besides its packed numbers, and the counts and reasons that follow from them.
 use block_mode::WeightGrid;
 ghost use mathlib.Core.Path.{_≡_};
-ghost use Prim.Native.Nat.{_≤_};
+ghost use Prim.Native.Nat.{_≤_, min};
 ghost use lib.Dec.{eqb};
 ghost use Rattle.laws.specs.Choice.{pick};
 ghost use Rattle.color_endpoint.specs.Table.{numberCount};
@@ -43,16 +43,16 @@ fn wide(x: u8) -> u32
 
 // The weights of both planes.
 pub fn weight_count(g: WeightGrid) -> u32
-    ensures { λ r. ⌜ (r ≡ weightCount g) × (r ≤ 16581375) ⌝ }
+    ensures { λ r. ⌜ (r ≡ weightCount g) × (r ≤ 4228250625) ⌝ }
 {
-    wide(g.width) * wide(g.height) * wide(g.planes)
+    wide(g.width) * wide(g.height) * wide(g.depth) * wide(g.planes)
 }
 
 // The bits of the weight stream.
-pub fn weight_bits(g: WeightGrid) -> u32
-    ensures { λ r. ⌜ (r ≡ weightBits g) × (r ≤ 182395125) ⌝ }
+pub fn weight_bits(g: WeightGrid) -> u64
+    ensures { λ r. ⌜ r ≡ weightBits g ⌝ }
 {
-    quantization::range_bits(g.range, weight_count(g)) as u32
+    quantization::range_bits(g.range, weight_count(g))
 }
 
 // Two bits of component selector with two planes.
@@ -114,14 +114,28 @@ fn room(partitions: u8) -> u32
     if partitions == 1 { 111 } else { 99 }
 }
 
+// At most 1000, which is more than any room.
+fn clipped(n: u64) -> u32
+    ensures { λ r. ⌜ (r ≡ min n 1000) × (r ≤ 1000) ⌝ }
+{
+    if n < 1000 { n as u32 } else { 1000 }
+}
+
+// The bits of the weight stream, 1000 for more.
+pub fn clipped_weight_bits(g: WeightGrid) -> u32
+    ensures { λ r. ⌜ (r ≡ min (weightBits g) 1000) × (r ≤ 1000) ⌝ }
+{
+    clipped(weight_bits(g))
+}
+
 // The bits left for the endpoint numbers, once the weight bits are known.
-pub fn bits_left_with(h: Header, weights: u32) -> u32
-    requires { ⌜ (weights ≡ weightBits (h .grid)) × (weights ≤ 182395125) ⌝ }
+pub fn bits_left_with(h: Header, weights: u64) -> u32
+    requires { ⌜ weights ≡ weightBits (h .grid) ⌝ }
     ensures { λ r. ⌜ (r ≡ bitsLeft h) × (r ≤ 111) ⌝ }
 {
     let g = h.grid;
     let all = room(h.partitions);
-    let used = weights + component_bits(g.planes) + extra_bits(h.partitions, h.selector);
+    let used = clipped(weights) + component_bits(g.planes) + extra_bits(h.partitions, h.selector);
     quantization::bits_left(all, used)
 }
 
@@ -140,7 +154,7 @@ pub fn endpoint_range_of(h: Header) -> u8
 }
 
 // The first of 14 to 16 that holds, once the weight bits are known.
-pub fn grid_stage(fp: u8, g: WeightGrid, weights: u32) -> Stage
+pub fn grid_stage(fp: u8, g: WeightGrid, weights: u64) -> Stage
     requires { ⌜ weights ≡ weightBits g ⌝ }
     ensures { λ r. ⌜ r ≡ stageOf (gridFault fp g) ⌝ }
 {
@@ -148,6 +162,9 @@ pub fn grid_stage(fp: u8, g: WeightGrid, weights: u32) -> Stage
         return Stage::Stopped(14);
     }
     if footprint::height(fp) < g.height {
+        return Stage::Stopped(14);
+    }
+    if footprint::depth(fp) < g.depth {
         return Stage::Stopped(14);
     }
     if 64 < weight_count(g) {

@@ -174,10 +174,13 @@ lines-same modes count levels en et er =
           | no p ↦ rw (le-ltb k count (omega arith)) (ap lineOf (sym (table-at pairOf zeroPair modes levels count k noPair l ∙ entry-past pairOf zeroPair modes levels count k (omega arith))))
         ]
 
--- a grid of at most 64 weights has at most 64 points
-pub points-le : (g : WeightGrid) → Limits g → weightCount g ≤ 64 → g .width * g .height ≤ 64
+-- a grid of at most 64 weights has at most 64 points, and so has each of its layers
+pub points-le : (g : WeightGrid) → Limits g → weightCount g ≤ 64 → g .width * g .height * g .depth ≤ 64
 unfolding weightCount
-points-le g l n = omega (arith, n, mul-le-mul-left (g .width * g .height) (l .planes-low))
+points-le g l n = omega (arith, n, mul-le-mul-left (g .width * g .height * g .depth) (l .planes-low))
+
+pub layer-le : (g : WeightGrid) → Limits g → weightCount g ≤ 64 → g .width * g .height ≤ 64
+layer-le g l n = omega (arith, points-le g l n, mul-le-mul-left (g .width * g .height) (l .depth-low))
 
 -- the levels of endpoint numbers by their range, count and place
 levelsBy : ℕ → ℕ → ℕ → ℕ → List Level

@@ -35,8 +35,8 @@ ghost use Rattle.weight_grid.specs.Cell.{level};
 ghost use Rattle.weight_grid.specs.inner.Points.{noPoint, pointOf, pointsOf};
 ghost use Rattle.block_mode.specs.Back2D.{Limits};
 ghost use Rattle.texel.specs.Meaning.{endpointLevels, weightLevels, solidNumber, solidTexel};
-ghost use Rattle.block_fault.specs.Bits.{endpointAt, colourAt};
-ghost use Rattle.block_fault.specs.Faults.{hdrVoidExtent};
+ghost use Rattle.block_fault.specs.Bits.{endpointAt};
+ghost use Rattle.void_extent.specs.Layout.{colourAt, hdrVoidExtent};
 ghost use Rattle.block_levels.specs.inner.Lines.{linesBy, linesIn, coloursOf};
 
 // A stored number unquantised by a rule.
@@ -81,7 +81,7 @@ fn endpoint_levels(range: u8, xs: [Stored; 64], n: usize) -> [Level; 18]
 // The points of a block's weight grid, its weights unquantised.
 pub fn points_of(block: PhysicalBlock, g: WeightGrid) -> [LevelPair; 64]
     requires { ⌜ Limits g × (weightCount g ≤ 64) ⌝ }
-    ensures { λ r. ⌜ r ≡ pointsOf (weightLevels (g .range) (λ i. pick (ltb i (weightCount g)) (number (encodingAt (g .range)) (bitsAt (g .range)) (sequenceAt (encodingAt (g .range)) (bitsAt (g .range)) (reverse 128 (blockNumber block)) 0 (weightCount g)) i) 0)) (g .planes) (g .width * g .height) ⌝ }
+    ensures { λ r. ⌜ r ≡ pointsOf (weightLevels (g .range) (λ i. pick (ltb i (weightCount g)) (number (encodingAt (g .range)) (bitsAt (g .range)) (sequenceAt (encodingAt (g .range)) (bitsAt (g .range)) (reverse 128 (blockNumber block)) 0 (weightCount g)) i) 0)) (g .planes) (g .width * g .height * g .depth) ⌝ }
 {
     let n = block_header::weight_count(g) as u8;
     let xs = integer_sequence::read_sequence(bits::reversed(block), 0, g.range, n);
@@ -89,7 +89,7 @@ pub fn points_of(block: PhysicalBlock, g: WeightGrid) -> [LevelPair; 64]
         g.range,
         g.planes,
         xs,
-        (g.width as usize) * (g.height as usize),
+        (g.width as usize) * (g.height as usize) * (g.depth as usize),
     )
 }
 
@@ -161,13 +161,6 @@ fn solid_number(half: bool, n: u16) -> u16
     if half { half_float::unorm_half(n) } else { n }
 }
 
-// A void extent's bit 9.
-fn is_hdr(block: PhysicalBlock) -> bool
-    ensures { λ r. ⌜ r ≡ hdrVoidExtent (blockNumber block) ⌝ }
-{
-    bits::field_at(block, 9, 1) == 1
-}
-
 // Whether a kind shows half floats of a void extent's colours, HDR or not.
 fn shown_as_half(kind: Kind, hdr: bool) -> bool
     ensures { λ r. ⌜ r ≡ both (takesHdr kind) (not hdr) ⌝ }
@@ -195,7 +188,7 @@ pub fn colours(kind: Kind, block: PhysicalBlock) -> Texel
     ensures { λ r. ⌜ r ≡ solidTexel kind (hdrVoidExtent (blockNumber block)) (colourAt (blockNumber block)) ⌝ }
 {
     let t = stored_colours(block);
-    let half = shown_as_half(kind, is_hdr(block));
+    let half = shown_as_half(kind, void_extent::hdr_void_extent(block));
     let r = solid_number(half, t.r);
     let g = solid_number(half, t.g);
     let b = solid_number(half, t.b);

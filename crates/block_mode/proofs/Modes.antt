@@ -15,21 +15,21 @@ use Rattle.block_mode.specs.declared.BlockMode.the-variants.{VoidExtent,
 use Rattle.block_mode.specs.declared.ModeBits.{ModeBits}
 use Rattle.block_mode.specs.declared.ModeBits.the-variants.{Mode, NoMode}
 use Rattle.block_mode.specs.Mode2D.{blockMode}
-use Rattle.block_mode.specs.Back2D.{isSide, inLimits, Limits, modeBits}
 use Rattle.block_mode.specs.OneMode.{OneMode}
+use Rattle.block_mode.specs.Back2D.{isSide, inLimits, Limits, modeBits}
 
 -- ---- tests
 
 -- the answer is the mode m
-isMode : ModeBits → ℕ → Bool
+unfoldable pub isMode : ModeBits → ℕ → Bool
 isMode (Mode n) m = eqb n m
 isMode NoMode m = false
 
 -- the answer is the grid g
-isGrid : BlockMode → WeightGrid → Bool
+unfoldable pub isGrid : BlockMode → WeightGrid → Bool
 isGrid VoidExtent g = false
 isGrid Reserved g = false
-isGrid (Grid k) g = both (eqb (k .width) (g .width)) (both (eqb (k .height) (g .height)) (both (eqb (k .range) (g .range)) (eqb (k .planes) (g .planes))))
+isGrid (Grid k) g = both (eqb (k .width) (g .width)) (both (eqb (k .height) (g .height)) (both (eqb (k .depth) (g .depth)) (both (eqb (k .range) (g .range)) (eqb (k .planes) (g .planes)))))
 
 -- a grid that is read is in its limits, and its bits are those that were read
 readBack : BlockMode → ℕ → Bool
@@ -43,7 +43,7 @@ writtenBack (Mode m) g = both (ltb m 2048) (isGrid (blockMode m) g)
 writtenBack NoMode g = true
 
 abbrev grid : ℕ → ℕ → ℕ → ℕ → WeightGrid
-grid w h r p = record { width = w; height = h; range = r; planes = p }
+grid w h r p = record { width = w; height = h; depth = 1; range = r; planes = p }
 
 test-read : T (all (λ m. readBack (blockMode m) m) 2048)
 unfolding readBack isMode blockMode modeBits
@@ -64,26 +64,29 @@ unfolding isMode
 is-mode (Mode n) m t = ap (λ (k : ℕ). Mode k) (eqb→eq n m t)
 is-mode NoMode m t = absurd t
 
-same-grid : (k g : WeightGrid) → k .width ≡ g .width → k .height ≡ g .height → k .range ≡ g .range → k .planes ≡ g .planes → k ≡ g
-same-grid k g w h r p = λ i. record { width = w i; height = h i; range = r i; planes = p i }
+pub same-grid : (k g : WeightGrid) → k .width ≡ g .width → k .height ≡ g .height → k .depth ≡ g .depth → k .range ≡ g .range → k .planes ≡ g .planes → k ≡ g
+same-grid k g w h d r p = λ i. record { width = w i; height = h i; depth = d i; range = r i; planes = p i }
 
-is-grid : (x : BlockMode) (g : WeightGrid) → T (isGrid x g) → x ≡ Grid g
+pub is-grid : (x : BlockMode) (g : WeightGrid) → T (isGrid x g) → x ≡ Grid g
 unfolding isGrid
 is-grid VoidExtent g t = absurd t
 is-grid Reserved g t = absurd t
 is-grid (Grid k) g t =
     let a = eqb (k .width) (g .width) in
     let b = eqb (k .height) (g .height) in
+    let z = eqb (k .depth) (g .depth) in
     let c = eqb (k .range) (g .range) in
     let d = eqb (k .planes) (g .planes) in
-    let t1 = both-right a (both b (both c d)) t in
-    let t2 = both-right b (both c d) t1 in
+    let t1 = both-right a (both b (both z (both c d))) t in
+    let t2 = both-right b (both z (both c d)) t1 in
+    let t3 = both-right z (both c d) t2 in
     ap (λ (n : WeightGrid). Grid n)
     (same-grid k g
-    (eqb→eq (k .width) (g .width) (both-left a (both b (both c d)) t))
-    (eqb→eq (k .height) (g .height) (both-left b (both c d) t1))
-    (eqb→eq (k .range) (g .range) (both-left c d t2))
-    (eqb→eq (k .planes) (g .planes) (both-right c d t2)))
+    (eqb→eq (k .width) (g .width) (both-left a (both b (both z (both c d))) t))
+    (eqb→eq (k .height) (g .height) (both-left b (both z (both c d)) t1))
+    (eqb→eq (k .depth) (g .depth) (both-left z (both c d) t2))
+    (eqb→eq (k .range) (g .range) (both-left c d t3))
+    (eqb→eq (k .planes) (g .planes) (both-right c d t3)))
 
 -- the limits as facts
 pub limits : (g : WeightGrid) → T (inLimits g) → Limits g
@@ -91,23 +94,38 @@ unfolding inLimits
 limits g t =
     let w = isSide (g .width) in
     let h = isSide (g .height) in
+    let z = eqb (g .depth) 1 in
     let r = leb (g .range) 11 in
     let p = leb 1 (g .planes) in
     let q = leb (g .planes) 2 in
-    let t1 = both-right w (both h (both r (both p q))) t in
-    let t2 = both-right h (both r (both p q)) t1 in
-    let t3 = both-right r (both p q) t2 in
-    let tw = both-left w (both h (both r (both p q))) t in
-    let th = both-left h (both r (both p q)) t1 in
+    let t1 = both-right w (both h (both z (both r (both p q)))) t in
+    let t2 = both-right h (both z (both r (both p q))) t1 in
+    let t3 = both-right z (both r (both p q)) t2 in
+    let t4 = both-right r (both p q) t3 in
+    let tw = both-left w (both h (both z (both r (both p q)))) t in
+    let th = both-left h (both z (both r (both p q))) t1 in
+    let one : g .depth ≡ 1 = eqb→eq (g .depth) 1 (both-left z (both r (both p q)) t2) in
     record {
       width-low = leb→le 2 (g .width) (both-left (leb 2 (g .width)) (leb (g .width) 12) tw);
       width-most = leb→le (g .width) 12 (both-right (leb 2 (g .width)) (leb (g .width) 12) tw);
       height-low = leb→le 2 (g .height) (both-left (leb 2 (g .height)) (leb (g .height) 12) th);
       height-most = leb→le (g .height) 12 (both-right (leb 2 (g .height)) (leb (g .height) 12) th);
-      range-most = leb→le (g .range) 11 (both-left r (both p q) t2);
-      planes-low = leb→le 1 (g .planes) (both-left p q t3);
-      planes-most = leb→le (g .planes) 2 (both-right p q t3);
+      depth-low = omega (arith, one);
+      depth-most = omega (arith, one);
+      range-most = leb→le (g .range) 11 (both-left r (both p q) t3);
+      planes-low = leb→le 1 (g .planes) (both-left p q t4);
+      planes-most = leb→le (g .planes) 2 (both-right p q t4);
     }
+
+-- a flat grid has depth 1
+pub flat-depth : (g : WeightGrid) → T (inLimits g) → g .depth ≡ 1
+unfolding inLimits
+flat-depth g t =
+    let w = isSide (g .width) in
+    let h = isSide (g .height) in
+    let z = eqb (g .depth) 1 in
+    let r = both (leb (g .range) 11) (both (leb 1 (g .planes)) (leb (g .planes) 2)) in
+    eqb→eq (g .depth) 1 (both-left z r (both-right h (both z r) (both-right w (both h (both z r)) t)))
 
 -- ---- the theorems
 
@@ -120,6 +138,9 @@ module _ (m : ℕ) (h : m < 2048) (g : WeightGrid) (e : blockMode m ≡ Grid g) 
   pub mode-limits : Limits g
   mode-limits = limits g (both-left (inLimits g) (isMode (modeBits g) m) read)
 
+  pub mode-flat : g .depth ≡ 1
+  mode-flat = flat-depth g (both-left (inLimits g) (isMode (modeBits g) m) read)
+
   -- and its bits are found again
   pub mode-found : modeBits g ≡ Mode m
   mode-found = is-mode (modeBits g) m (both-right (inLimits g) (isMode (modeBits g) m) read)
@@ -128,12 +149,12 @@ past-limits : (g : WeightGrid) → inLimits g ≡ false → modeBits g ≡ NoMod
 unfolding modeBits
 past-limits g e = rw e
 
-never : (m : ℕ) → NoMode ≡ Mode m → ⊥
+pub never : (m : ℕ) → NoMode ≡ Mode m → ⊥
 never m e = let z : _≡_ {A = ℕ} 0 1 = cc in omega arith
 
 -- the test over all grids, at one within the limits
-written : (g : WeightGrid) → Limits g → T (writtenBack (modeBits g) g)
-written g l =
+written : (g : WeightGrid) → Limits g → g .depth ≡ 1 → T (writtenBack (modeBits g) g)
+written g l one =
     let w = g .width - 2 in let h = g .height - 2 in let r = g .range in let p = g .planes - 1 in
     let t : T (writtenBack (modeBits (grid (w + 2) (h + 2) r (p + 1))) (grid (w + 2) (h + 2) r (p + 1))) =
     each (λ w. back w h r p) 11
@@ -142,7 +163,7 @@ written g l =
     (each (λ p. all (λ r. all (λ h. all (λ w. back w h r p) 11) 11) 12) 2 test-written p (omega arith))
     r (omega arith)) h (omega arith)) w (omega arith) in
     subst (λ (k : WeightGrid). T (writtenBack (modeBits k) k))
-    (same-grid (grid (w + 2) (h + 2) r (p + 1)) g (omega arith) (omega arith) refl (omega arith)) t
+    (same-grid (grid (w + 2) (h + 2) r (p + 1)) g (omega arith) (omega arith) (omega (arith, one)) refl (omega arith)) t
 
 -- bits that are found for a grid are a mode that is this grid
 pub found-mode : (g : WeightGrid) (m : ℕ) → modeBits g ≡ Mode m → (m < 2048) × (blockMode m ≡ Grid g)
@@ -152,7 +173,7 @@ found-mode g m e = go (inLimits g) refl where
   back t = (ltb→lt m 2048 (both-left (ltb m 2048) (isGrid (blockMode m) g) t), is-grid (blockMode m) g (both-right (ltb m 2048) (isGrid (blockMode m) g) t))
 
   go : (b : Bool) → inLimits g ≡ b → (m < 2048) × (blockMode m ≡ Grid g)
-  go true i = back (rw e at (written g (limits g (rw i tt))))
+  go true i = back (rw e at (written g (limits g (rw i tt)) (flat-depth g (rw i tt))))
   go false i = absurd (never m (sym (past-limits g i) ∙ e))
 
 -- ---- the whole
@@ -174,7 +195,7 @@ one-mode = record {
       go NoMode e = refl
 
 -- a field of d + w + p bits is one of the number
-under : (m d w p : ℕ) → m % 2 ^ (d + w + p) / 2 ^ p % 2 ^ w ≡ m / 2 ^ p % 2 ^ w
+pub under : (m d w p : ℕ) → m % 2 ^ (d + w + p) / 2 ^ p % 2 ^ w ≡ m / 2 ^ p % 2 ^ w
 under m d w p = ap (λ (x : ℕ). x % 2 ^ w) (Pow.field m (d + w) p) ∙ Pow.mod-mod-pow (m / 2 ^ p) d w
 
 -- only the low eleven bits count

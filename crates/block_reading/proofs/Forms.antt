@@ -20,7 +20,7 @@ use Rattle.block_reading.specs.Canonical.{canonicalIn, CanonicalForm}
 use Rattle.block_reading.proofs.Strict.{strict-other, strict-none, written-canonical}
 
 module _ (fp B : ℕ) where
-  pub canonical-sound : faultOf true fp B ≡ 0 → canonicalIn fp B ≡ canonicalOf B
+  pub canonical-sound : faultOf true fp B ≡ 0 → canonicalIn fp B ≡ canonicalOf fp B
   unfolding canonicalIn
   canonical-sound e = rw (eq-eqb (faultOf true fp B) 0 e)
 
@@ -33,43 +33,43 @@ module _ (fp B : ℕ) where
   every-kind h true = h
   every-kind h false = λ z. h (fault-hdr fp B z)
 
-  module _ (low : fp ≤ 13) (e : faultOf true fp B ≡ 0) where
+  module _ (low : fp ≤ 23) (e : faultOf true fp B ≡ 0) where
     -- the form of a block without fault
-    fits : canonicalOf B < 2 ^ 128
+    fits : canonicalOf fp B < 2 ^ 128
     unfolding canonicalOf
-    fits = demand-3 .written-fits fp (readBlock B) (demand-3 .read-sized fp B e) (demand-3 .read-acceptable fp B low e)
+    fits = demand-3 .written-fits fp (readBlock fp B) (demand-3 .read-sized fp B e) (demand-3 .read-acceptable fp B low e)
 
-    sheet : readBlock (canonicalOf B) ≡ readBlock B
+    sheet : readBlock fp (canonicalOf fp B) ≡ readBlock fp B
     unfolding canonicalOf
-    sheet = demand-3 .written-reads-back fp (readBlock B) (demand-3 .read-sized fp B e) (demand-3 .read-acceptable fp B low e)
+    sheet = demand-3 .written-reads-back fp (readBlock fp B) (demand-3 .read-sized fp B e) (demand-3 .read-acceptable fp B low e)
 
-    own : canonicalOf (canonicalOf B) ≡ canonicalOf B
+    own : canonicalOf fp (canonicalOf fp B) ≡ canonicalOf fp B
     unfolding canonicalOf
-    own = ap blockOf sheet
+    own = ap (blockOf fp) sheet
 
-    faults : (hdr : Bool) → faultOf hdr fp (canonicalOf B) ≡ faultOf hdr fp B
+    faults : (hdr : Bool) → faultOf hdr fp (canonicalOf fp B) ≡ faultOf hdr fp B
     unfolding canonicalOf
     faults true = demand-3 .rewritten-kinds fp B low e Float16
     faults false = demand-3 .rewritten-kinds fp B low e Unorm16
 
-    strict : (hdr : Bool) → strictFault hdr fp (canonicalOf B) ≡ faultOf hdr fp B
+    strict : (hdr : Bool) → strictFault hdr fp (canonicalOf fp B) ≡ faultOf hdr fp B
     strict hdr = elim (ℕ-discrete (faultOf hdr fp B) 0) [
-      | yes z ↦ strict-none hdr fp (canonicalOf B) (faults hdr ∙ z) (sym own) ∙ sym z
-      | no n ↦ strict-other hdr fp (canonicalOf B) (λ q. n (sym (faults hdr) ∙ q)) ∙ faults hdr
+      | yes z ↦ strict-none hdr fp (canonicalOf fp B) (faults hdr ∙ z) (sym own) ∙ sym z
+      | no n ↦ strict-other hdr fp (canonicalOf fp B) (λ q. n (sym (faults hdr) ∙ q)) ∙ faults hdr
     ]
 
-    sound : (kind : Kind) (x y : ℕ) → faultOf (takesHdr kind) fp B ≡ 0 → blockTexel fp kind (canonicalOf B) x y ≡ blockTexel fp kind B x y
+    sound : (kind : Kind) (x y z : ℕ) → faultOf (takesHdr kind) fp B ≡ 0 → blockTexel fp kind (canonicalOf fp B) x y z ≡ blockTexel fp kind B x y z
     unfolding canonicalOf
-    sound kind x y z = demand-3 .rewritten-shows fp B low kind z x y
+    sound kind x y z k = demand-3 .rewritten-shows fp B low kind k x y z
 
-    error : (kind : Kind) (x y : ℕ) → (faultOf (takesHdr kind) fp B ≡ 0 → ⊥) → blockTexel fp kind (canonicalOf B) x y ≡ blockTexel fp kind B x y
+    error : (kind : Kind) (x y z : ℕ) → (faultOf (takesHdr kind) fp B ≡ 0 → ⊥) → blockTexel fp kind (canonicalOf fp B) x y z ≡ blockTexel fp kind B x y z
     unfolding blockTexel
-    error kind x y n = rw (faults (takesHdr kind), ne-eqb (faultOf (takesHdr kind) fp B) 0 n)
+    error kind x y z n = rw (faults (takesHdr kind), ne-eqb (faultOf (takesHdr kind) fp B) 0 n)
 
-    shows : (kind : Kind) (x y : ℕ) → blockTexel fp kind (canonicalOf B) x y ≡ blockTexel fp kind B x y
-    shows kind x y = elim (ℕ-discrete (faultOf (takesHdr kind) fp B) 0) [ yes z ↦ sound kind x y z | no n ↦ error kind x y n ]
+    shows : (kind : Kind) (x y z : ℕ) → blockTexel fp kind (canonicalOf fp B) x y z ≡ blockTexel fp kind B x y z
+    shows kind x y z = elim (ℕ-discrete (faultOf (takesHdr kind) fp B) 0) [ yes k ↦ sound kind x y z k | no n ↦ error kind x y z n ]
 
-    settle : (C : ℕ) → faultOf true fp C ≡ 0 → canonicalOf C ≡ C → canonicalIn fp C ≡ C
+    settle : (C : ℕ) → faultOf true fp C ≡ 0 → canonicalOf fp C ≡ C → canonicalIn fp C ≡ C
     unfolding canonicalIn
     settle C z q = rw (eq-eqb (faultOf true fp C) 0 z) q
 
@@ -79,9 +79,9 @@ module _ (fp B : ℕ) where
       faulty-kept = λ h. absurd (h e);
       passes = λ hdr. ap (strictFault hdr fp) (canonical-sound e) ∙ strict hdr;
       same-faults = λ hdr. ap (faultOf hdr fp) (canonical-sound e) ∙ faults hdr;
-      same-texels = λ kind x y. ap (λ (b : ℕ). blockTexel fp kind b x y) (canonical-sound e) ∙ shows kind x y;
-      same-sheet = ap readBlock (canonical-sound e) ∙ sheet;
-      settled = ap (canonicalIn fp) (canonical-sound e) ∙ settle (canonicalOf B) (faults true ∙ e) own ∙ sym (canonical-sound e);
+      same-texels = λ kind x y z. ap (λ (b : ℕ). blockTexel fp kind b x y z) (canonical-sound e) ∙ shows kind x y z;
+      same-sheet = ap (readBlock fp) (canonical-sound e) ∙ sheet;
+      settled = ap (canonicalIn fp) (canonical-sound e) ∙ settle (canonicalOf fp B) (faults true ∙ e) own ∙ sym (canonical-sound e);
     }
 
   faulty-form : (faultOf true fp B ≡ 0 → ⊥) → CanonicalForm fp B
@@ -90,12 +90,12 @@ module _ (fp B : ℕ) where
     faulty-kept = canonical-faulty;
     passes = λ hdr. ap (strictFault hdr fp) (canonical-faulty h) ∙ strict-other hdr fp B (every-kind h hdr);
     same-faults = λ hdr. ap (faultOf hdr fp) (canonical-faulty h);
-    same-texels = λ kind x y. ap (λ (b : ℕ). blockTexel fp kind b x y) (canonical-faulty h);
-    same-sheet = ap readBlock (canonical-faulty h);
+    same-texels = λ kind x y z. ap (λ (b : ℕ). blockTexel fp kind b x y z) (canonical-faulty h);
+    same-sheet = ap (readBlock fp) (canonical-faulty h);
     settled = ap (canonicalIn fp) (canonical-faulty h);
   }
 
-  pub canonical-form : fp ≤ 13 → CanonicalForm fp B
+  pub canonical-form : fp ≤ 23 → CanonicalForm fp B
   canonical-form low = elim (ℕ-discrete (faultOf true fp B) 0) [
     | yes e ↦ sound-form low e
     | no h ↦ faulty-form h

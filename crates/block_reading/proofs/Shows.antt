@@ -9,7 +9,7 @@ use lib.ListN.{length, getD}
 use borrow.Author.Tests.{eq-eqb, ne-eqb}
 use Rattle.laws.specs.Table.{replaced}
 use Rattle.laws.proofs.Filling.{length-tab, replaced-here}
-use Rattle.footprint.specs.Footprint.{widthOf, texelsOf}
+use Rattle.footprint.specs.Footprint.{widthOf, heightOf, texelsOf}
 use Rattle.footprint.proofs.Laws.{texels-le}
 use Rattle.interpolation.specs.declared.Kind.{Kind}
 use Rattle.interpolation.specs.Expansion.{shownOf, takesHdr}
@@ -23,9 +23,9 @@ use Rattle.block_reading.specs.Shown.{texelIn, numberAtIn, channelIn, nu
 -- ---- the ordinary reading is what stands
 
 module _ (fp : ℕ) (kind : Kind) (B : ℕ) where
-  pub ordinary-number : (x y c : ℕ) → numberAtIn Ordinary fp kind B x y c ≡ blockNumberAt fp kind B x y c
+  pub ordinary-number : (x y z c : ℕ) → numberAtIn Ordinary fp kind B x y z c ≡ blockNumberAt fp kind B x y z c
   unfolding numberAtIn blockNumberAt
-  ordinary-number x y c = refl
+  ordinary-number x y z c = refl
 
   pub ordinary-channel : (k : ℕ) → channelIn Ordinary fp kind B k ≡ blockChannel fp kind B k
   unfolding channelIn blockChannel
@@ -41,30 +41,31 @@ module _ (fp : ℕ) (kind : Kind) (B : ℕ) where
 
   -- ---- the strict one
 
-  pub strict-own : strictFault (takesHdr kind) fp B ≡ 0 → (x y : ℕ) → texelIn Strict fp kind B x y ≡ blockTexel fp kind B x y
-  strict-own e x y = rw (eq-eqb (strictFault (takesHdr kind) fp B) 0 e)
+  pub strict-own : strictFault (takesHdr kind) fp B ≡ 0 → (x y z : ℕ) → texelIn Strict fp kind B x y z ≡ blockTexel fp kind B x y z
+  strict-own e x y z = rw (eq-eqb (strictFault (takesHdr kind) fp B) 0 e)
 
-  pub strict-error : (strictFault (takesHdr kind) fp B ≡ 0 → ⊥) → (x y : ℕ) → texelIn Strict fp kind B x y ≡ errorTexel kind
-  strict-error h x y = rw (ne-eqb (strictFault (takesHdr kind) fp B) 0 h)
+  pub strict-error : (strictFault (takesHdr kind) fp B ≡ 0 → ⊥) → (x y z : ℕ) → texelIn Strict fp kind B x y z ≡ errorTexel kind
+  strict-error h x y z = rw (ne-eqb (strictFault (takesHdr kind) fp B) 0 h)
 
 -- ---- in either
 
 module _ (reading : Reading) (fp : ℕ) (kind : Kind) (B : ℕ) where
   -- the number at a place of a block, by its place in the block's list of numbers
-  pub number-at : (x y c : ℕ) → x < widthOf fp → c < 4
-      → shownOf kind (channelIn reading fp kind B (4 * (y * widthOf fp + x) + c)) ≡ numberAtIn reading fp kind B x y c
+  pub number-at : (x y z c : ℕ) → x < widthOf fp → y < heightOf fp → c < 4
+      → shownOf kind (channelIn reading fp kind B (4 * ((z * heightOf fp + y) * widthOf fp + x) + c)) ≡ numberAtIn reading fp kind B x y z c
   unfolding numberAtIn channelIn shownChannel
-  number-at x y c hx hc =
-      let e : (4 * (y * widthOf fp + x) + c) / 4 ≡ y * widthOf fp + x = omega arith in
-      let m : (4 * (y * widthOf fp + x) + c) % 4 ≡ c = omega arith in
-      rw (e, m, digits-div y hx, digits-mod y hx)
+  number-at x y z c hx hy hc =
+      let q = z * heightOf fp + y in
+      let e : (4 * (q * widthOf fp + x) + c) / 4 ≡ q * widthOf fp + x = omega arith in
+      let m : (4 * (q * widthOf fp + x) + c) % 4 ≡ c = omega arith in
+      rw (e, m, digits-div q hx, digits-mod q hx, digits-div z hy, digits-mod z hy)
 
-  -- what a buffer of 576 numbers holds once the block is decoded into it
+  -- what a buffer of 864 numbers holds once the block is decoded into it
   pub record Held (l : List ℕ) : Type 0 where
-    pub size : length l ≡ 576
+    pub size : length l ≡ 864
     pub holds : (k : ℕ) → k < 4 * texelsOf fp → getD l k 0 ≡ channelIn reading fp kind B k
 
-  pub held : (old l : List ℕ) → length old ≡ 576 → l ≡ intoIn reading fp kind B old → Held l
+  pub held : (old l : List ℕ) → length old ≡ 864 → l ≡ intoIn reading fp kind B old → Held l
   unfolding intoIn replaced
   held old l s e = record {
     size = ap length e ∙ length-tab _ (length old) ∙ s;

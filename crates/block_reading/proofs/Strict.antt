@@ -11,7 +11,9 @@ use Rattle.laws.specs.Choice.{pick, both}
 use Rattle.laws.specs.Reasons.{firstOf}
 use Rattle.block_header.specs.Reasons.{gridTooLarge, tooManyWeights, weightBitsOutside, fourWithTwoPlanes, tooManyEndpoints, tooFewEndpointBits, hdrRefused}
 use Rattle.block_fault.specs.Bits.{modeAt, isVoid, isReserved, headerAt}
-use Rattle.block_fault.specs.Faults.{badVoidExtent, hdrVoidExtent, voidReasons, modeReasons, faultOf}
+use Rattle.footprint.specs.Footprint.{isVolume}
+use Rattle.void_extent.specs.Layout.{badVoidExtent, hdrVoidExtent}
+use Rattle.block_fault.specs.Faults.{voidReasons, modeReasons, faultOf}
 use Rattle.block_fault.proofs.ByKind.{fault-hdr}
 use Rattle.symbolic_block.specs.declared.SymbolicBlock.{SymbolicBlock}
 use Rattle.symbolic_block.specs.Fields.{Sized}
@@ -26,13 +28,13 @@ use Rattle.block_reading.proofs.Solid.{solid}
 
 -- ---- the three cases
 
-canonical-yes : (B : ℕ) → B ≡ canonicalOf B → isCanonical B ≡ true
+canonical-yes : (fp B : ℕ) → B ≡ canonicalOf fp B → isCanonical fp B ≡ true
 unfolding isCanonical
-canonical-yes B q = eq-eqb B (canonicalOf B) q
+canonical-yes fp B q = eq-eqb B (canonicalOf fp B) q
 
-canonical-no : (B : ℕ) → (B ≡ canonicalOf B → ⊥) → isCanonical B ≡ false
+canonical-no : (fp B : ℕ) → (B ≡ canonicalOf fp B → ⊥) → isCanonical fp B ≡ false
 unfolding isCanonical
-canonical-no B n = ne-eqb B (canonicalOf B) n
+canonical-no fp B n = ne-eqb B (canonicalOf fp B) n
 
 module _ (hdr : Bool) (fp B : ℕ) where
   pub strict-other : (faultOf hdr fp B ≡ 0 → ⊥) → strictFault hdr fp B ≡ faultOf hdr fp B
@@ -40,16 +42,16 @@ module _ (hdr : Bool) (fp B : ℕ) where
   strict-other h = rw (ne-eqb (faultOf hdr fp B) 0 h)
 
   module _ (e : faultOf hdr fp B ≡ 0) where
-    pub strict-none : B ≡ canonicalOf B → strictFault hdr fp B ≡ 0
+    pub strict-none : B ≡ canonicalOf fp B → strictFault hdr fp B ≡ 0
     unfolding strictFault
-    strict-none q = rw (eq-eqb (faultOf hdr fp B) 0 e, canonical-yes B q)
+    strict-none q = rw (eq-eqb (faultOf hdr fp B) 0 e, canonical-yes fp B q)
 
-    pub strict-21 : (B ≡ canonicalOf B → ⊥) → strictFault hdr fp B ≡ 21
+    pub strict-21 : (B ≡ canonicalOf fp B → ⊥) → strictFault hdr fp B ≡ 21
     unfolding strictFault
-    strict-21 n = rw (eq-eqb (faultOf hdr fp B) 0 e, canonical-no B n)
+    strict-21 n = rw (eq-eqb (faultOf hdr fp B) 0 e, canonical-no fp B n)
 
-    pub passed : strictFault hdr fp B ≡ 0 → B ≡ canonicalOf B
-    passed z = elim (ℕ-discrete B (canonicalOf B)) [
+    pub passed : strictFault hdr fp B ≡ 0 → B ≡ canonicalOf fp B
+    passed z = elim (ℕ-discrete B (canonicalOf fp B)) [
       | yes q ↦ q
       | no n ↦ let k : _≡_ {A = ℕ} 21 0 = sym (strict-21 n) ∙ z in absurd (omega (arith, k))
     ]
@@ -71,13 +73,13 @@ mode-lt a b c d e x l = below a 11 _ (omega arith) (below b 14 _ (omega arith) (
 pub fault-lt : (hdr : Bool) (fp B : ℕ) → faultOf hdr fp B < 21
 unfolding faultOf voidReasons modeReasons
 fault-lt hdr fp B =
-    let h = headerAt B in
-    below (isVoid (modeAt B)) (firstOf (voidReasons hdr B)) (firstOf (modeReasons hdr fp B))
-    (void-lt (badVoidExtent B) (both (not hdr) (hdrVoidExtent B)))
-    (mode-lt (isReserved (modeAt B)) (gridTooLarge fp (h .grid)) (tooManyWeights (h .grid)) (weightBitsOutside (h .grid)) (fourWithTwoPlanes h) _
+    let h = headerAt fp B in
+    below (isVoid (modeAt fp B)) (firstOf (voidReasons hdr fp B)) (firstOf (modeReasons hdr fp B))
+    (void-lt (badVoidExtent (isVolume fp) B) (both (not hdr) (hdrVoidExtent B)))
+    (mode-lt (isReserved (modeAt fp B)) (gridTooLarge fp (h .grid)) (tooManyWeights (h .grid)) (weightBitsOutside (h .grid)) (fourWithTwoPlanes h) _
     (ends-lt (tooManyEndpoints h) (tooFewEndpointBits h) (hdrRefused hdr h)))
 
-exactly-21 : (hdr : Bool) (fp B : ℕ) → (strictFault hdr fp B ≡ 21) ↔ ((faultOf hdr fp B ≡ 0) × (B ≡ blockOf (readBlock B) → ⊥))
+exactly-21 : (hdr : Bool) (fp B : ℕ) → (strictFault hdr fp B ≡ 21) ↔ ((faultOf hdr fp B ≡ 0) × (B ≡ blockOf fp (readBlock fp B) → ⊥))
 unfolding canonicalOf
 exactly-21 hdr fp B = (
   λ t. elim (ℕ-discrete (faultOf hdr fp B) 0) [
@@ -91,7 +93,7 @@ some-hdr : (hdr : Bool) (fp B : ℕ) → faultOf hdr fp B ≡ 0 → faultOf true
 some-hdr true fp B e = e
 some-hdr false fp B e = fault-hdr fp B e
 
-solid-fault : (hdr : Bool) (fp B : ℕ) → B < 2 ^ 128 → isVoid (modeAt B) ≡ true → strictFault hdr fp B ≡ faultOf hdr fp B
+solid-fault : (hdr : Bool) (fp B : ℕ) → B < 2 ^ 128 → isVoid (modeAt fp B) ≡ true → strictFault hdr fp B ≡ faultOf hdr fp B
 solid-fault hdr fp B small v = elim (ℕ-discrete (faultOf hdr fp B) 0) [
   | yes e ↦ strict-none hdr fp B e (sym (solid fp B small v (some-hdr hdr fp B e))) ∙ sym e
   | no n ↦ strict-other hdr fp B n
@@ -101,23 +103,23 @@ solid-fault hdr fp B small v = elim (ℕ-discrete (faultOf hdr fp B) 0) [
 
 module _ (fp : ℕ) (s : SymbolicBlock) (z : Sized s) (a : Acceptable fp s) where
   -- what is written is its own canonical form
-  pub written-canonical : canonicalOf (blockOf s) ≡ blockOf s
+  pub written-canonical : canonicalOf fp (blockOf fp s) ≡ blockOf fp s
   unfolding canonicalOf
-  written-canonical = ap blockOf (demand-3 .written-reads-back fp s z a)
+  written-canonical = ap (blockOf fp) (demand-3 .written-reads-back fp s z a)
 
-  pub written-reads : ReadsAs (blockOf s) s
+  pub written-reads : ReadsAs fp (blockOf fp s) s
   written-reads =
-      subst (ReadsAs (blockOf s)) (demand-3 .written-reads-back fp s z a) (demand-3 .reads-as fp (blockOf s) (demand-3 .written-no-fault fp s z a))
+      subst (ReadsAs fp (blockOf fp s)) (demand-3 .written-reads-back fp s z a) (demand-3 .reads-as fp (blockOf fp s) (demand-3 .written-no-fault fp s z a))
 
-  canonical-is : (B : ℕ) → Reads fp s B → canonicalOf B ≡ blockOf s
+  canonical-is : (B : ℕ) → Reads fp s B → canonicalOf fp B ≡ blockOf fp s
   unfolding canonicalOf
-  canonical-is B r = ap blockOf (sym (demand-3 .reads-as-one fp B s (r .no-fault) z (r .reads)))
+  canonical-is B r = ap (blockOf fp) (sym (demand-3 .reads-as-one fp B s (r .no-fault) z (r .reads)))
 
   one : OnePasses fp s
   one = record {
     fits = demand-3 .written-fits fp s z a;
     written-reads = record { no-fault = demand-3 .written-no-fault fp s z a; reads = written-reads };
-    written-passes = strict-none true fp (blockOf s) (demand-3 .written-no-fault fp s z a) (sym written-canonical);
+    written-passes = strict-none true fp (blockOf fp s) (demand-3 .written-no-fault fp s z a) (sym written-canonical);
     only-written = λ B r p. passed true fp B (r .no-fault) p ∙ canonical-is B r;
     others-told = λ B r n. strict-21 true fp B (r .no-fault) (λ q. n (q ∙ canonical-is B r));
   }

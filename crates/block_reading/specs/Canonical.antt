@@ -15,7 +15,7 @@ use Rattle.block_reading.specs.Faults.{canonicalOf, faultIn}
 
 unfoldable pub canonicalIn : ℕ → ℕ → ℕ
 unfolding canonicalOf
-canonicalIn fp B = pick (eqb (faultOf true fp B) 0) (canonicalOf B) B
+canonicalIn fp B = pick (eqb (faultOf true fp B) 0) (canonicalOf fp B) B
 
 -- What it is, at a footprint that is covered (theorem: proofs/Forms.antt, `canonical-form`).
 pub record CanonicalForm (fp B : ℕ) : Type 0 where
@@ -28,8 +28,8 @@ pub record CanonicalForm (fp B : ℕ) : Type 0 where
   -- so the faults are as they were
   pub same-faults : (hdr : Bool) → faultOf hdr fp (canonicalIn fp B) ≡ faultOf hdr fp B
   -- it shows the same texel at every place, in every kind
-  pub same-texels : (kind : Kind) (x y : ℕ) → blockTexel fp kind (canonicalIn fp B) x y ≡ blockTexel fp kind B x y
+  pub same-texels : (kind : Kind) (x y z : ℕ) → blockTexel fp kind (canonicalIn fp B) x y z ≡ blockTexel fp kind B x y z
   -- it reads as the same sheet
-  pub same-sheet : readBlock (canonicalIn fp B) ≡ readBlock B
+  pub same-sheet : readBlock fp (canonicalIn fp B) ≡ readBlock fp B
   -- and is its own canonical form
   pub settled : canonicalIn fp (canonicalIn fp B) ≡ canonicalIn fp B

@@ -11,18 +11,18 @@ use Rattle.block_reading.specs.declared.Reading.{Reading}
 use Rattle.block_reading.specs.declared.Reading.the-variants.{Ordinary, Strict}
 
 -- "what the writer makes from its own sheet"
-unfoldable pub canonicalOf : ℕ → ℕ
+unfoldable pub canonicalOf : ℕ → ℕ → ℕ
 unfolding readBlock blockOf
-canonicalOf B = blockOf (readBlock B)
+canonicalOf fp B = blockOf fp (readBlock fp B)
 
-unfoldable pub isCanonical : ℕ → Bool
+unfoldable pub isCanonical : ℕ → ℕ → Bool
 unfolding canonicalOf
-isCanonical B = eqb B (canonicalOf B)
+isCanonical fp B = eqb B (canonicalOf fp B)
 
 -- "new fault 21, last in order, exactly when the block has no other fault and is not what the writer makes from its own sheet"
 unfoldable pub strictFault : Bool → ℕ → ℕ → ℕ
 unfolding isCanonical
-strictFault hdr fp B = pick (eqb (faultOf hdr fp B) 0) (pick (isCanonical B) 0 21) (faultOf hdr fp B)
+strictFault hdr fp B = pick (eqb (faultOf hdr fp B) 0) (pick (isCanonical fp B) 0 21) (faultOf hdr fp B)
 
 -- the fault of the block B at a footprint, HDR taken or not, 0 for none: "The ordinary reading keeps 01's faults as they stand"
 abbrev pub faultIn : Reading → Bool → ℕ → ℕ → ℕ

@@ -19,17 +19,17 @@ use Rattle.block_reading.specs.Faults.{faultIn}
 -- a block without ordinary fault that reads as s
 pub record Reads (fp : ℕ) (s : SymbolicBlock) (B : ℕ) : Type 0 where
   pub no-fault : faultOf true fp B ≡ 0
-  pub reads : ReadsAs B s
+  pub reads : ReadsAs fp B s
 
 -- of the blocks that read as s
 pub record OnePasses (fp : ℕ) (s : SymbolicBlock) : Type 0 where
   -- the writer's is one of them, and passes
-  pub fits : blockOf s < 2 ^ 128
-  pub written-reads : Reads fp s (blockOf s)
-  pub written-passes : faultIn Strict true fp (blockOf s) ≡ 0
+  pub fits : blockOf fp s < 2 ^ 128
+  pub written-reads : Reads fp s (blockOf fp s)
+  pub written-passes : faultIn Strict true fp (blockOf fp s) ≡ 0
   -- no other passes: it is told 21
-  pub only-written : (B : ℕ) → Reads fp s B → faultIn Strict true fp B ≡ 0 → B ≡ blockOf s
-  pub others-told : (B : ℕ) → Reads fp s B → (B ≡ blockOf s → ⊥) → faultIn Strict true fp B ≡ 21
+  pub only-written : (B : ℕ) → Reads fp s B → faultIn Strict true fp B ≡ 0 → B ≡ blockOf fp s
+  pub others-told : (B : ℕ) → Reads fp s B → (B ≡ blockOf fp s → ⊥) → faultIn Strict true fp B ≡ 21
 
 pub record StrictReading : Type 0 where
   -- "The ordinary reading keeps 01's faults as they stand"
@@ -38,7 +38,7 @@ pub record StrictReading : Type 0 where
   pub new-number : (hdr : Bool) (fp B : ℕ) → faultOf hdr fp B < 21
   pub last-in-order : (hdr : Bool) (fp B : ℕ) → (faultOf hdr fp B ≡ 0 → ⊥) → faultIn Strict hdr fp B ≡ faultOf hdr fp B
   -- "exactly when the block has no other fault and is not what the writer makes from its own sheet"
-  pub exactly : (hdr : Bool) (fp B : ℕ) → (faultIn Strict hdr fp B ≡ 21) ↔ ((faultOf hdr fp B ≡ 0) × (B ≡ blockOf (readBlock B) → ⊥))
+  pub exactly : (hdr : Bool) (fp B : ℕ) → (faultIn Strict hdr fp B ≡ 21) ↔ ((faultOf hdr fp B ≡ 0) × (B ≡ blockOf fp (readBlock fp B) → ⊥))
   -- a solid block never is 21
-  pub solid-never : (hdr : Bool) (fp B : ℕ) → B < 2 ^ 128 → isVoid (modeAt B) ≡ true → faultIn Strict hdr fp B ≡ faultOf hdr fp B
+  pub solid-never : (hdr : Bool) (fp B : ℕ) → B < 2 ^ 128 → isVoid (modeAt fp B) ≡ true → faultIn Strict hdr fp B ≡ faultOf hdr fp B
   pub one-passes : (fp : ℕ) (s : SymbolicBlock) → Sized s → Acceptable fp s → OnePasses fp s

@@ -45,15 +45,15 @@ length-rewritten : (fp : ℕ) (s : List ℕ) → length (rewritten fp s) ≡ len
 length-rewritten fp s = ap length (opened-at fp s) ∙ length-tab (byteOf fp s) (length s)
 
 -- the strict reading of the canonical form shows what the ordinary one shows of the block
-shown : (fp B : ℕ) → fp ≤ 13 → (kind : Kind) (x y : ℕ) → texelIn Strict fp kind (canonicalIn fp B) x y ≡ blockTexel fp kind B x y
-shown fp B low kind x y =
+shown : (fp B : ℕ) → fp ≤ 23 → (kind : Kind) (x y z : ℕ) → texelIn Strict fp kind (canonicalIn fp B) x y z ≡ blockTexel fp kind B x y z
+shown fp B low kind x y z =
     let f = canonical-form fp B low in
     elim (ℕ-discrete (faultOf (takesHdr kind) fp B) 0) [
-      | yes z ↦ strict-own fp kind (canonicalIn fp B) (f .passes (takesHdr kind) ∙ z) x y ∙ f .same-texels kind x y
-      | no n ↦ strict-error fp kind (canonicalIn fp B) (λ q. n (sym (f .passes (takesHdr kind)) ∙ q)) x y ∙ shows-fault fp kind B x y n
+      | yes e ↦ strict-own fp kind (canonicalIn fp B) (f .passes (takesHdr kind) ∙ e) x y z ∙ f .same-texels kind x y z
+      | no n ↦ strict-error fp kind (canonicalIn fp B) (λ q. n (sym (f .passes (takesHdr kind)) ∙ q)) x y z ∙ shows-fault fp kind B x y z n
     ]
 
-module _ (fp : ℕ) (low : fp ≤ 13) (s : List ℕ) (small : Bytes s) where
+module _ (fp : ℕ) (low : fp ≤ 23) (s : List ℕ) (small : Bytes s) where
   module _ (b : ℕ) (room : 16 * b + 16 ≤ length s) where
     each : Bytes (blockBytes s b)
     each i = elim (decLt i 16) [
@@ -111,27 +111,31 @@ module _ (fp : ℕ) (low : fp ≤ 13) (s : List ℕ) (small : Bytes s) where
         ∙ sym (opened-at fp s)
 
 module _ (fp w h : ℕ) (low : fp ≤ 13) (s : List ℕ) (small : Bytes s) (exact : length s ≡ 16 * blocksOf fp w h) where
+  known : fp ≤ 23
+  known = omega (arith, low)
+
   room : (b : ℕ) → b < blocksOf fp w h → 16 * b + 16 ≤ length s
   room b l = omega (arith, l, exact)
 
   passes : (kind : Kind) (b : ℕ) → b < blocksOf fp w h → faultAtIn Strict fp kind (rewritten fp s) b ≡ faultAt fp kind s b
   unfolding faultAtIn
-  passes kind b l = ap (strictFault (takesHdr kind) fp) (form-is fp low s small b (room b l)) ∙ canonical-form fp (blockAt s b) low .passes (takesHdr kind)
+  passes kind b l = ap (strictFault (takesHdr kind) fp) (form-is fp known s small b (room b l)) ∙ canonical-form fp (blockAt s b) known .passes (takesHdr kind)
 
   same-shown : (kind : Kind) (x y c : ℕ) → x < w → y < h → imageNumberAtIn Strict fp kind w (rewritten fp s) x y c ≡ imageNumberAt fp kind w s x y c
   unfolding imageNumberAtIn numberAtIn
   same-shown kind x y c hx hy =
       let i : ℕ = blockIndex fp w x y in
       let l : i < blocksOf fp w h = index-in fp kind w h x y 0 hx hy (omega arith) (omega arith) in
-      ap (λ (B : ℕ). shownChannel kind (texelIn Strict fp kind B (x % widthOf fp) (y % heightOf fp)) c) (form-is fp low s small i (room i l))
-      ∙ ap (λ (t : Texel). shownChannel kind t c) (shown fp (blockAt s i) low kind (x % widthOf fp) (y % heightOf fp))
+      ap (λ (B : ℕ). shownChannel kind (texelIn Strict fp kind B (x % widthOf fp) (y % heightOf fp) 0) c) (form-is fp known s small i (room i l))
+      ∙ ap (λ (t : Texel). shownChannel kind t c) (shown fp (blockAt s i) known kind (x % widthOf fp) (y % heightOf fp) 0)
 
 pub agreed : AgreedFrames
 agreed fp w h s old small z =
     let a = accepted fp w h (length s) (length old) z in
+    let known : fp ≤ 23 = omega (arith, a .known) in
     record {
       passes = passes fp w h (a .known) s small (a .exact-bytes);
       same-shown = same-shown fp w h (a .known) s small (a .exact-bytes);
-      faulty-kept = λ b l n. kept fp (a .known) s small b (room fp w h (a .known) s small (a .exact-bytes) b l) n;
-      settled = settled fp (a .known) s small (blocksOf fp w h) (a .exact-bytes);
+      faulty-kept = λ b l n. kept fp known s small b (room fp w h (a .known) s small (a .exact-bytes) b l) n;
+      settled = settled fp known s small (blocksOf fp w h) (a .exact-bytes);
     }

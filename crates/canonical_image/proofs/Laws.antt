@@ -38,11 +38,11 @@ use Rattle.canonical_image.specs.Frames.{oneRefusal, oneAnswer, oneOut, 
 -- ---- refusals of one block
 
 module _ (fp bytes places : ℕ) where
-  pub one-1 : 13 < fp → 1 ≡ oneRefusal fp bytes places
+  pub one-1 : 23 < fp → 1 ≡ oneRefusal fp bytes places
   unfolding oneRefusal
   one-1 h = rw (lt-ltb _ _ h)
 
-  module _ (k : fp ≤ 13) where
+  module _ (k : fp ≤ 23) where
     pub one-4 : (bytes ≡ 16 → ⊥) → 4 ≡ oneRefusal fp bytes places
     unfolding oneRefusal
     one-4 h = rw (le-ltb _ _ k, ne-eqb _ _ h)
@@ -56,18 +56,18 @@ module _ (fp bytes places : ℕ) where
     one-none b h = rw (le-ltb _ _ k, eq-eqb _ _ b, eq-eqb _ _ h)
 
 pub record Taken (fp bytes places : ℕ) : Type 0 where
-  pub known : fp ≤ 13
+  pub known : fp ≤ 23
   pub sixteen : bytes ≡ 16
   pub room : places ≡ 16
 
 pub taken : (fp bytes places : ℕ) → oneRefusal fp bytes places ≡ 0 → Taken fp bytes places
 unfolding oneRefusal
-taken fp bytes places e = go (ltb 13 fp) (eqb bytes 16) (eqb places 16) refl refl refl e where
-  go : (a b c : Bool) → ltb 13 fp ≡ a → eqb bytes 16 ≡ b → eqb places 16 ≡ c → _≡_ {A = ℕ} (pick a 1 (pick (not b) 4 (pick (not c) 5 0))) 0 → Taken fp bytes places
+taken fp bytes places e = go (ltb 23 fp) (eqb bytes 16) (eqb places 16) refl refl refl e where
+  go : (a b c : Bool) → ltb 23 fp ≡ a → eqb bytes 16 ≡ b → eqb places 16 ≡ c → _≡_ {A = ℕ} (pick a 1 (pick (not b) 4 (pick (not c) 5 0))) 0 → Taken fp bytes places
   go true b c p q r e = absurd (omega arith)
   go false false c p q r e = absurd (omega arith)
   go false true false p q r e = absurd (omega arith)
-  go false true true p q r e = record { known = ltb-false 13 fp p; sixteen = eqb-true bytes 16 q; room = eqb-true places 16 r }
+  go false true true p q r e = record { known = ltb-false 23 fp p; sixteen = eqb-true bytes 16 q; room = eqb-true places 16 r }
 
 module _ (fp : ℕ) (s old : List ℕ) where
   pub one-refused : (oneRefusal fp (length s) (length old) ≡ 0 → ⊥) → (n : ℕ) → n ≡ oneRefusal fp (length s) (length old)

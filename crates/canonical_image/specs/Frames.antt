@@ -27,7 +27,7 @@ use Rattle.image_layout.specs.Call.{imageTally}
 
 -- 1 footprint above 13; 4 block bytes not exactly 16; 5 result buffer not exactly 16 bytes. 0 for none.
 unfoldable pub oneRefusal : ℕ → ℕ → ℕ → ℕ
-oneRefusal fp bytes places = firstOf (when (ltb 13 fp) 1 ∷ when (not (eqb bytes 16)) 4 ∷ when (not (eqb places 16)) 5 ∷ [])
+oneRefusal fp bytes places = firstOf (when (ltb 23 fp) 1 ∷ when (not (eqb bytes 16)) 4 ∷ when (not (eqb places 16)) 5 ∷ [])
 
 unfoldable pub oneAnswer : ℕ → List ℕ → ℕ → Answer
 oneAnswer fp s places =

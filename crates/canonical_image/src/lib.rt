@@ -14,7 +14,7 @@ ghost use Rattle.canonical_image.specs.Frames.{oneRefusal, oneAnswer, on
 fn one_refusal(fp: u8, bytes: usize, places: usize) -> u8
     ensures { λ r. ⌜ r ≡ oneRefusal fp bytes places ⌝ }
 {
-    if 13 < fp {
+    if 23 < fp {
         return 1;
     }
     if bytes != 16 {
@@ -35,7 +35,7 @@ pub fn canonical_block(fp: u8, block: &[u8], out: &mut [u8]) -> Answer
     if n != 0 {
         return Answer::Refused(n);
     }
-    let c = strict_block::canonical(fp, bits::load(block));
+    let c = strict_block::canonical(fp, footprint::is_volume(fp), bits::load(block));
     byte_list::put_block(bits::store(c.block), out);
     block_answer::answer_for(c.fault)
 }
@@ -84,7 +84,7 @@ fn rewrite(fp: u8, n: usize, blocks: &mut [u8]) -> Tally
     };
     let mut b: usize = 0;
     while b < n {
-        let c = strict_block::canonical(fp, image_parts::block_of(blocks, b));
+        let c = strict_block::canonical(fp, false, image_parts::block_of(blocks, b));
         block_store::put(blocks, 16 * b, bits::store(c.block));
         t = image_layout::note(t, b as u64, c.fault);
         b += 1;

@@ -17,7 +17,7 @@ use Rattle.laws.proofs.Filling.{Filled, Filling, filled-all}
 use Rattle.laws.proofs.Reasons.{none-either}
 use Rattle.image_size.specs.Sides.{badSide, sizeRefusal, blocksAcross, blocksOf}
 use Rattle.image_size.proofs.Laws.{limit-le, side-fine, sized, across-inside, across-pos}
-use Rattle.image_layout.proofs.Covering.{below-row}
+use Rattle.picture_regions.proofs.Covering.{below-row}
 use Rattle.footprint.specs.Footprint.{footprints, widthOf, heightOf}
 use Rattle.grey_caption.specs.Caption.{footprint, captionOf}
 use Rattle.caption_image.specs.Image.{imageRefusal, wantedAt, wantedOf, imageBlocks, imageOut, blockRefusal, blockOut}

@@ -11,14 +11,15 @@ use lib.Seq.{ext-getD}
 use Rattle.laws.specs.Table.{tab}
 use Rattle.laws.proofs.Filling.{getD-tab, length-tab}
 use Rattle.interpolation.specs.declared.Kind.the-variants.{Srgb8}
-use Rattle.footprint.specs.Footprint.{footprints, widthOf, heightOf, texelsOf}
+use Rattle.footprint.specs.Footprint.{footprints, widthOf, heightOf, depthOf, texelsOf}
 use Rattle.image_size.specs.Sides.{badSide, blocksAcross, blocksOf}
 use Rattle.image_size.proofs.Laws.{across-covers}
 use Rattle.image_layout.specs.Call as layout
 use Rattle.image_layout.specs.Geometry.{blockIndex}
 use Rattle.image_layout.specs.Numbers.{blockBytes}
-use Rattle.image_layout.specs.OwnBlock.{place}
-use Rattle.image_layout.proofs.Blocks.{quotient, remainder, sixteen, byte-of}
+use Rattle.picture_regions.specs.Picture.{place}
+use Rattle.picture_regions.proofs.Covering.{quotient, remainder}
+use Rattle.image_layout.proofs.Blocks.{sixteen, byte-of}
 use Rattle.image_layout.proofs.Calls.{refused-none}
 use Rattle.image_layout.proofs.Independence.{index-in, own-block}
 use Rattle.block_reading.specs.declared.Reading.the-variants.{Ordinary}
@@ -87,7 +88,7 @@ module _ (e0 e1 w h : ℕ) (wanted : List ℕ) where
       texel : (c : ℕ) → c < 4
           → getD (layout.imageOut footprint Srgb8 w h (imageBlocks e0 e1 w h wanted) old) (place w x y c) 0
           ≡ getD (bestGrey e0 e1 (getD wanted (y * w + x) 0) ∷ bestGrey e0 e1 (getD wanted (y * w + x) 0) ∷ bestGrey e0 e1 (getD wanted (y * w + x) 0) ∷ 255 ∷ []) c 0
-      unfolding texelsOf widthOf heightOf footprints captionOf weightFor
+      unfolding texelsOf widthOf heightOf depthOf footprints captionOf weightFor
       texel c l =
           let i = 4 * (y % 4) + x % 4 in
           let a : place 4 (x % 4) (y % 4) c ≡ 4 * i + c = omega arith in

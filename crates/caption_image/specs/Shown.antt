@@ -8,7 +8,7 @@ use Prim.Native.Nat.{ℕ, _+_, _*_, _<_}
 use lib.ListN.{length, getD}
 use Rattle.interpolation.specs.declared.Kind.the-variants.{Srgb8}
 use Rattle.image_layout.specs.Call.{imageRefusal, imageOut}
-use Rattle.image_layout.specs.OwnBlock.{place}
+use Rattle.picture_regions.specs.Picture.{place}
 use Rattle.grey_caption.specs.Caption.{footprint, greyOf, bestWeight}
 use Rattle.caption_image.specs.Image.{imageBlocks}
 

@@ -14,7 +14,7 @@ use Rattle.laws.specs.Choice.{pick, either}
 use Rattle.laws.specs.Reasons.{Reason, when, firstOf}
 use Rattle.laws.proofs.Reasons.{None, first-none}
 use Rattle.footprint.specs.Footprint.{widthOf, heightOf}
-use Rattle.footprint.proofs.Laws.{bounds}
+use Rattle.footprint.proofs.Laws.{flat-bounds}
 use Rattle.image_size.specs.Sides.{sizeRefusal, badSide, blocksAcross, blocksOf}
 use Rattle.image_size.proofs.Laws.{limit-le, sized, side-fine}
 use Rattle.clip_frame.specs.declared.Frame.{Frame}
@@ -154,7 +154,7 @@ pub length-small : (f : Frame) (bytes room : ℕ) → Accepted f bytes room → 
 unfolding blocksOf
 length-small f bytes room a =
     let s = sized (f .footprint) (f .width) (f .height) (a .sizes) in
-    let b = bounds (f .footprint) (let k = s .footprint in omega arith) in
+    let b = flat-bounds (f .footprint) (let k = s .footprint in omega arith) in
     let l = limit-le in
     let x = across-small (f .width) (widthOf (f .footprint)) (b .width-least) (let k = side-fine (f .width) (s .wide) .1 in omega arith) in
     let y = across-small (f .height) (heightOf (f .footprint)) (b .height-least) (let k = side-fine (f .height) (s .high) .1 in omega arith) in

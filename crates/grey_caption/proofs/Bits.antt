@@ -58,19 +58,19 @@ module _ (e0 e1 : ℕ) (w : ℕ → ℕ) where
   unfolding modeCells sheetWith modeBlock settings weightBits weightCount rangeBits encodingAt bitsAt sequenceBits extraBits endpointStream
   cells-are = refl
 
-  block-is : blockOf s ≡ reverse 32 (weightStream s) * 2 ^ 96 + laid (lowCells e0 e1)
-  block-is = block-mode s (not-void e0 e1 w) ∙ ap laid cells-are ∙ laid-last (lowCells e0 e1) _
+  block-is : blockOf footprint s ≡ reverse 32 (weightStream s) * 2 ^ 96 + laid (lowCells e0 e1)
+  block-is = block-mode s (not-void e0 e1 w) footprint ∙ ap laid cells-are ∙ laid-last (lowCells e0 e1) _
 
-  pub low-bit : (p : ℕ) → p < 96 → field (blockOf s) p 1 ≡ field (laid (lowCells e0 e1)) p 1
+  pub low-bit : (p : ℕ) → p < 96 → field (blockOf footprint s) p 1 ≡ field (laid (lowCells e0 e1)) p 1
   low-bit p h = ap (λ (n : ℕ). field n p 1) block-is ∙ field-below (reverse 32 (weightStream s)) (laid (lowCells e0 e1)) 96 p 1 (omega arith)
 
   module _ (h0 : e0 ≤ 255) (h1 : e1 ≤ 255) (h : Weights w) where
     fits : Fine footprint s
     fits = fine footprint s (not-void e0 e1 w) (none e0 e1 w h0 h1 h)
 
-    stream-is : field (blockOf s) 96 32 ≡ reverse 32 (weightStream s)
+    stream-is : field (blockOf footprint s) 96 32 ≡ reverse 32 (weightStream s)
     unfolding modeCells sheetWith modeBlock settings weightBits weightCount rangeBits encodingAt bitsAt sequenceBits
-    stream-is = ap (λ (n : ℕ). field n 96 32) (block-mode s (not-void e0 e1 w)) ∙ written.at footprint s fits (sized e0 e1 w) 9 (omega arith)
+    stream-is = ap (λ (n : ℕ). field n 96 32) (block-mode s (not-void e0 e1 w) footprint) ∙ written.at footprint s fits (sized e0 e1 w) 9 (omega arith)
 
     read-back : (i : ℕ) → i < 64 → pick (ltb i 16) (number (encodingAt 2) (bitsAt 2) (weightStream s) i) 0 ≡ weightIn s i
     unfolding weightStream sheetWith modeBlock settings weightCount mostAt encodingAt bitsAt
@@ -82,26 +82,26 @@ module _ (e0 e1 : ℕ) (w : ℕ → ℕ) where
         sym (number-at (weightStream s) i) ∙ e ∙ weight-at e0 e1 w i l
 
     -- bit j of the weights' stream
-    pub high-bit : (j : ℕ) → j < 32 → field (blockOf s) (127 - j) 1 ≡ field (w (j / 2)) (j % 2) 1
+    pub high-bit : (j : ℕ) → j < 32 → field (blockOf footprint s) (127 - j) 1 ≡ field (w (j / 2)) (j % 2) 1
     high-bit j l =
         let a : 127 - j ≡ 96 + (31 - j) = omega arith in
         let b : 32 - suc (31 - j) ≡ j = omega arith in
         let d : j ≡ 2 * (j / 2) + j % 2 = omega arith in
-        ap (λ (n : ℕ). field (blockOf s) n 1) a
-        ∙ sym (field-in (blockOf s) 96 32 (31 - j) 1 (omega arith))
+        ap (λ (n : ℕ). field (blockOf footprint s) n 1) a
+        ∙ sym (field-in (blockOf footprint s) 96 32 (31 - j) 1 (omega arith))
         ∙ ap (λ (n : ℕ). field n (31 - j) 1) stream-is
         ∙ reverse-bit 32 (weightStream s) (31 - j) (omega arith)
         ∙ ap (λ (n : ℕ). field (weightStream s) n 1) (b ∙ d)
         ∙ sym (field-in (weightStream s) (2 * (j / 2)) 2 (j % 2) 1 (omega arith))
         ∙ ap (λ (n : ℕ). field n (j % 2) 1) (weight-is (j / 2) (omega arith))
 
-    pub past-bit : (p : ℕ) → 128 ≤ p → field (blockOf s) p 1 ≡ 0
+    pub past-bit : (p : ℕ) → 128 ≤ p → field (blockOf footprint s) p 1 ≡ 0
     past-bit p l =
-        field-past (blockOf s) p 1
+        field-past (blockOf footprint s) p 1
         (lt-of-lt-of-le (demand-3 .written-fits footprint s (sized e0 e1 w) (accepted e0 e1 w h0 h1 h)) (pow-mono {i = 128} {j = p} l))
 
-    pub number-is : numberOf (blockWith e0 e1 w) ≡ blockOf s
+    pub number-is : numberOf (blockWith e0 e1 w) ≡ blockOf footprint s
     unfolding blockWith
     number-is =
         ap (λ (r : Writing). numberOf (r .bytes)) (sym (writer.written footprint s (accepted e0 e1 w h0 h1 h)))
-        ∙ number-bytes 16 (blockOf s) ∙ mod-eq-of-lt (demand-3 .written-fits footprint s (sized e0 e1 w) (accepted e0 e1 w h0 h1 h))
+        ∙ number-bytes 16 (blockOf footprint s) ∙ mod-eq-of-lt (demand-3 .written-fits footprint s (sized e0 e1 w) (accepted e0 e1 w h0 h1 h))

@@ -88,7 +88,7 @@ module _ (e0 e1 : ℕ) (s : SymbolicBlock) (a : AtSettings e0 e1 s) where
       let m : 0 ≡ s .mark = sym (a .mode-sheet) in
       let k : 0 ≡ s .hdr = omega (arith, accepts .hdr-most, eqb-false (s .hdr) 1 ldr) in
       let c = zeros-back (s .colours) 4 (a .sized .colours-4) (accepts .colours-0) in
-      let x = zeros-back (s .extents) 4 (a .sized .extents-4) (accepts .extents-0) in
+      let x = zeros-back (s .extents) 6 (a .sized .extents-6) (accepts .extents-0) in
       let e = stored-back (s .endpoints) (λ i. getD (e0 ∷ e1 ∷ []) i 0) 18 (a .sized .endpoints-18) end-is in
       let w = stored-back (s .weights) (λ i. pick (ltb i 16) (weightIn s i) 0) 64 (a .sized .weights-64) weight-is in
       λ i. record {
@@ -98,6 +98,7 @@ module _ (e0 e1 : ℕ) (s : SymbolicBlock) (a : AtSettings e0 e1 s) where
         extents = x i;
         width = h i .grid .width;
         height = h i .grid .height;
+        depth = h i .grid .depth;
         range = h i .grid .range;
         planes = h i .grid .planes;
         component = h i .component;

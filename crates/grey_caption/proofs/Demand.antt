@@ -9,7 +9,7 @@ use lib.ListN.{length, getD}
 use Rattle.laws.specs.Table.{tab}
 use Rattle.laws.proofs.Filling.{getD-tab, length-tab}
 use Rattle.bits.specs.Field.{field}
-use Rattle.footprint.specs.Footprint.{footprints, widthOf, heightOf, texelsOf}
+use Rattle.footprint.specs.Footprint.{footprints, widthOf, heightOf, depthOf, texelsOf}
 use Rattle.interpolation.specs.declared.Kind.the-variants.{Srgb8}
 use Rattle.color_endpoint.specs.Modes.{isHdr}
 use Rattle.block_header.specs.Reasons.{someHdr}
@@ -49,19 +49,22 @@ module _ (e0 e1 : ℕ) (h0 : e0 ≤ 255) (h1 : e1 ≤ 255) where
     fine = kept .kinds-ldr refl
 
     sixteen : length old ≡ 4 * texelsOf footprint
-    unfolding texelsOf widthOf heightOf footprints
+    unfolding texelsOf widthOf heightOf depthOf footprints
     sixteen = size
 
     texel : (i c : ℕ) → i < 16 → c < 4
         → getD (shownBy old (blockWith e0 e1 w)) (4 * i + c) 0 ≡ getD (greyOf e0 e1 (w i) ∷ greyOf e0 e1 (w i) ∷ greyOf e0 e1 (w i) ∷ 255 ∷ []) c 0
-    unfolding pictureNumbers texelsOf widthOf heightOf footprints
+    unfolding pictureNumbers texelsOf widthOf heightOf depthOf footprints
     texel i c l m =
         let a : (4 * i + c) / 4 ≡ i = omega arith in
         let b : (4 * i + c) % 4 ≡ c = omega arith in
         let d : 4 * (i / 4) + i % 4 ≡ i = omega arith in
+        let y : i / 4 % 4 ≡ i / 4 = omega arith in
+        let z : i / 4 / 4 ≡ 0 = omega arith in
         ap (λ (l : List ℕ). getD l (4 * i + c) 0) (kept .picture fine sixteen)
-        ∙ getD-tab (λ k. pictureNumber footprint Srgb8 s (k / 4 % 4) (k / 4 / 4) (k % 4)) 64 (4 * i + c) 0 (omega arith)
-        ∙ ap₂ (λ (j k : ℕ). pictureNumber footprint Srgb8 s (j % 4) (j / 4) k) a b
+        ∙ getD-tab (λ k. pictureNumber footprint Srgb8 s (k / 4 % 4) (k / 4 / 4 % 4) (k / 4 / 4 / 4) (k % 4)) 64 (4 * i + c) 0 (omega arith)
+        ∙ ap₂ (λ (j k : ℕ). pictureNumber footprint Srgb8 s (j % 4) (j / 4 % 4) (j / 4 / 4) k) a b
+        ∙ ap₂ (λ (j k : ℕ). pictureNumber footprint Srgb8 s (i % 4) j k c) y z
         ∙ picture.number-is e0 e1 w h0 h1 (i % 4) (i / 4) c (omega arith) (omega arith) m
         ∙ ap (λ (n : ℕ). getD (greyOf e0 e1 (w n) ∷ greyOf e0 e1 (w n) ∷ greyOf e0 e1 (w n) ∷ 255 ∷ []) c 0) d
 
@@ -119,16 +122,16 @@ module _ (e0 e1 : ℕ) (h0 : e0 ≤ 255) (h1 : e1 ≤ 255) where
 
   -- two choices of weights that differ at place i alone differ in its two bits alone
   module _ (i : ℕ) (v w : ℕ → ℕ) (hv : Weights v) (hw : Weights w) (same : (k : ℕ) → k < 16 → (k ≡ i → ⊥) → v k ≡ w k) where
-    in-weights : (b j : ℕ) → b + j ≡ 127 → j < 32 → (j / 2 ≡ i → ⊥) → field (blockOf (sheetWith e0 e1 v)) b 1 ≡ field (blockOf (sheetWith e0 e1 w)) b 1
+    in-weights : (b j : ℕ) → b + j ≡ 127 → j < 32 → (j / 2 ≡ i → ⊥) → field (blockOf footprint (sheetWith e0 e1 v)) b 1 ≡ field (blockOf footprint (sheetWith e0 e1 w)) b 1
     in-weights b j e l d =
         let a : b ≡ 127 - j = omega arith in
-        ap (λ (n : ℕ). field (blockOf (sheetWith e0 e1 v)) n 1) a
+        ap (λ (n : ℕ). field (blockOf footprint (sheetWith e0 e1 v)) n 1) a
         ∙ high-bit e0 e1 v h0 h1 hv j l
         ∙ ap (λ (n : ℕ). field n (j % 2) 1) (same (j / 2) (omega arith) d)
         ∙ sym (high-bit e0 e1 w h0 h1 hw j l)
-        ∙ sym (ap (λ (n : ℕ). field (blockOf (sheetWith e0 e1 w)) n 1) a)
+        ∙ sym (ap (λ (n : ℕ). field (blockOf footprint (sheetWith e0 e1 w)) n 1) a)
 
-    number-same : (b : ℕ) → ((j : ℕ) → b + j ≡ 127 → j / 2 ≡ i → ⊥) → field (blockOf (sheetWith e0 e1 v)) b 1 ≡ field (blockOf (sheetWith e0 e1 w)) b 1
+    number-same : (b : ℕ) → ((j : ℕ) → b + j ≡ 127 → j / 2 ≡ i → ⊥) → field (blockOf footprint (sheetWith e0 e1 v)) b 1 ≡ field (blockOf footprint (sheetWith e0 e1 w)) b 1
     number-same b d =
         elim (decLt b 96) [
           | yes l ↦ low-bit e0 e1 v b l ∙ sym (low-bit e0 e1 w b l)

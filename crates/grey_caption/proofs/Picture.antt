@@ -13,7 +13,7 @@ use Rattle.quantization.specs.Ranges.{encodingAt, bitsAt, mostAt, rangeBits, la
 use Rattle.quantization.specs.Unquantise.{endpointLevel, unquantEndpoint, unquantWeight}
 use Rattle.quantization.proofs.Ranges.{same-below}
 use Rattle.quantization.proofs.Levels.{weight-le}
-use Rattle.footprint.specs.Footprint.{footprints, widthOf, heightOf}
+use Rattle.footprint.specs.Footprint.{footprints, widthOf, heightOf, isVolume}
 use Rattle.partition.specs.Select.{partitionOf}
 use Rattle.weight_grid.specs.Place.{scaleOf, gridPlace}
 use Rattle.weight_grid.specs.Bilinear.{w00, w01, w10, w11, blendOf}
@@ -70,9 +70,9 @@ module _ (e0 e1 : ℕ) (w : ℕ → ℕ) where
   abbrev s : SymbolicBlock
   s = sheetWith e0 e1 w
 
-  point-is : (g : ℕ → ℕ) (x y : ℕ) → x < 4 → y < 4 → pointWeight s g x y ≡ g (y * 4 + x)
+  point-is : (g : ℕ → ℕ) (x y : ℕ) → x < 4 → y < 4 → pointWeight s g x y 0 ≡ g (y * 4 + x)
   unfolding pointWeight sheetWith modeBlock settings
-  point-is g x y hx hy = rw (lt-ltb x 4 hx, lt-ltb y 4 hy)
+  point-is g x y hx hy = let e : (0 * 4 + y) * 4 + x ≡ y * 4 + x = omega arith in rw (lt-ltb x 4 hx, lt-ltb y 4 hy) (ap g e)
 
   infill-own : (g : ℕ → ℕ) (x y : ℕ) → x < 4 → y < 4 → infillWeight s g (16 * x) (16 * y) ≡ g (y * 4 + x)
   unfolding infillWeight
@@ -83,8 +83,8 @@ module _ (e0 e1 : ℕ) (w : ℕ → ℕ) where
       let d : 16 * y % 16 ≡ 0 = omega arith in
       rw (a, b, c, d) (blend-own _ _ _ _ ∙ point-is g x y hx hy)
 
-  weight-is : (x y c : ℕ) → x < 4 → y < 4 → placeWeight s footprint (channelGrid s c) x y ≡ unquantWeight 2 (w (4 * y + x))
-  unfolding placeWeight channelGrid firstGrid widenedWeight sheetWith modeBlock settings widthOf heightOf footprints
+  weight-is : (x y c : ℕ) → x < 4 → y < 4 → placeWeight s footprint (channelGrid s c) x y 0 ≡ unquantWeight 2 (w (4 * y + x))
+  unfolding placeWeight channelGrid firstGrid widenedWeight sheetWith modeBlock settings widthOf heightOf footprints isVolume
   weight-is x y c hx hy =
       ap₂ (infillWeight s (firstGrid s)) (place-is x hx) (place-is y hy)
       ∙ infill-own (firstGrid s) x y hx hy
@@ -92,21 +92,21 @@ module _ (e0 e1 : ℕ) (w : ℕ → ℕ) where
       ∙ ap (unquantWeight 2) (weight-at e0 e1 w (4 * y + x) (omega arith))
 
   module _ (h0 : e0 ≤ 255) (h1 : e1 ≤ 255) where
-    pair-is : (x y : ℕ) → pairOf (modeIn s (partitionAt s footprint x y)) (widenedNumbers s (partitionAt s footprint x y)) ≡ luminancePair e0 e1 255 255
+    pair-is : (x y : ℕ) → pairOf (modeIn s (partitionAt s footprint x y 0)) (widenedNumbers s (partitionAt s footprint x y 0)) ≡ luminancePair e0 e1 255 255
     unfolding partitionAt partitionOf widenedNumbers numbersOf numbersOfFirst rangeOfEndpoints bitsLeftOver rangeBits encodingAt bitsAt sequenceBits endpointRange largestTo pairOf mode0 tab sheetWith modeBlock settings
     pair-is x y = ap₂ (λ (a b : ℕ). luminancePair a b 255 255) (level-is e0 h0) (level-is e1 h1)
 
     channel-is : (x y c : ℕ) → x < 4 → y < 4
-        → channelAt s footprint Srgb8 x y c
+        → channelAt s footprint Srgb8 x y 0 c
         ≡ mixOf (expandOf Srgb8 (getD (e0 ∷ e0 ∷ e0 ∷ 255 ∷ []) c 0)) (expandOf Srgb8 (getD (e1 ∷ e1 ∷ e1 ∷ 255 ∷ []) c 0)) (unquantWeight 2 (w (4 * y + x)))
     unfolding channelAt luminancePair
     channel-is x y c hx hy =
-        ap (λ (p : EndpointPair). mixOf (expandOf Srgb8 (getD (p .e0) c 0)) (expandOf Srgb8 (getD (p .e1) c 0)) (placeWeight s footprint (channelGrid s c) x y)) (pair-is x y)
+        ap (λ (p : EndpointPair). mixOf (expandOf Srgb8 (getD (p .e0) c 0)) (expandOf Srgb8 (getD (p .e1) c 0)) (placeWeight s footprint (channelGrid s c) x y 0)) (pair-is x y)
         ∙ ap (mixOf (expandOf Srgb8 (getD (e0 ∷ e0 ∷ e0 ∷ 255 ∷ []) c 0)) (expandOf Srgb8 (getD (e1 ∷ e1 ∷ e1 ∷ 255 ∷ []) c 0))) (weight-is x y c hx hy)
 
     -- what is shown of a texel
     abbrev texelAt : ℕ → ℕ → ℕ → ℕ
-    texelAt x y c = shownOf Srgb8 (channelAt s footprint Srgb8 x y c)
+    texelAt x y c = shownOf Srgb8 (channelAt s footprint Srgb8 x y 0 c)
 
     colour-is : (x y c : ℕ) → c < 3 → x < 4 → y < 4 → texelAt x y c ≡ greyOf e0 e1 (w (4 * y + x))
     unfolding greyOf
@@ -122,13 +122,13 @@ module _ (e0 e1 : ℕ) (w : ℕ → ℕ) where
     abbrev greys : ℕ → List ℕ
     greys i = greyOf e0 e1 (w i) ∷ greyOf e0 e1 (w i) ∷ greyOf e0 e1 (w i) ∷ 255 ∷ []
 
-    pub number-is : (x y c : ℕ) → x < 4 → y < 4 → c < 4 → pictureNumber footprint Srgb8 s x y c ≡ getD (greys (4 * y + x)) c 0
+    pub number-is : (x y c : ℕ) → x < 4 → y < 4 → c < 4 → pictureNumber footprint Srgb8 s x y 0 c ≡ getD (greys (4 * y + x)) c 0
     unfolding pictureNumber mixedPicture
     number-is x y c hx hy hc =
-        ap (λ (t : Texel). shownOf Srgb8 (getD (t .r ∷ t .g ∷ t .b ∷ t .a ∷ []) c 0)) (picture-mode s (not-void e0 e1 w) footprint Srgb8 x y)
+        ap (λ (t : Texel). shownOf Srgb8 (getD (t .r ∷ t .g ∷ t .b ∷ t .a ∷ []) c 0)) (picture-mode s (not-void e0 e1 w) footprint Srgb8 x y 0)
         ∙ go c hc
       where
-        go : (c : ℕ) → c < 4 → shownOf Srgb8 (getD (channelAt s footprint Srgb8 x y 0 ∷ channelAt s footprint Srgb8 x y 1 ∷ channelAt s footprint Srgb8 x y 2 ∷ channelAt s footprint Srgb8 x y 3 ∷ []) c 0) ≡ getD (greys (4 * y + x)) c 0
+        go : (c : ℕ) → c < 4 → shownOf Srgb8 (getD (channelAt s footprint Srgb8 x y 0 0 ∷ channelAt s footprint Srgb8 x y 0 1 ∷ channelAt s footprint Srgb8 x y 0 2 ∷ channelAt s footprint Srgb8 x y 0 3 ∷ []) c 0) ≡ getD (greys (4 * y + x)) c 0
         go zero h = colour-is x y 0 (omega arith) hx hy
         go (suc zero) h = colour-is x y 1 (omega arith) hx hy
         go (suc (suc zero)) h = colour-is x y 2 (omega arith) hx hy

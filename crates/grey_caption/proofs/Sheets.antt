@@ -15,14 +15,15 @@ use Rattle.laws.proofs.Filling.{length-tab}
 use Rattle.laws.proofs.Reasons.{None, none-first, _also_}
 use Rattle.quantization.specs.Ranges.{encodingAt, bitsAt, mostAt, rangeBits, largestTo, endpointRange}
 use Rattle.encoding.specs.Encoding.{sequenceBits}
-use Rattle.footprint.specs.Footprint.{footprints, widthOf, heightOf}
+use Rattle.footprint.specs.Footprint.{footprints, widthOf, heightOf, depthOf, isVolume}
 use Rattle.block_mode.specs.Back2D.{modeBits}
+use Rattle.volume_mode.specs.Either.{isDeep, modeBitsOf}
 use Rattle.color_endpoint.specs.Table.{numberCount, startOf}
 use Rattle.block_header.specs.Reasons.{gridTooLarge, tooManyWeights, weightBitsOutside, fourWithTwoPlanes, tooManyEndpoints, tooFewEndpointBits, someHdr, hdrRefused}
 use Rattle.color_endpoint.specs.Modes.{isHdr}
 use Rattle.block_header.specs.Counts.{weightCount, weightBits, componentBits, extraBits, endpointCount, bitsLeft, endpointRangeOf}
 use Rattle.symbolic_block.specs.Fields.{headerOf, endpointIn, weightIn, Sized}
-use Rattle.symbolic_block.specs.Refusals.{within, unknownFootprint, badMark, badHdr, badWidth, badHeight, badRange, badPlanes, badComponent, badPartitions, badIndex, badSelector, badModes, someInUse, noBlockMode, modesMisfit, badEndpoints, badWeights, markedWithout, modeRefusals, Acceptable}
+use Rattle.symbolic_block.specs.Refusals.{within, unknownFootprint, badMark, badHdr, badWidth, badHeight, badDepth, badRange, badPlanes, badComponent, badPartitions, badIndex, badSelector, badModes, someInUse, noBlockMode, modesMisfit, badEndpoints, badWeights, markedWithout, modeRefusals, Acceptable}
 use Rattle.symbolic_block.specs.Reading.{modeBlock}
 use Rattle.symbolic_block.proofs.Lists.{is-within, all-within, stored-at}
 use Rattle.symbolic_block.proofs.Opened.{refusal-is, refusals-mode}
@@ -45,7 +46,7 @@ module _ (e0 e1 : ℕ) (w : ℕ → ℕ) where
   unfolding sheetWith modeBlock settings
   sized = record {
     colours-4 = length-tab (λ i. 0) 4;
-    extents-4 = length-tab (λ i. 0) 4;
+    extents-6 = length-tab (λ i. 0) 6;
     modes-4 = refl;
     endpoints-18 = length-tab _ 18;
     weights-64 = length-tab _ 64;
@@ -98,9 +99,10 @@ module _ (e0 e1 : ℕ) (w : ℕ → ℕ) where
     weights-fine = is-within (within 64 16 3 (weightIn (sheetWith e0 e1 w))) weights-in
 
     pub none : None (modeRefusals footprint (sheetWith e0 e1 w))
-    unfolding modeRefusals unknownFootprint badMark badHdr badWidth badHeight badRange badPlanes badComponent badPartitions badIndex badSelector badModes someInUse within noBlockMode modeBits modesMisfit gridTooLarge tooManyWeights weightBitsOutside fourWithTwoPlanes tooManyEndpoints tooFewEndpointBits someHdr hdrRefused isHdr markedWithout sheetWith modeBlock settings tab weightCount weightBits endpointCount startOf numberCount bitsLeft componentBits extraBits rangeBits encodingAt bitsAt sequenceBits widthOf heightOf footprints
+    unfolding modeRefusals unknownFootprint badMark badHdr badWidth badHeight badDepth badRange badPlanes badComponent badPartitions badIndex badSelector badModes someInUse within noBlockMode modeBitsOf isDeep modeBits modesMisfit gridTooLarge tooManyWeights weightBitsOutside fourWithTwoPlanes tooManyEndpoints tooFewEndpointBits someHdr hdrRefused isHdr markedWithout sheetWith modeBlock settings tab weightCount weightBits endpointCount startOf numberCount bitsLeft componentBits extraBits rangeBits encodingAt bitsAt sequenceBits widthOf heightOf depthOf isVolume footprints
     none =
         refl
+        also refl
         also refl
         also refl
         also refl

@@ -26,7 +26,7 @@ most = 3
 -- "one partition, one plane, mode 0, grid 4x4, .. range field 2"
 unfoldable pub settings : Header
 settings = record {
-  grid = record { width = 4; height = 4; range = 2; planes = 1 };
+  grid = record { width = 4; height = 4; depth = 1; range = 2; planes = 1 };
   component = 0;
   partitions = 1;
   index = 0;

@@ -4,52 +4,34 @@ use image_layout::CheckedImage;
 use image_layout::ImageAnswer;
 use image_layout::ImageGrid;
 use image_layout::Part;
-use image_layout::Run;
 use image_layout::Tally;
 use interpolation::Kind;
 ghost use mathlib.Core.Path.{_≡_};
-ghost use Prim.Native.Nat.{_+_, _*_, _/_, _%_, _≤_, _<_};
+ghost use Prim.Native.Nat.{_*_, _<_};
 ghost use lib.ListN.{length};
 ghost use Rattle.interpolation.specs.declared.Kind.the-variants.{Unorm16, Srgb8, Float16};
+ghost use Rattle.interpolation.specs.Expansion.{shownOf};
 ghost use Rattle.block_reading.specs.declared.Reading.the-variants.{Strict};
 ghost use Rattle.one_block.specs.Calls.{Words};
 ghost use Rattle.image_layout.specs.Numbers.{faultAtIn, imageNumberAtIn, imageNumbersIn};
 ghost use Rattle.image_layout.specs.Faulty.{tallyOf};
 ghost use Rattle.image_layout.specs.Call.{checkedOf, imageAnswer, imageOut, imageTold, imageAnswerIn, imageOutIn, imageToldIn, toldOf};
-ghost use Rattle.image_layout.proofs.Regions.{Pasted, Placed, Tile};
+ghost use Rattle.image_layout.specs.inner.Rows.{flatPicture};
+ghost use Rattle.picture_regions.proofs.Blocks.{Tile};
 ghost use Rattle.image_layout.proofs.Calls.{Sound};
-ghost use Rattle.image_layout.proofs.Parts.{Fits, RunFits};
-
-// Room for the numbers of the largest block.
-fn blank() -> [u16; 576]
-    ensures { λ r. ⌜ length r ≡ 576 ⌝ }
-{
-    [0u16; 576]
-}
+ghost use Rattle.image_layout.proofs.Parts.{Fits, PlacedRows};
 
 // ---- kinds 0 and 2: 16-bit numbers
 
-// Copies a run of a block's numbers.
-fn copy_numbers(src: &[u16; 576], r: Run, out: &mut [u16])
-    requires { ⌜ RunFits r 576 (length (now out)) ⌝ }
-    ensures { λ _. ⌜ Pasted Unorm16 (now (src .entry)) (r .from) (r .n) (now (out .entry)) (r .at) (now (out .exit)) ⌝ }
-{
-    let from = r.from;
-    let at = r.at;
-    for i in 0..r.n {
-        out[at + i] = src[from + i];
-    }
-}
-
 // Copies a block's rows to its part of the image.
-fn place_numbers(buf: &[u16; 576], g: ImageGrid, p: Part, out: &mut [u16])
+fn place_numbers(buf: &[u16; 864], g: ImageGrid, p: Part, out: &mut [u16])
     requires { ⌜ Sound g ⌝ }
     requires { ⌜ Fits g p ⌝ }
     requires { ⌜ length (now out) ≡ 4 * (g .height * g .width) ⌝ }
-    ensures { λ _. ⌜ Placed Unorm16 (g .width) (p .x) (p .y) (p .columns) (p .rows) (g .columns) (now (buf .entry)) (now (out .entry)) (now (out .exit)) ⌝ }
+    ensures { λ _. ⌜ PlacedRows (shownOf Unorm16) g p (p .rows) (now (buf .entry)) (now (out .entry)) (now (out .exit)) ⌝ }
 {
     for dy in 0..p.rows {
-        copy_numbers(buf, image_parts::run_of(g, p, dy), out);
+        image_parts::copy_numbers(buf, image_parts::run_of(g, p, dy), out);
     }
 }
 
@@ -60,7 +42,7 @@ fn show_numbers(
     kind: Kind,
     b: usize,
     s: &[u8],
-    buf: &mut [u16; 576],
+    buf: &mut [u16; 864],
     out: &mut [u16],
 ) -> u8
     requires { ⌜ Words kind ⌝ }
@@ -68,14 +50,14 @@ fn show_numbers(
     requires { ⌜ b < g .down * g .across ⌝ }
     requires { ⌜ length (now s) ≡ 16 * (g .down * g .across) ⌝ }
     requires { ⌜ length (now out) ≡ 4 * (g .height * g .width) ⌝ }
-    requires { ⌜ length (now buf) ≡ 576 ⌝ }
+    requires { ⌜ length (now buf) ≡ 864 ⌝ }
     ensures { λ r. ⌜ r ≡ faultAtIn reading (g .footprint) kind (now (s .entry)) b ⌝ }
-    ensures { λ _. ⌜ Tile (g .width) (g .height) (g .columns) (g .rows) (b % g .across) (b / g .across) (imageNumberAtIn reading (g .footprint) kind (g .width) (now (s .entry))) (now (out .entry)) (now (out .exit)) ⌝ }
-    ensures { λ _. ⌜ length (now (buf .exit)) ≡ 576 ⌝ }
+    ensures { λ _. ⌜ Tile (flatPicture g) b (imageNumberAtIn reading (g .footprint) kind (g .width) (now (s .entry))) (now (out .entry)) (now (out .exit)) ⌝ }
+    ensures { λ _. ⌜ length (now (buf .exit)) ≡ 864 ⌝ }
 {
     let p = image_parts::part_of(g, b);
     let block = image_parts::block_of(s, b);
-    let e = strict_block::decode_in(reading, block, g.footprint, kind, buf);
+    let e = strict_block::decode_in(reading, block, g.footprint, false, kind, buf);
     place_numbers(buf, g, p, out);
     e
 }
@@ -89,7 +71,7 @@ fn decode_numbers(reading: Reading, g: ImageGrid, kind: Kind, s: &[u8], out: &mu
     ensures { λ r. ⌜ r ≡ tallyOf (faultAtIn reading (g .footprint) kind (now (s .entry))) (g .down * g .across) ⌝ }
     ensures { λ _. ⌜ now (out .exit) ≡ imageNumbersIn reading (g .footprint) kind (g .width) (g .height) (now (s .entry)) ⌝ }
 {
-    let mut buf = blank();
+    let mut buf = image_parts::blank();
     let mut t = Tally {
         count: 0,
         first: 0,
@@ -208,27 +190,15 @@ pub fn decode_image_float16(
 
 // ---- kind 1: bytes
 
-// Copies the top bytes of a run of a block's numbers.
-fn copy_bytes(src: &[u16; 576], r: Run, out: &mut [u8])
-    requires { ⌜ RunFits r 576 (length (now out)) ⌝ }
-    ensures { λ _. ⌜ Pasted Srgb8 (now (src .entry)) (r .from) (r .n) (now (out .entry)) (r .at) (now (out .exit)) ⌝ }
-{
-    let from = r.from;
-    let at = r.at;
-    for i in 0..r.n {
-        out[at + i] = interpolation::top_byte(src[from + i]);
-    }
-}
-
 // Copies a block's rows to its part of the image.
-fn place_bytes(buf: &[u16; 576], g: ImageGrid, p: Part, out: &mut [u8])
+fn place_bytes(buf: &[u16; 864], g: ImageGrid, p: Part, out: &mut [u8])
     requires { ⌜ Sound g ⌝ }
     requires { ⌜ Fits g p ⌝ }
     requires { ⌜ length (now out) ≡ 4 * (g .height * g .width) ⌝ }
-    ensures { λ _. ⌜ Placed Srgb8 (g .width) (p .x) (p .y) (p .columns) (p .rows) (g .columns) (now (buf .entry)) (now (out .entry)) (now (out .exit)) ⌝ }
+    ensures { λ _. ⌜ PlacedRows (shownOf Srgb8) g p (p .rows) (now (buf .entry)) (now (out .entry)) (now (out .exit)) ⌝ }
 {
     for dy in 0..p.rows {
-        copy_bytes(buf, image_parts::run_of(g, p, dy), out);
+        image_parts::copy_bytes(buf, image_parts::run_of(g, p, dy), out);
     }
 }
 
@@ -238,21 +208,21 @@ fn show_bytes(
     g: ImageGrid,
     b: usize,
     s: &[u8],
-    buf: &mut [u16; 576],
+    buf: &mut [u16; 864],
     out: &mut [u8],
 ) -> u8
     requires { ⌜ Sound g ⌝ }
     requires { ⌜ b < g .down * g .across ⌝ }
     requires { ⌜ length (now s) ≡ 16 * (g .down * g .across) ⌝ }
     requires { ⌜ length (now out) ≡ 4 * (g .height * g .width) ⌝ }
-    requires { ⌜ length (now buf) ≡ 576 ⌝ }
+    requires { ⌜ length (now buf) ≡ 864 ⌝ }
     ensures { λ r. ⌜ r ≡ faultAtIn reading (g .footprint) Srgb8 (now (s .entry)) b ⌝ }
-    ensures { λ _. ⌜ Tile (g .width) (g .height) (g .columns) (g .rows) (b % g .across) (b / g .across) (imageNumberAtIn reading (g .footprint) Srgb8 (g .width) (now (s .entry))) (now (out .entry)) (now (out .exit)) ⌝ }
-    ensures { λ _. ⌜ length (now (buf .exit)) ≡ 576 ⌝ }
+    ensures { λ _. ⌜ Tile (flatPicture g) b (imageNumberAtIn reading (g .footprint) Srgb8 (g .width) (now (s .entry))) (now (out .entry)) (now (out .exit)) ⌝ }
+    ensures { λ _. ⌜ length (now (buf .exit)) ≡ 864 ⌝ }
 {
     let p = image_parts::part_of(g, b);
     let block = image_parts::block_of(s, b);
-    let e = strict_block::decode_in(reading, block, g.footprint, Kind::Srgb8, buf);
+    let e = strict_block::decode_in(reading, block, g.footprint, false, Kind::Srgb8, buf);
     place_bytes(buf, g, p, out);
     e
 }
@@ -265,7 +235,7 @@ fn decode_bytes(reading: Reading, g: ImageGrid, s: &[u8], out: &mut [u8]) -> Tal
     ensures { λ r. ⌜ r ≡ tallyOf (faultAtIn reading (g .footprint) Srgb8 (now (s .entry))) (g .down * g .across) ⌝ }
     ensures { λ _. ⌜ now (out .exit) ≡ imageNumbersIn reading (g .footprint) Srgb8 (g .width) (g .height) (now (s .entry)) ⌝ }
 {
-    let mut buf = blank();
+    let mut buf = image_parts::blank();
     let mut t = Tally {
         count: 0,
         first: 0,

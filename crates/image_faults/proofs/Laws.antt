@@ -16,7 +16,7 @@ use Rattle.block_reading.specs.declared.Reading.{Reading}
 use Rattle.kind_number.specs.Kinds.{kindOf}
 use Rattle.image_size.specs.Sides.{badSide, blocksOf, sizeRefusal}
 use Rattle.footprint.specs.Footprint.{widthOf, heightOf}
-use Rattle.footprint.proofs.Laws.{bounds}
+use Rattle.footprint.proofs.Laws.{flat-bounds}
 use Rattle.image_size.proofs.Laws.{limit-le, sized, side-fine, across-le, product-most}
 use Rattle.image_layout.specs.declared.ImageAnswer.{ImageAnswer}
 use Rattle.image_layout.specs.declared.ImageAnswer.the-variants.{Refused, Decoded}
@@ -94,7 +94,7 @@ blocks-most : (fp w h : ℕ) → sizeRefusal fp w h ≡ 0 → blocksOf fp w h �
 unfolding blocksOf
 blocks-most fp w h e =
     let s = sized fp w h e in
-    let b = bounds fp (let k = s .footprint in omega arith) in
+    let b = flat-bounds fp (let k = s .footprint in omega arith) in
     let l = limit-le in
     product-most _ _ (let k = side-fine h (s .high) .1 in omega (arith, across-le h (heightOf fp) (let k = b .height-least in omega arith)))
     (let k = side-fine w (s .wide) .1 in omega (arith, across-le w (widthOf fp) (let k = b .width-least in omega arith)))

@@ -27,7 +27,7 @@ use Rattle.image_layout.specs.Geometry.{blockIndex}
 use Rattle.image_layout.specs.Numbers.{blockAt, faultAtIn, imageNumberAtIn}
 use Rattle.image_layout.specs.Faulty.{tallyOf}
 use Rattle.image_layout.specs.Call.{imageRefusal, imageTallyIn, imageOutIn}
-use Rattle.image_layout.specs.OwnBlock.{place}
+use Rattle.picture_regions.specs.Picture.{place}
 use Rattle.image_layout.proofs.Calls.{accept, decoded-out}
 use Rattle.image_layout.proofs.Independence.{index-in, number-of}
 use Rattle.image_layout.proofs.Tallies.{tally-start, tally-more}
@@ -43,23 +43,23 @@ tally-same f g (suc n) h =
 
 -- ---- what a block shows by its fault
 
-module _ (kind : Kind) (fp B x y : ℕ) where
-  block-own : faultOf (takesHdr kind) fp B ≡ 0 → blockTexel fp kind B x y ≡ soundTexel fp kind B x y
+module _ (kind : Kind) (fp B x y z : ℕ) where
+  block-own : faultOf (takesHdr kind) fp B ≡ 0 → blockTexel fp kind B x y z ≡ soundTexel fp kind B x y z
   unfolding blockTexel
   block-own e = rw (eq-eqb (faultOf (takesHdr kind) fp B) 0 e)
 
   -- a block that passes the strict reading has no ordinary fault either
   strict-sound : strictFault (takesHdr kind) fp B ≡ 0 → faultOf (takesHdr kind) fp B ≡ 0
-  strict-sound e = elim (ℕ-discrete (faultOf (takesHdr kind) fp B) 0) [ yes z ↦ z | no n ↦ sym (strict-other (takesHdr kind) fp B n) ∙ e ]
+  strict-sound e = elim (ℕ-discrete (faultOf (takesHdr kind) fp B) 0) [ yes q ↦ q | no n ↦ sym (strict-other (takesHdr kind) fp B n) ∙ e ]
 
-  own-texel : (reading : Reading) → faultIn reading (takesHdr kind) fp B ≡ 0 → texelIn reading fp kind B x y ≡ soundTexel fp kind B x y
+  own-texel : (reading : Reading) → faultIn reading (takesHdr kind) fp B ≡ 0 → texelIn reading fp kind B x y z ≡ soundTexel fp kind B x y z
   own-texel Ordinary e = block-own e
-  own-texel Strict e = strict-own fp kind B e x y ∙ block-own (strict-sound e)
+  own-texel Strict e = strict-own fp kind B e x y z ∙ block-own (strict-sound e)
 
-  error-shown : (reading : Reading) → (faultIn reading (takesHdr kind) fp B ≡ 0 → ⊥) → texelIn reading fp kind B x y ≡ errorTexel kind
+  error-shown : (reading : Reading) → (faultIn reading (takesHdr kind) fp B ≡ 0 → ⊥) → texelIn reading fp kind B x y z ≡ errorTexel kind
   unfolding blockTexel
   error-shown Ordinary n = rw (ne-eqb (faultOf (takesHdr kind) fp B) 0 n)
-  error-shown Strict n = strict-error fp kind B n x y
+  error-shown Strict n = strict-error fp kind B n x y z
 
 -- ---- the list
 
@@ -82,14 +82,14 @@ module _ (reading : Reading) (fp : ℕ) (kind : Kind) (w h : ℕ) (s old : List 
   fault-is = list-at reading fp kind w h s b (index-in fp kind w h x y c hx hy hc (accept fp w h (length s) (length old) z .footprint))
 
   -- what the image call leaves is what the block shows
-  number-is : getD (imageOutIn reading fp kind w h s old) (place w x y c) 0 ≡ shownChannel kind (texelIn reading fp kind (blockAt s b) (x % widthOf fp) (y % heightOf fp)) c
+  number-is : getD (imageOutIn reading fp kind w h s old) (place w x y c) 0 ≡ shownChannel kind (texelIn reading fp kind (blockAt s b) (x % widthOf fp) (y % heightOf fp) 0) c
   unfolding imageNumberAtIn numberAtIn
   number-is = ap (λ (l : List ℕ). getD l (place w x y c) 0) (sym (decoded-out reading fp kind w h s old z)) ∙ number-of reading fp kind w h x y c hx hy hc s
 
   pub shown-at : Shown reading fp kind w h s old x y c
   shown-at = record {
-    own = λ e. number-is ∙ ap (λ (t : Texel). shownChannel kind t c) (own-texel kind fp (blockAt s b) (x % widthOf fp) (y % heightOf fp) reading (sym fault-is ∙ e));
-    error = λ n. number-is ∙ ap (λ (t : Texel). shownChannel kind t c) (error-shown kind fp (blockAt s b) (x % widthOf fp) (y % heightOf fp) reading (λ e. n (fault-is ∙ e)));
+    own = λ e. number-is ∙ ap (λ (t : Texel). shownChannel kind t c) (own-texel kind fp (blockAt s b) (x % widthOf fp) (y % heightOf fp) 0 reading (sym fault-is ∙ e));
+    error = λ n. number-is ∙ ap (λ (t : Texel). shownChannel kind t c) (error-shown kind fp (blockAt s b) (x % widthOf fp) (y % heightOf fp) 0 reading (λ e. n (fault-is ∙ e)));
   }
 
 pub shown : (reading : Reading) (fp : ℕ) (kind : Kind) (w h : ℕ) (s old : List ℕ) → ShownEverywhere reading fp kind w h s old

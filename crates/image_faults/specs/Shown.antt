@@ -15,7 +15,7 @@ use Rattle.image_layout.specs.Geometry.{blockIndex}
 use Rattle.image_layout.specs.Numbers.{blockAt}
 use Rattle.image_layout.specs.Faulty.{tallyOf}
 use Rattle.image_layout.specs.Call.{imageRefusal, imageTallyIn, imageOutIn}
-use Rattle.image_layout.specs.OwnBlock.{place}
+use Rattle.picture_regions.specs.Picture.{place}
 use Rattle.image_faults.specs.Faults.{faultList}
 
 -- the number that stands in a list of faults for a block
@@ -30,7 +30,7 @@ Counted reading fp kind w h s = imageTallyIn reading fp kind w h s ≡ tallyOf (
 pub record Shown (reading : Reading) (fp : ℕ) (kind : Kind) (w h : ℕ) (s old : List ℕ) (x y c : ℕ) : Type 0 where
   -- where the list has 0 at the texel's block, the image call shows that block's own texel,
   pub own : listed (faultList reading fp kind w h s) (blockIndex fp w x y) ≡ 0
-      → getD (imageOutIn reading fp kind w h s old) (place w x y c) 0 ≡ shownChannel kind (soundTexel fp kind (blockAt s (blockIndex fp w x y)) (x % widthOf fp) (y % heightOf fp)) c
+      → getD (imageOutIn reading fp kind w h s old) (place w x y c) 0 ≡ shownChannel kind (soundTexel fp kind (blockAt s (blockIndex fp w x y)) (x % widthOf fp) (y % heightOf fp) 0) c
   -- elsewhere the kind's error colour
   pub error : (listed (faultList reading fp kind w h s) (blockIndex fp w x y) ≡ 0 → ⊥)
       → getD (imageOutIn reading fp kind w h s old) (place w x y c) 0 ≡ shownChannel kind (errorTexel kind) c

@@ -18,11 +18,12 @@ ghost use Rattle.image_layout.specs.Faulty.{tallyOf};
 ghost use Rattle.image_layout.specs.Call.{toldOf};
 ghost use Rattle.image_faults.specs.Faults.{faultsRefusal, faultsAnswer, faultsTold, faultsOut};
 
-// A block's fault by the kind's list, 0 for none.
+// A flat block's fault by the kind's list, 0 for none.
 fn ordinary_fault(kind: Kind, fp: u8, block: PhysicalBlock) -> u8
+    requires { ⌜ fp ≤ 13 ⌝ }
     ensures { λ r. ⌜ r ≡ faultOf (takesHdr kind) fp (blockNumber block) ⌝ }
 {
-    let s = block_fault::read_settings(interpolation::takes_hdr(kind), block, fp);
+    let s = block_fault::read_settings(interpolation::takes_hdr(kind), false, block, fp);
     let v = s.verdict;
     match v {
         Verdict::Fault(n) => n,
@@ -38,7 +39,12 @@ fn fault_of(reading: Reading, kind: Kind, fp: u8, block: PhysicalBlock) -> u8
 {
     match reading {
         Reading::Ordinary => ordinary_fault(kind, fp, block),
-        Reading::Strict => strict_block::strict_fault(interpolation::takes_hdr(kind), fp, block),
+        Reading::Strict => strict_block::strict_fault(
+            interpolation::takes_hdr(kind),
+            fp,
+            false,
+            block,
+        ),
     }
 }
 

@@ -9,7 +9,7 @@ use native.Mathlib.Omega.{arith}
 use lib.ListN.{length}
 use borrow.Author.Tests.{eq-eqb, ne-eqb, lt-ltb, le-ltb}
 use Rattle.footprint.specs.Footprint.{widthOf, heightOf}
-use Rattle.footprint.proofs.Laws.{bounds}
+use Rattle.footprint.proofs.Laws.{flat-bounds}
 use Rattle.interpolation.specs.declared.Kind.{Kind}
 use Rattle.block_reading.specs.declared.Reading.{Reading}
 use Rattle.image_layout.specs.declared.ImageGrid.{ImageGrid}
@@ -23,8 +23,10 @@ use Rattle.image_size.specs.Sides.{blocksAcross, blocksOf, badSide}
 use Rattle.image_layout.specs.Numbers.{faultAtIn, imageNumbersIn}
 use Rattle.image_layout.specs.Faulty.{tallyOf}
 use Rattle.image_layout.specs.Call.{imageRefusal, checkedOf, imageTallyIn, imageAnswerIn, imageOutIn, toldOf, imageToldIn}
-use Rattle.image_size.proofs.Laws.{limit-le, side-fine, across-le, across-pos}
-use Rattle.image_layout.proofs.Covering.{mul-bound}
+use Rattle.image_size.proofs.Laws.{limit-le, side-fine, across-covers, across-le, across-pos}
+use Rattle.picture_regions.proofs.Covering.{mul-bound}
+use Rattle.picture_regions.proofs.Blocks.{Covered}
+use Rattle.image_layout.specs.inner.Rows.{flatPicture}
 
 -- ---- the refusals in their order
 
@@ -81,7 +83,7 @@ pub record Sound (g : ImageGrid) : Type 0 where
 pub sound : (fp w h : ℕ) → fp < 14 → badSide w ≡ false → badSide h ≡ false → Sound (gridOf fp w h)
 unfolding gridOf
 sound fp w h f a b =
-    let s = bounds fp f in
+    let s = flat-bounds fp f in
     let x = side-fine w a in
     let y = side-fine h b in
     let l = limit-le in
@@ -105,6 +107,15 @@ sound fp w h f a b =
       down = refl;
       down-most = omega (arith, across-le h (heightOf fp) q);
     }
+
+-- its blocks cover it
+pub covered : (g : ImageGrid) → Sound g → Covered (flatPicture g)
+covered g s = record {
+  width-least = s .width-least;
+  columns-least = s .columns-least;
+  across = s .across;
+  row-lt = λ y h. rw (s .down) (across-covers (g .height) (g .rows) y (s .rows-least) h);
+}
 
 -- how large an image is
 pub record Sizes (g : ImageGrid) : Type 0 where

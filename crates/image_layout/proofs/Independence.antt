@@ -11,7 +11,7 @@ use Rattle.laws.specs.Table.{tab}
 use Rattle.laws.proofs.Filling.{length-tab, getD-tab}
 use Rattle.bits.specs.Block.{numberOf}
 use Rattle.footprint.specs.Footprint.{widthOf, heightOf, texelsOf}
-use Rattle.footprint.proofs.Laws.{bounds}
+use Rattle.footprint.proofs.Laws.{flat-bounds}
 use Rattle.interpolation.specs.declared.Kind.{Kind}
 use Rattle.interpolation.specs.Expansion.{shownOf}
 use Rattle.block_reading.specs.declared.Reading.{Reading}
@@ -24,11 +24,11 @@ use Rattle.image_layout.specs.Geometry.{blockIndex}
 use Rattle.image_size.specs.Sides.{blocksAcross, blocksOf}
 use Rattle.image_layout.specs.Numbers.{blockBytes, blockAt, imageNumberAtIn, imageNumbersIn}
 use Rattle.image_layout.specs.Call.{imageRefusal, imageOutIn}
-use Rattle.image_layout.proofs.Covering.{place-within, below-row}
-use Rattle.image_layout.specs.OwnBlock.{place, OwnBlock}
+use Rattle.picture_regions.specs.Picture.{place}
+use Rattle.picture_regions.proofs.Covering.{place-within, below-row, quotient, remainder}
+use Rattle.image_layout.specs.OwnBlock.{OwnBlock}
 use Rattle.image_size.proofs.Laws.{across-covers}
-use Rattle.image_layout.proofs.Blocks.{quotient, remainder, sixteen, byte-of}
-use Rattle.block_reading.proofs.Shows.{number-at}
+use Rattle.image_layout.proofs.Blocks.{flat-texels, flat-number, sixteen, byte-of}
 use Rattle.image_layout.proofs.Calls.{accept, decoded-out}
 
 -- agreement byte by byte is agreement of the sixteen bytes
@@ -43,7 +43,7 @@ module _ (fp : ℕ) (kind : Kind) (w h x y c : ℕ) (hx : x < w) (hy : y < h) (h
   pub index-in : fp < 14 → blockIndex fp w x y < blocksOf fp w h
   unfolding blockIndex blocksOf
   index-in f =
-      let b = bounds fp f in
+      let b = flat-bounds fp f in
       let p : 0 < widthOf fp = let z = b .width-least in omega arith in
       let q : 0 < heightOf fp = let z = b .height-least in omega arith in
       let m = across-covers w (widthOf fp) x p hx in
@@ -69,10 +69,10 @@ module _ (reading : Reading) (fp : ℕ) (kind : Kind) (w h x y c : ℕ) (hx : x 
   image-texel : (s old block : List ℕ) → imageRefusal fp w h (length s) (length old) ≡ 0 → length block ≡ 4 * texelsOf fp
       → getD (imageOutIn reading fp kind w h s old) (place w x y c) 0
       ≡ getD (blockOutIn reading kind fp (blockBytes s (blockIndex fp w x y)) block) (place (widthOf fp) (x % widthOf fp) (y % heightOf fp) c) 0
-  unfolding imageNumberAtIn blockAt numbersIn texelsOf
+  unfolding imageNumberAtIn blockAt numbersIn
   image-texel s old block z size =
       let f = accept fp w h (length s) (length old) z .footprint in
-      let b = bounds fp f in
+      let b = flat-bounds fp f in
       let p : 0 < widthOf fp = let n = b .width-least in omega arith in
       let q : 0 < heightOf fp = let n = b .height-least in omega arith in
       let bytes : List ℕ = blockBytes s (blockIndex fp w x y) in
@@ -80,8 +80,9 @@ module _ (reading : Reading) (fp : ℕ) (kind : Kind) (w h x y c : ℕ) (hx : x 
       let taken : blockRefusal fp (length bytes) (length block) ≡ 0 = sym (accepted fp (length bytes) (length block) (omega arith) (sixteen s (blockIndex fp w x y) (whole fp kind w h x y c hx hy hc s old z)) size) in
       ap (λ (l : List ℕ). getD l (place w x y c) 0) (sym (decoded-out reading fp kind w h s old z))
       ∙ number-of s
-      ∙ sym (number-at reading fp kind (numberOf bytes) (x % widthOf fp) (y % heightOf fp) c (mod-lt x p) hc)
-      ∙ sym (getD-tab (λ k. shownOf kind (channelIn reading fp kind (numberOf bytes) k)) (4 * (widthOf fp * heightOf fp)) i 0 (place-within (widthOf fp) (heightOf fp) _ _ c (mod-lt x p) (mod-lt y q) hc))
+      ∙ sym (flat-number reading fp kind (numberOf bytes) (x % widthOf fp) (y % heightOf fp) c (mod-lt x p) (mod-lt y q) hc)
+      ∙ sym (getD-tab (λ k. shownOf kind (channelIn reading fp kind (numberOf bytes) k)) (4 * texelsOf fp) i 0
+      (rw (flat-texels fp f) (place-within (widthOf fp) (heightOf fp) _ _ c (mod-lt x p) (mod-lt y q) hc)))
       ∙ ap (λ (l : List ℕ). getD l i 0) (written reading kind fp bytes block taken)
 
   -- two images that agree on the texel's own sixteen bytes agree on the texel, whatever all other blocks hold

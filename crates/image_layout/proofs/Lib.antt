@@ -1,5 +1,3 @@
-pub mod Covering
-pub mod Regions
 pub mod Blocks
 pub mod Tallies
 pub mod Calls

@@ -1,28 +1,31 @@
 -- The part of an image that a block covers, and its rows, in terms of an image's layout.
 -- Assumes nothing.
-use mathlib.Core.Path.{_≡_, sym, ap, _∙_}
+use mathlib.Core.Path.{_≡_, sym, ap, _∙_, subst}
 use mathlib.Core.List.{List}
 use Prim.Native.Nat.{ℕ, _+_, _*_, _/_, _%_, _≤_, _<_}
-use native.Mathlib.Nat.{div-add-mod'}
+use native.Mathlib.Nat.{div-add-mod', mod-lt, div-lt-iff-lt-mul}
 use native.Mathlib.Omega.{arith}
 use lib.ListN.{length, getD}
 use Rattle.footprint.specs.Footprint.{texelsOf}
 use Rattle.interpolation.specs.declared.Kind.{Kind}
+use Rattle.interpolation.specs.Expansion.{shownOf}
 use Rattle.block_reading.specs.declared.Reading.{Reading}
 use Rattle.block_reading.specs.Shown.{channelIn}
+use Rattle.image_size.proofs.Laws.{across-inside}
+use Rattle.picture_regions.proofs.Covering.{mul-bound, below-row}
+use Rattle.picture_regions.proofs.Regions.{Pasted, Placed, placed-more}
+use Rattle.picture_regions.proofs.Blocks.{Cropped, Tile}
 use Rattle.image_layout.specs.declared.ImageGrid.{ImageGrid}
 use Rattle.image_layout.specs.declared.Part.{Part}
 use Rattle.image_layout.specs.declared.Run.{Run}
 use Rattle.image_layout.specs.declared.Tally.{Tally}
 use Rattle.image_layout.specs.Numbers.{blockAt, faultAtIn, imageNumberAtIn, imageNumbersIn}
 use Rattle.image_layout.specs.Faulty.{tallyOf}
-use Rattle.image_layout.proofs.Covering.{mul-bound, below-row, block-place}
-use Rattle.image_size.proofs.Laws.{across-inside}
-use Rattle.image_layout.proofs.Regions.{Pasted, Cropped, Placed, placed-more, Tile}
-use Rattle.image_layout.proofs.Blocks.{tile-shown}
-use Rattle.image_layout.proofs.Calls.{Sound}
-use Rattle.image_layout.proofs.Walking.{Walking, walking-start, walking-more, walking-done}
 use Rattle.image_layout.specs.inner.Noted.{noted}
+use Rattle.image_layout.specs.inner.Rows.{flatPicture}
+use Rattle.image_layout.proofs.Blocks.{tile-shown}
+use Rattle.image_layout.proofs.Calls.{Sound, covered}
+use Rattle.image_layout.proofs.Walking.{Walking, walking-start, walking-more, walking-done}
 
 -- the part is as much of a block as is within the image
 pub record Fits (g : ImageGrid) (p : Part) : Type 0 where
@@ -48,7 +51,7 @@ pub record RunFits (r : Run) (source result : ℕ) : Type 0 where
 
 -- the products of a row, none of which wraps
 pub record Products (g : ImageGrid) (p : Part) (dy : ℕ) : Type 0 where
-  pub in-block : 4 * (dy * g .columns) + 4 * p .columns ≤ 576
+  pub in-block : 4 * (dy * g .columns) + 4 * p .columns ≤ 864
   pub in-image : 4 * ((p .y + dy) * g .width + p .x) + 4 * p .columns ≤ 4 * (g .height * g .width)
   pub small : g .height * g .width ≤ 16384 * 16384
 
@@ -63,7 +66,7 @@ products g p dy s f h =
     let m = mul-bound (g .height) (g .width) 16384 16384 (s .height-most) (s .width-most) in
     record { in-block = let z = s .columns-most in omega arith; in-image = omega arith; small = m }
 
-pub run-fits : (g : ImageGrid) (p : Part) (dy : ℕ) (r : Run) (m : ℕ) → Sound g → Fits g p → dy < p .rows → RunOf g p dy r → m ≡ 4 * (g .height * g .width) → RunFits r 576 m
+pub run-fits : (g : ImageGrid) (p : Part) (dy : ℕ) (r : Run) (m : ℕ) → Sound g → Fits g p → dy < p .rows → RunOf g p dy r → m ≡ 4 * (g .height * g .width) → RunFits r 864 m
 run-fits g p dy r m s f h o e =
     let q = products g p dy s f h in
     record { in-source = omega (arith, o, q); in-result = omega (arith, o, q) }
@@ -74,54 +77,59 @@ pub record Begins (g : ImageGrid) (b : ℕ) : Type 0 where
   pub y : b / g .across * g .rows < g .height
 
 pub begins : (g : ImageGrid) (b : ℕ) → Sound g → b < g .down * g .across → Begins g b
-begins g b s h =
-    let f = block-place (g .across) (g .down) b (s .across-least) h in
-    record {
-      x = across-inside (g .width) (g .columns) (b % g .across) (s .columns-least) (omega (arith, s .across, f .0));
-      y = across-inside (g .height) (g .rows) (b / g .across) (s .rows-least) (omega (arith, s .down, f .1));
-    }
+begins g b s h = record {
+  x = across-inside (g .width) (g .columns) (b % g .across) (s .columns-least) (omega (arith, s .across, mod-lt b (s .across-least)));
+  y = across-inside (g .height) (g .rows) (b / g .across) (s .rows-least) (let l : b / g .across < g .down = div-lt-iff-lt-mul (s .across-least) .1 h in omega (arith, s .down));
+}
 
 -- ---- what a turn of each loop does
 
+-- n rows of a part are copied
+abbrev pub PlacedRows : (ℕ → ℕ) → ImageGrid → Part → ℕ → List ℕ → List ℕ → List ℕ → Type 0
+PlacedRows show g p n buf old new = Placed show (g .width) (p .x) (p .columns) (g .columns) (λ i. p .y + i) (λ i. i) n buf old new
+
 -- the first b blocks of an ASTC image are decoded
 abbrev pub Decoding : Reading → Kind → ImageGrid → List ℕ → List ℕ → List ℕ → List ℕ → Tally → ℕ → Type 0
-Decoding reading kind g s old new buf t b = Walking (imageNumberAtIn reading (g .footprint) kind (g .width) s) (faultAtIn reading (g .footprint) kind s) 576 g old new buf t b
+Decoding reading kind g s old new buf t b =
+    Walking (imageNumberAtIn reading (g .footprint) kind (g .width) s) (faultAtIn reading (g .footprint) kind s) 864 (flatPicture g) old new buf t b
 
-module _ (kind : Kind) (g : ImageGrid) where
-  -- a row of a part
-  pub placed-row : (p : Part) (dy : ℕ) (r : Run) (buf old l new : List ℕ) → Fits g p → RunOf g p dy r
-      → Placed kind (g .width) (p .x) (p .y) (p .columns) dy (g .columns) buf old l → Pasted kind buf (r .from) (r .n) l (r .at) new
-      → Placed kind (g .width) (p .x) (p .y) (p .columns) (dy + 1) (g .columns) buf old new
-  placed-row p dy r buf old l new f o pl q =
-      placed-more kind (g .width) (p .x) (p .y) (p .columns) (g .columns) buf old dy l new (f .columns .in-side) pl (rw (o .from, o .n, o .at) at q)
+-- a row of a part
+pub placed-row : (show : ℕ → ℕ) (g : ImageGrid) (p : Part) (dy : ℕ) (r : Run) (buf old l new : List ℕ) → Fits g p → RunOf g p dy r
+    → PlacedRows show g p dy buf old l → Pasted show buf (r .from) (r .n) l (r .at) new → PlacedRows show g p (dy + 1) buf old new
+placed-row show g p dy r buf old l new f o pl q =
+    placed-more show (g .width) (p .x) (p .columns) (g .columns) (λ i. p .y + i) (λ i. i) buf old dy l new (f .columns .in-side) (λ i h e. omega arith) pl
+    (rw (o .from, o .n, o .at) at q)
 
-  module _ (reading : Reading) (sound : Sound g) (s : List ℕ) where
-    -- a block
-    pub block-shown : (b : ℕ) (p : Part) (B : ℕ) (buf old new : List ℕ) → PartOf g b p → B ≡ blockAt s b
-        → ((k : ℕ) → k < 4 * texelsOf (g .footprint) → getD buf k 0 ≡ channelIn reading (g .footprint) kind B k)
-        → Placed kind (g .width) (p .x) (p .y) (p .columns) (p .rows) (g .columns) buf old new
-        → Tile (g .width) (g .height) (g .columns) (g .rows) (b % g .across) (b / g .across) (imageNumberAtIn reading (g .footprint) kind (g .width) s) old new
-    block-shown b p B buf old new o e held pl =
-        let i : b / g .across * g .across + b % g .across ≡ b = div-add-mod' b (g .across) in
-        let j : B ≡ blockAt s (b / g .across * g .across + b % g .across) = e ∙ ap (blockAt s) (sym i) in
-        tile-shown reading kind (g .footprint) (g .width) (g .height) (g .columns) (g .rows) (g .across) (b % g .across) (b / g .across) (p .columns) (p .rows) s buf old new
-        (sound .columns) (sound .rows) (sound .across) (rw (sound .columns) at (sound .columns-least)) (rw (sound .rows) at (sound .rows-least))
-        (rw (o .x) at (o .fits .columns)) (rw (o .y) at (o .fits .rows)) (rw (o .x, o .y) at pl)
-        (λ k h. held k h ∙ ap (λ (n : ℕ). channelIn reading (g .footprint) kind n k) j)
+module _ (kind : Kind) (g : ImageGrid) (reading : Reading) (sound : Sound g) (s : List ℕ) where
+  abbrev number : ℕ → ℕ → ℕ → ℕ
+  number = imageNumberAtIn reading (g .footprint) kind (g .width) s
 
-    -- before the first block
-    pub decoding-start : (old buf : List ℕ) → length buf ≡ 576 → Decoding reading kind g s old old buf (record { count = 0; first = 0; fault = 0 }) 0
-    decoding-start = walking-start (imageNumberAtIn reading (g .footprint) kind (g .width) s) (faultAtIn reading (g .footprint) kind s) 576 g sound
+  abbrev fault : ℕ → ℕ
+  fault = faultAtIn reading (g .footprint) kind s
 
-    -- one block more
-    pub decoding-more : (old l buf : List ℕ) (t : Tally) (b : ℕ) (new buf′ : List ℕ) (t′ : Tally) (e : ℕ) → Decoding reading kind g s old l buf t b
-        → b < g .down * g .across → length new ≡ length l → length buf′ ≡ 576
-        → Tile (g .width) (g .height) (g .columns) (g .rows) (b % g .across) (b / g .across) (imageNumberAtIn reading (g .footprint) kind (g .width) s) l new
-        → e ≡ faultAtIn reading (g .footprint) kind s b → t′ ≡ noted t b e → Decoding reading kind g s old new buf′ t′ (b + 1)
-    decoding-more = walking-more (imageNumberAtIn reading (g .footprint) kind (g .width) s) (faultAtIn reading (g .footprint) kind s) 576 g sound
+  -- a block
+  pub block-shown : (b : ℕ) (p : Part) (B : ℕ) (buf old new : List ℕ) → PartOf g b p → B ≡ blockAt s b
+      → ((k : ℕ) → k < 4 * texelsOf (g .footprint) → getD buf k 0 ≡ channelIn reading (g .footprint) kind B k)
+      → PlacedRows (shownOf kind) g p (p .rows) buf old new → Tile (flatPicture g) b number old new
+  block-shown b p B buf old new o e held pl =
+      let i : b / g .across * g .across + b % g .across ≡ b = div-add-mod' b (g .across) in
+      let j : B ≡ blockAt s (b / g .across * g .across + b % g .across) = e ∙ ap (blockAt s) (sym i) in
+      subst (λ (n : ℕ). Tile (flatPicture g) n number old new) i
+      (tile-shown g sound (b % g .across) (b / g .across) (p .columns) (p .rows) (rw (o .y) at (o .fits .rows)) reading kind s buf old new (mod-lt b (sound .across-least))
+      (rw (o .x) at (o .fits .columns)) (rw (o .x, o .y) at pl) (λ k h. held k h ∙ ap (λ (n : ℕ). channelIn reading (g .footprint) kind n k) j))
 
-    -- after the last
-    pub decoding-done : (old l buf : List ℕ) (t : Tally) (b : ℕ) → length old ≡ 4 * (g .height * g .width) → g .down * g .across ≤ b → Decoding reading kind g s old l buf t b
-        → (t ≡ tallyOf (faultAtIn reading (g .footprint) kind s) (g .down * g .across)) × (l ≡ imageNumbersIn reading (g .footprint) kind (g .width) (g .height) s)
-    unfolding imageNumbersIn
-    decoding-done = walking-done (imageNumberAtIn reading (g .footprint) kind (g .width) s) (faultAtIn reading (g .footprint) kind s) 576 g sound
+  -- before the first block
+  pub decoding-start : (old buf : List ℕ) → length buf ≡ 864 → Decoding reading kind g s old old buf (record { count = 0; first = 0; fault = 0 }) 0
+  decoding-start = walking-start number fault 864 (flatPicture g) (covered g sound)
+
+  -- one block more
+  pub decoding-more : (old l buf : List ℕ) (t : Tally) (b : ℕ) (new buf′ : List ℕ) (t′ : Tally) (e : ℕ) → Decoding reading kind g s old l buf t b
+      → b < g .down * g .across → length new ≡ length l → length buf′ ≡ 864 → Tile (flatPicture g) b number l new
+      → e ≡ fault b → t′ ≡ noted t b e → Decoding reading kind g s old new buf′ t′ (b + 1)
+  decoding-more = walking-more number fault 864 (flatPicture g) (covered g sound)
+
+  -- after the last
+  pub decoding-done : (old l buf : List ℕ) (t : Tally) (b : ℕ) → length old ≡ 4 * (g .height * g .width) → g .down * g .across ≤ b → Decoding reading kind g s old l buf t b
+      → (t ≡ tallyOf fault (g .down * g .across)) × (l ≡ imageNumbersIn reading (g .footprint) kind (g .width) (g .height) s)
+  unfolding imageNumbersIn
+  decoding-done = walking-done number fault 864 (flatPicture g) (covered g sound)

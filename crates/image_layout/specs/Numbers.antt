@@ -30,9 +30,10 @@ faultAtIn reading fp kind s b = faultIn reading (takesHdr kind) fp (blockAt s b)
 abbrev pub faultAt : ℕ → Kind → List ℕ → ℕ → ℕ
 faultAt fp kind s b = faultAtIn Ordinary fp kind s b
 
--- channel c of the texel in column x of row y of an image w texels wide: what that texel's block shows at its place in the block
+-- channel c of the texel in column x of row y of an image w texels wide: what that texel's block shows at its place in the
+-- block, which is one layer thick
 unfoldable pub imageNumberAtIn : Reading → ℕ → Kind → ℕ → List ℕ → ℕ → ℕ → ℕ → ℕ
-imageNumberAtIn reading fp kind w s x y c = numberAtIn reading fp kind (blockAt s (blockIndex fp w x y)) (x % widthOf fp) (y % heightOf fp) c
+imageNumberAtIn reading fp kind w s x y c = numberAtIn reading fp kind (blockAt s (blockIndex fp w x y)) (x % widthOf fp) (y % heightOf fp) 0 c
 
 abbrev pub imageNumberAt : ℕ → Kind → ℕ → List ℕ → ℕ → ℕ → ℕ → ℕ
 imageNumberAt fp kind w s x y c = imageNumberAtIn Ordinary fp kind w s x y c

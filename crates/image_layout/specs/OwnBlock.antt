@@ -11,13 +11,10 @@ use Rattle.interpolation.specs.declared.Kind.{Kind}
 use Rattle.block_reading.specs.declared.Reading.{Reading}
 use Rattle.one_block.specs.Calls.{blockOutIn}
 use Rattle.image_size.specs.Sides.{blocksOf}
+use Rattle.picture_regions.specs.Picture.{place}
 use Rattle.image_layout.specs.Geometry.{blockIndex}
 use Rattle.image_layout.specs.Numbers.{blockBytes}
 use Rattle.image_layout.specs.Call.{imageRefusal, imageOutIn}
-
--- where channel c of the texel in column x and row y stands, in rows of w texels
-abbrev pub place : ℕ → ℕ → ℕ → ℕ → ℕ
-place w x y c = 4 * (y * w + x) + c
 
 -- at every place of every image that a call takes
 pub record OwnBlock (reading : Reading) (fp : ℕ) (kind : Kind) (w h x y c : ℕ) : Type 0 where

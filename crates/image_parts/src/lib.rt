@@ -1,4 +1,5 @@
-// The parts of an image that its blocks cover, and a block of its bytes: for every format whose blocks are of sixteen bytes.
+// The parts of an image that its blocks cover, and a block of its bytes: for every format whose blocks are of sixteen bytes. The copying of a
+// block's numbers, for flat pictures and volumes.
 use bits::PhysicalBlock;
 use image_layout::ImageGrid;
 use image_layout::Part;
@@ -8,12 +9,15 @@ ghost use Prim.Native.Nat.{_+_, _*_, _≤_, _<_};
 ghost use lib.ListN.{length};
 ghost use Rattle.bits.specs.Block.{blockNumber};
 ghost use Rattle.image_layout.specs.Numbers.{blockAt};
-ghost use Rattle.image_layout.proofs.Regions.{Cropped};
+ghost use Rattle.interpolation.specs.Expansion.{shownOf};
+ghost use Rattle.interpolation.specs.declared.Kind.the-variants.{Unorm16, Srgb8};
+ghost use Rattle.picture_regions.proofs.Regions.{Pasted};
+ghost use Rattle.picture_regions.proofs.Blocks.{Cropped};
 ghost use Rattle.image_layout.proofs.Calls.{Sound};
-ghost use Rattle.image_layout.proofs.Parts.{Fits, PartOf, RunOf};
+ghost use Rattle.image_layout.proofs.Parts.{Fits, PartOf, RunOf, RunFits};
 
 // How many of n places from `at` on are within a side.
-fn crop(side: usize, at: usize, n: usize) -> usize
+pub fn crop(side: usize, at: usize, n: usize) -> usize
     requires { ⌜ at < side ⌝ }
     ensures { λ r. ⌜ Cropped side at n r ⌝ }
 {
@@ -64,4 +68,35 @@ pub fn block_of(s: &[u8], b: usize) -> PhysicalBlock
 {
     let at = 16 * b;
     bits::load(&s[at..at + 16])
+}
+
+// Room for the numbers of the largest block.
+pub fn blank() -> [u16; 864]
+    ensures { λ r. ⌜ length r ≡ 864 ⌝ }
+{
+    [0u16; 864]
+}
+
+// Copies a run of a block's numbers.
+pub fn copy_numbers(src: &[u16; 864], r: Run, out: &mut [u16])
+    requires { ⌜ RunFits r 864 (length (now out)) ⌝ }
+    ensures { λ _. ⌜ Pasted (shownOf Unorm16) (now (src .entry)) (r .from) (r .n) (now (out .entry)) (r .at) (now (out .exit)) ⌝ }
+{
+    let from = r.from;
+    let at = r.at;
+    for i in 0..r.n {
+        out[at + i] = src[from + i];
+    }
+}
+
+// Copies the top bytes of a run of a block's numbers.
+pub fn copy_bytes(src: &[u16; 864], r: Run, out: &mut [u8])
+    requires { ⌜ RunFits r 864 (length (now out)) ⌝ }
+    ensures { λ _. ⌜ Pasted (shownOf Srgb8) (now (src .entry)) (r .from) (r .n) (now (out .entry)) (r .at) (now (out .exit)) ⌝ }
+{
+    let from = r.from;
+    let at = r.at;
+    for i in 0..r.n {
+        out[at + i] = interpolation::top_byte(src[from + i]);
+    }
 }

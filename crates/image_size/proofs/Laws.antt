@@ -10,7 +10,7 @@ use lib.Dec.{ltb}
 use borrow.Author.Tests.{eq-eqb, ne-eqb, lt-ltb, le-ltb}
 use Rattle.laws.specs.Choice.{pick, either}
 use Rattle.footprint.specs.Footprint.{widthOf, heightOf}
-use Rattle.footprint.proofs.Laws.{bounds}
+use Rattle.footprint.proofs.Laws.{flat-bounds}
 use Rattle.image_size.specs.Sides.{sideLimit, badSide, sizeRefusal, blocksAcross, blocksOf}
 
 -- whatever is proved of an image holds up to this side: counts, indices and byte positions do not wrap
@@ -91,7 +91,7 @@ pub blocks-pos : (fp w h : ℕ) → sizeRefusal fp w h ≡ 0 → 0 < blocksOf fp
 unfolding blocksOf
 blocks-pos fp w h e =
     let s = sized fp w h e in
-    let b = bounds fp (let k = s .footprint in omega arith) in
+    let b = flat-bounds fp (let k = s .footprint in omega arith) in
     product-pos _ _ (across-pos h (heightOf fp) (let k = b .height-least in omega arith) (side-fine h (s .high) .0))
     (across-pos w (widthOf fp) (let k = b .width-least in omega arith) (side-fine w (s .wide) .0))
 

@@ -11,7 +11,7 @@ use Rattle.image_size.specs.Sides.{sizeRefusal, blocksOf}
 use Rattle.image_size.proofs.Laws.{fine}
 use Rattle.image_layout.specs.Numbers.{imageNumberAt}
 use Rattle.image_layout.specs.Call.{imageRefusal, imageOut}
-use Rattle.image_layout.specs.OwnBlock.{place}
+use Rattle.picture_regions.specs.Picture.{place}
 use Rattle.block_reading.specs.declared.Reading.the-variants.{Ordinary}
 use Rattle.image_layout.proofs.Calls.{accept, decoded-out}
 use Rattle.image_layout.proofs.Independence.{index-in, number-of}

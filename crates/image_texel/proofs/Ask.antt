@@ -21,7 +21,7 @@ use Rattle.texel.specs.BlockTexel.{blockTexel}
 use Rattle.block_reading.specs.Shown.{numberAtIn}
 use Rattle.image_size.specs.Sides.{sideLimit, badSide, sizeRefusal, blocksAcross, blocksOf}
 use Rattle.image_size.proofs.Laws.{limit-le, sized, side-fine, across-le, product-most}
-use Rattle.footprint.proofs.Laws.{bounds}
+use Rattle.footprint.proofs.Laws.{flat-bounds}
 use Rattle.image_layout.specs.Geometry.{blockIndex}
 use Rattle.image_layout.proofs.Independence.{index-in}
 use Rattle.image_layout.specs.Numbers.{blockAt, faultAt, faultAtIn, imageNumberAtIn}
@@ -98,7 +98,7 @@ blocks-most : (fp w h : ℕ) → sizeRefusal fp w h ≡ 0 → blocksOf fp w h �
 unfolding blocksOf
 blocks-most fp w h e =
     let s = sized fp w h e in
-    let b = bounds fp (let k = s .footprint in omega arith) in
+    let b = flat-bounds fp (let k = s .footprint in omega arith) in
     product-most (blocksAcross h (heightOf fp)) (blocksAcross w (widthOf fp))
     (omega (arith, across-le h (heightOf fp) (let k = b .height-least in omega arith), side-fine h (s .high) .1, limit-le))
     (omega (arith, across-le w (widthOf fp) (let k = b .width-least in omega arith), side-fine w (s .wide) .1, limit-le))
@@ -113,21 +113,23 @@ pub record Bounded (columns rows across w bytes x y : ℕ) : Type 0 where
   pub room : 16 * (y / rows * across + x / columns) + 16 ≤ bytes
 
 module _ (fp w h bytes : ℕ) (e : viewRefusal fp w h bytes ≡ 0) where
+  -- its footprint is flat
+  pub flat-blocks : fp < 14
+  flat-blocks = let k = sized fp w h (taken fp w h bytes e .size) .footprint in omega arith
+
   pub wide-fine : {columns : ℕ} → columns ≡ widthOf fp → (0 < columns) × (w ≤ 16384)
   wide-fine ec =
       let s = sized fp w h (taken fp w h bytes e .size) in
-      let b = bounds fp (let k = s .footprint in omega arith) in
+      let b = flat-bounds fp flat-blocks in
       (omega (arith, b .width-least), omega (arith, side-fine w (s .wide) .1, limit-le))
 
   pub bounded : (x y : ℕ) {columns rows across : ℕ} → x < w → y < h → columns ≡ widthOf fp → rows ≡ heightOf fp → across ≡ blocksAcross w columns → Bounded columns rows across w bytes x y
   bounded x y {columns} {rows} {across} hx hy ec er ea =
       let t = taken fp w h bytes e in
-      let s = sized fp w h (t .size) in
-      let f : fp < 14 = let k = s .footprint in omega arith in
-      let b = bounds fp f in
+      let b = flat-bounds fp flat-blocks in
       let p : 0 < columns = omega (arith, b .width-least) in
       let q : 0 < rows = omega (arith, b .height-least) in
-      let i : y / rows * across + x / columns < blocksOf fp w h = rw (index-is fp w x y {columns = columns} {rows = rows} {across = across} ec er ea refl) (index-in fp Unorm16 w h x y 0 hx hy (omega arith) f) in
+      let i : y / rows * across + x / columns < blocksOf fp w h = rw (index-is fp w x y {columns = columns} {rows = rows} {across = across} ec er ea refl) (index-in fp Unorm16 w h x y 0 hx hy (omega arith) flat-blocks) in
       record {
         columns-most = omega (arith, b .width-most);
         rows-most = omega (arith, b .height-most);
@@ -188,7 +190,7 @@ fits-none kind a e = rw e (record { bytes = λ q. (omega arith, omega arith, ome
 
 -- each channel of a block's texel as the picture has it
 shown-as : (fp : ℕ) (kind : Kind) (w : ℕ) (s : List ℕ) (x y : ℕ)
-    → shownTexel kind (blockTexel fp kind (blockAt s (blockIndex fp w x y)) (x % widthOf fp) (y % heightOf fp)) ≡ askedIn fp w s kind x y .texel
+    → shownTexel kind (blockTexel fp kind (blockAt s (blockIndex fp w x y)) (x % widthOf fp) (y % heightOf fp) 0) ≡ askedIn fp w s kind x y .texel
 unfolding shownTexel askedIn imageNumberAtIn numberAtIn shownChannel channel
 shown-as fp kind w s x y = refl
 

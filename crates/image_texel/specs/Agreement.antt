@@ -10,7 +10,7 @@ use Rattle.image_size.specs.Sides.{blocksOf}
 use Rattle.image_layout.specs.Geometry.{blockIndex}
 use Rattle.image_layout.specs.Numbers.{faultAt}
 use Rattle.image_layout.specs.Call.{imageOut}
-use Rattle.image_layout.specs.OwnBlock.{place}
+use Rattle.picture_regions.specs.Picture.{place}
 use Rattle.image_texel.specs.Asking.{askedAt}
 
 -- at a place of a picture that a picture call takes, with `old` in the call's buffer

@@ -97,7 +97,7 @@ pub fn put_texel(
     width: u8,
     k: usize,
     kind: Kind,
-    numbers: &[u16; 576],
+    numbers: &[u16; 864],
 ) -> usize
     requires { ⌜ (at + 36 ≤ length (now out)) × (k < 144) × (0 < width) ⌝ }
     ensures { λ r. ⌜ r ≤ at + 36 ⌝ }

@@ -76,7 +76,7 @@ module _ (reading : Reading) (kind : Kind) (fp : ℕ) (s old : List ℕ) (b : By
   pub told : answerFor (faultIn reading (takesHdr kind) fp B) ≡ blockAnswerIn reading kind fp s (length old)
   told = ap (λ (x : ℕ). answerFor (faultIn reading (takesHdr kind) fp x)) number ∙ answered reading kind fp s old e
 
-  pub copied : (buffer : List ℕ) (show : ℕ → ℕ) → ((x : ℕ) → show x ≡ shownOf kind x) → (start : List ℕ) → length start ≡ 576 → buffer ≡ intoIn reading fp kind B start
+  pub copied : (buffer : List ℕ) (show : ℕ → ℕ) → ((x : ℕ) → show x ≡ shownOf kind x) → (start : List ℕ) → length start ≡ 864 → buffer ≡ intoIn reading fp kind B start
       → tab (λ k. show (getD buffer k 0)) (length old) ≡ blockOutIn reading kind fp s old
   unfolding numbersIn
   copied buffer show same start size into =

@@ -12,8 +12,8 @@ ghost use Rattle.one_block.specs.Calls.{blockAnswer, blockTold, blockOut
 ghost use Rattle.block_reading.specs.declared.Reading.the-variants.{Strict};
 
 // The first numbers of the buffer, as they stand.
-fn copy_words(from: &[u16; 576], out: &mut [u16])
-    requires { ⌜ length (now out) ≤ 576 ⌝ }
+fn copy_words(from: &[u16; 864], out: &mut [u16])
+    requires { ⌜ length (now out) ≤ 864 ⌝ }
     ensures { λ r. ⌜ now (out .exit) ≡ tab (λ k. getD (now (from .entry)) k 0) (length (now (out .entry))) ⌝ }
 {
     let mut k: usize = 0;
@@ -24,8 +24,8 @@ fn copy_words(from: &[u16; 576], out: &mut [u16])
 }
 
 // The first numbers of the buffer, their top bytes.
-fn copy_bytes(from: &[u16; 576], out: &mut [u8])
-    requires { ⌜ length (now out) ≤ 576 ⌝ }
+fn copy_bytes(from: &[u16; 864], out: &mut [u8])
+    requires { ⌜ length (now out) ≤ 864 ⌝ }
     ensures { λ r. ⌜ now (out .exit) ≡ tab (λ k. getD (now (from .entry)) k 0 / 256) (length (now (out .entry))) ⌝ }
 {
     let mut i: usize = 0;
@@ -46,9 +46,16 @@ fn show_words(reading: Reading, n: u8, fp: u8, kind: Kind, block: &[u8], out: &m
     if n != 0 {
         return Answer::Refused(n);
     }
-    let mut buffer = [0u16; 576];
+    let mut buffer = [0u16; 864];
     let b = bits::load(block);
-    let fault = strict_block::decode_in(reading, b, fp, kind, &mut buffer);
+    let fault = strict_block::decode_in(
+        reading,
+        b,
+        fp,
+        footprint::is_volume(fp),
+        kind,
+        &mut buffer,
+    );
     copy_words(&buffer, out);
     block_answer::answer_for(fault)
 }
@@ -83,9 +90,16 @@ fn show_bytes(reading: Reading, n: u8, fp: u8, block: &[u8], out: &mut [u8]) -> 
     if n != 0 {
         return Answer::Refused(n);
     }
-    let mut buffer = [0u16; 576];
+    let mut buffer = [0u16; 864];
     let b = bits::load(block);
-    let fault = strict_block::decode_in(reading, b, fp, Kind::Srgb8, &mut buffer);
+    let fault = strict_block::decode_in(
+        reading,
+        b,
+        fp,
+        footprint::is_volume(fp),
+        Kind::Srgb8,
+        &mut buffer,
+    );
     copy_bytes(&buffer, out);
     block_answer::answer_for(fault)
 }

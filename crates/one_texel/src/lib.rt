@@ -6,11 +6,12 @@ use block_fault::Verdict;
 use interpolation::Kind;
 use interpolation::Texel;
 ghost use mathlib.Core.Path.{_≡_};
+ghost use mathlib.Core.Bool.{false};
 ghost use Prim.Native.Nat.{_≤_, _<_};
 ghost use lib.Dec.{eqb};
 ghost use Rattle.laws.specs.Choice.{pick};
 ghost use Rattle.bits.specs.Block.{blockNumber};
-ghost use Rattle.footprint.specs.Footprint.{widthOf, heightOf};
+ghost use Rattle.footprint.specs.Footprint.{widthOf, heightOf, isVolume};
 ghost use Rattle.partition.specs.inner.Seeds.{selectBy, seedsOf};
 ghost use Rattle.block_mode.specs.Back2D.{Limits};
 ghost use Rattle.block_header.specs.Counts.{weightCount, endpointCount, endpointRangeOf};
@@ -34,14 +35,15 @@ fn partition_of(index: u16, partitions: u8, small: bool, x: u8, y: u8) -> u16
     partition::partition_at(partition::partition_seeds(index, partitions, small), x, y)
 }
 
-// The texel at x, y of a coded block.
+// The texel at x, y of a flat coded block.
 fn coded_texel(block: PhysicalBlock, s: Settings, fp: u8, kind: Kind, x: u8, y: u8) -> Texel
     requires { ⌜ (weightCount (s .header .grid) ≤ 64) × (endpointCount (s .header) ≤ 18) ⌝ }
     requires { ⌜ (s .numbers ≡ endpointCount (s .header)) × (s .range ≡ endpointRangeOf (s .header)) ⌝ }
     requires { ⌜ Limits (s .header .grid) ⌝ }
+    requires { ⌜ (isVolume fp ≡ false) × (s .header .grid .depth ≡ 1) ⌝ }
     requires { ⌜ 1 ≤ s .header .partitions ⌝ }
     requires { ⌜ (x < widthOf fp) × (y < heightOf fp) ⌝ }
-    ensures { λ r. ⌜ r ≡ texelFrom fp kind (s .header) (endpointAt (blockNumber block) (s .header)) (weightAt (blockNumber block) (s .header)) x y ⌝ }
+    ensures { λ r. ⌜ r ≡ texelFrom fp kind (s .header) (endpointAt (blockNumber block) (s .header)) (weightAt (blockNumber block) (s .header)) x y 0 ⌝ }
 {
     let h = s.header;
     let g = h.grid;
@@ -65,12 +67,13 @@ fn coded_texel(block: PhysicalBlock, s: Settings, fp: u8, kind: Kind, x: u8, y: 
     )
 }
 
-// A block's fault and its texel at x, y.
+// A flat block's fault and its texel at x, y.
 pub fn texel_of(block: PhysicalBlock, fp: u8, kind: Kind, x: u8, y: u8) -> OneTexel
+    requires { ⌜ fp < 14 ⌝ }
     requires { ⌜ (x < widthOf fp) × (y < heightOf fp) ⌝ }
     ensures { λ r. ⌜ r ≡ oneTexel fp kind (blockNumber block) x y ⌝ }
 {
-    let s = block_fault::read_settings(interpolation::takes_hdr(kind), block, fp);
+    let s = block_fault::read_settings(interpolation::takes_hdr(kind), false, block, fp);
     let v = s.verdict;
     match v {
         Verdict::Fault(n) => OneTexel {

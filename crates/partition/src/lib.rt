@@ -2,6 +2,7 @@
 ghost use mathlib.Core.Path.{_≡_};
 ghost use mathlib.Core.Bool.{Bool};
 ghost use Prim.Native.Nat.{ℕ, _+_, _*_, _%_, _<_, _≤_, max};
+ghost use lib.Dec.{eqb};
 ghost use Rattle.laws.specs.Choice.{pick};
 ghost use Rattle.laws.specs.Table.{tab};
 ghost use Rattle.partition.specs.Hash.{hashOf};
@@ -240,6 +241,17 @@ pub fn partition_row(s: Seeds, y: u8) -> [u16; 16]
         x += 1;
     }
     out
+}
+
+// The same where there may be one partition only: then all are 0, and nothing is asked.
+pub fn row_partitions(s: Seeds, partitions: u8, y: u8) -> [u16; 16]
+    ensures { λ r. ⌜ r ≡ tab (λ x. pick (eqb partitions 1) 0 (selectBy s x y)) 16 ⌝ }
+{
+    if partitions == 1 {
+        [0u16; 16]
+    } else {
+        partition_row(s, y)
+    }
 }
 
 // The shift of the seeds that z counts.

@@ -1,6 +1,6 @@
 // Runs of the reader. Each record of standard input is a footprint and a block. For each a line "refused N" or "fault N", or the
-// symbolic block's fields in 01's order and its HDR mark, "spare", how many bits are spare and 1 where any is set, then "block" and the
-// sixteen bytes that are written for it, and whether they show the same texels in kind 2.
+// symbolic block's fields in 01's order, its HDR mark, the grid's depth and the last two extents, "spare", how many bits are spare and 1
+// where any is set, then "block" and the sixteen bytes that are written for it, and whether they show the same texels in kind 2.
 use block_answer::Answer;
 use encoding::Stored;
 use libc::STDIN_FILENO;
@@ -65,7 +65,7 @@ fn fields(s: SymbolicBlock) {
     let colours = s.colours;
     words(colours);
     let extents = s.extents;
-    words(extents);
+    words([extents[0], extents[1], extents[2], extents[3]]);
     byte(s.width);
     byte(s.height);
     byte(s.range);
@@ -81,6 +81,9 @@ fn fields(s: SymbolicBlock) {
     let w = s.weights;
     weights(w);
     byte(s.hdr);
+    byte(s.depth);
+    next(extents[4]);
+    next(extents[5]);
 }
 
 fn all(bytes: [u8; 16]) {
@@ -92,16 +95,16 @@ fn all(bytes: [u8; 16]) {
     }
 }
 
-fn shown(fp: u8, block: &[u8]) -> [u16; 576] {
-    let mut numbers = [0u16; 576];
+fn shown(fp: u8, block: &[u8]) -> [u16; 864] {
+    let mut numbers = [0u16; 864];
     let n = 4 * (footprint::texels(fp) as usize);
     one_block::decode_float16(fp, block, &mut numbers[..n]);
     numbers
 }
 
-fn equal(a: [u16; 576], b: [u16; 576]) -> bool {
+fn equal(a: [u16; 864], b: [u16; 864]) -> bool {
     let mut i: usize = 0;
-    while i < 576 {
+    while i < 864 {
         if a[i] != b[i] {
             return false;
         }

@@ -14,7 +14,7 @@ use Rattle.laws.specs.Table.{tab}
 use Rattle.laws.proofs.Filling.{tab-ext}
 use Rattle.bits.specs.Block.{numberOf, bytesOf}
 use Rattle.bits.proofs.Blocks.{number-bytes, bytes-length}
-use Rattle.footprint.specs.Footprint.{widthOf, texelsOf}
+use Rattle.footprint.specs.Footprint.{widthOf, heightOf, texelsOf}
 use Rattle.interpolation.specs.declared.Kind.{Kind}
 use Rattle.interpolation.specs.declared.Kind.the-variants.{Float16}
 use Rattle.interpolation.specs.Expansion.{takesHdr}
@@ -49,14 +49,14 @@ use Rattle.round_trip.specs.Demand.{FineIn, roundTripOf, pictureNumbers,
 -- ---- refusals
 
 module _ (fp : ℕ) (s : SymbolicBlock) where
-  footprint-first : (void : Bool) → reasonAt (pick void (voidRefusals fp s) (modeRefusals fp s)) 0 .holds ≡ false → ltb 13 fp ≡ false
+  footprint-first : (void : Bool) → reasonAt (pick void (voidRefusals fp s) (modeRefusals fp s)) 0 .holds ≡ false → ltb 23 fp ≡ false
   unfolding voidRefusals modeRefusals unknownFootprint
   footprint-first true e = e
   footprint-first false e = e
 
-  pub known : Acceptable fp s → fp ≤ 13
+  pub known : Acceptable fp s → fp ≤ 23
   unfolding refusals
-  known a = ltb-false 13 fp (footprint-first (eqb (s .mark) 1) (demand-3 .refused-exactly fp s .0 a 0))
+  known a = ltb-false 23 fp (footprint-first (eqb (s .mark) 1) (demand-3 .refused-exactly fp s .0 a 0))
 
   -- a reason that holds
   not-acceptable : (i : ℕ) → reasonAt (refusals fp s) i .holds ≡ true → Acceptable fp s → ⊥
@@ -77,11 +77,11 @@ module _ (fp : ℕ) (s : SymbolicBlock) where
 -- ---- a block without fault
 
 module _ (fp : ℕ) (block : List ℕ) (h : Sound fp block) where
-  sound-in : readingIn fp (numberOf block) ≡ done (numberOf block) (readBlock (numberOf block))
+  sound-in : readingIn fp (numberOf block) ≡ done (numberOf block) (readBlock fp (numberOf block))
   unfolding readingIn
   sound-in = rw (eq-eqb _ _ (h .no-fault))
 
-  pub sound-read : readingOf fp block ≡ done (numberOf block) (readBlock (numberOf block))
+  pub sound-read : readingOf fp block ≡ done (numberOf block) (readBlock fp (numberOf block))
   sound-read = sym (reader.passed-reading fp block (sym (reader.accepted fp _ (h .known) (h .sixteen)))) ∙ sound-in
 
   module _ (old : List ℕ) (size : length old ≡ 4 * texelsOf fp) where
@@ -98,30 +98,30 @@ module _ (fp : ℕ) (block : List ℕ) (h : Sound fp block) where
 -- ---- an acceptable symbolic block
 
 module _ (fp : ℕ) (s : SymbolicBlock) (z : Sized s) (a : Acceptable fp s) where
-  pub bytes-are : writingOf fp s .bytes ≡ bytesOf 16 (blockOf s)
+  pub bytes-are : writingOf fp s .bytes ≡ bytesOf 16 (blockOf fp s)
   bytes-are = ap (λ (w : Writing). w .bytes) (sym (writer.written fp s a))
 
-  pub number : numberOf (writingOf fp s .bytes) ≡ blockOf s
-  number = ap numberOf bytes-are ∙ number-bytes 16 (blockOf s) ∙ mod-eq-of-lt (demand-3 .written-fits fp s z a)
+  pub number : numberOf (writingOf fp s .bytes) ≡ blockOf fp s
+  number = ap numberOf bytes-are ∙ number-bytes 16 (blockOf fp s) ∙ mod-eq-of-lt (demand-3 .written-fits fp s z a)
 
   pub sound : Sound fp (writingOf fp s .bytes)
   sound = record {
     known = known fp s a;
-    sixteen = ap (λ (l : List ℕ). length l) bytes-are ∙ bytes-length 16 (blockOf s);
+    sixteen = ap (λ (l : List ℕ). length l) bytes-are ∙ bytes-length 16 (blockOf fp s);
     no-fault = ap (faultOf true fp) number ∙ demand-3 .written-no-fault fp s z a;
   }
 
   -- the reader tells what was written
-  pub back : readingOf fp (writingOf fp s .bytes) ≡ done (blockOf s) s
-  back = sound-read fp _ sound ∙ ap (λ (B : ℕ). done B (readBlock B)) number ∙ ap (done (blockOf s)) (demand-3 .written-reads-back fp s z a)
+  pub back : readingOf fp (writingOf fp s .bytes) ≡ done (blockOf fp s) s
+  back = sound-read fp _ sound ∙ ap (λ (B : ℕ). done B (readBlock fp B)) number ∙ ap (done (blockOf fp s)) (demand-3 .written-reads-back fp s z a)
 
   -- its fault in a kind is that of the definition's block
-  in-kind : (kind : Kind) → faultOf (takesHdr kind) fp (numberOf (writingOf fp s .bytes)) ≡ faultOf (takesHdr kind) fp (blockOf s)
+  in-kind : (kind : Kind) → faultOf (takesHdr kind) fp (numberOf (writingOf fp s .bytes)) ≡ faultOf (takesHdr kind) fp (blockOf fp s)
   in-kind kind = ap (faultOf (takesHdr kind) fp) number
 
-  numbers : (kind : Kind) → faultOf (takesHdr kind) fp (blockOf s) ≡ 0 → blockNumbers fp kind (blockOf s) ≡ pictureNumbers fp kind s
+  numbers : (kind : Kind) → faultOf (takesHdr kind) fp (blockOf fp s) ≡ 0 → blockNumbers fp kind (blockOf fp s) ≡ pictureNumbers fp kind s
   unfolding blockNumbers blockChannel blockNumberAt shownChannel pictureNumbers
-  numbers kind k = tab-ext _ _ 0 (4 * texelsOf fp) (λ i p. demand-3 .written-shows-numbers fp s z a kind k (i / 4 % widthOf fp) (i / 4 / widthOf fp) (i % 4))
+  numbers kind k = tab-ext _ _ 0 (4 * texelsOf fp) (λ i p. demand-3 .written-shows-numbers fp s z a kind k (i / 4 % widthOf fp) (i / 4 / widthOf fp % heightOf fp) (i / 4 / widthOf fp / heightOf fp) (i % 4))
 
   picture : (kind : Kind) → FineIn kind fp (writingOf fp s .bytes) → (old : List ℕ) → length old ≡ 4 * texelsOf fp
       → blockOut kind fp (writingOf fp s .bytes) old ≡ pictureNumbers fp kind s
@@ -177,28 +177,28 @@ together kind fp s numbers w r a e f g =
 -- ---- a block read and written anew
 
 module _ (kind : Kind) (fp : ℕ) (block old old2 out again : List ℕ) (h : Sound fp block) where
-  same-numbers : FineIn kind fp block → blockNumbers fp kind (blockOf (readBlock (numberOf block))) ≡ blockNumbers fp kind (numberOf block)
+  same-numbers : FineIn kind fp block → blockNumbers fp kind (blockOf fp (readBlock fp (numberOf block))) ≡ blockNumbers fp kind (numberOf block)
   unfolding blockNumbers blockChannel blockNumberAt shownChannel
   same-numbers k =
       tab-ext _ _ 0 (4 * texelsOf fp)
-      (λ i p. demand-3 .rewritten-shows-numbers fp (numberOf block) (h .known) kind k (i / 4 % widthOf fp) (i / 4 / widthOf fp) (i % 4))
+      (λ i p. demand-3 .rewritten-shows-numbers fp (numberOf block) (h .known) kind k (i / 4 % widthOf fp) (i / 4 / widthOf fp % heightOf fp) (i / 4 / widthOf fp / heightOf fp) (i % 4))
 
-  rewritten-done : out ≡ blockOut kind fp block old → again ≡ blockOut kind fp (writingOf fp (readBlock (numberOf block)) .bytes) old2
-      → Rewritten kind fp block old old2 (rewriting kind fp block (length old) (length old2) (done (numberOf block) (readBlock (numberOf block)))) out again
+  rewritten-done : out ≡ blockOut kind fp block old → again ≡ blockOut kind fp (writingOf fp (readBlock fp (numberOf block)) .bytes) old2
+      → Rewritten kind fp block old old2 (rewriting kind fp block (length old) (length old2) (done (numberOf block) (readBlock fp (numberOf block)))) out again
   rewritten-done e f =
       let B = numberOf block in
       let z = demand-3 .read-sized fp B (h .no-fault) in
       let a = demand-3 .read-acceptable fp B (h .known) (h .no-fault) in
-      let again-in : FineIn kind fp block → FineIn kind fp (writingOf fp (readBlock B) .bytes) =
-      (λ k. in-kind fp (readBlock B) z a kind ∙ demand-3 .rewritten-kinds fp B (h .known) (h .no-fault) kind ∙ k) in record {
+      let again-in : FineIn kind fp block → FineIn kind fp (writingOf fp (readBlock fp B) .bytes) =
+      (λ k. in-kind fp (readBlock fp B) z a kind ∙ demand-3 .rewritten-kinds fp B (h .known) (h .no-fault) kind ∙ k) in record {
         read = refl;
         reads-as = demand-3 .reads-as fp B (h .no-fault);
         reads-as-one = λ s y r. demand-3 .reads-as-one fp B s (h .no-fault) y r;
         acceptable = a;
-        written = accepted-answer fp (readBlock B) a;
+        written = accepted-answer fp (readBlock fp B) a;
         shown = λ k size. sound-answer fp block h old size kind k;
-        shown-again = λ k size. sound-answer fp _ (sound fp (readBlock B) z a) old2 size kind (again-in k);
-        same-shown = λ k size size2. f ∙ sound-out fp _ (sound fp (readBlock B) z a) old2 size2 kind ∙ ap (blockNumbers fp kind) (number fp (readBlock B) z a)
+        shown-again = λ k size. sound-answer fp _ (sound fp (readBlock fp B) z a) old2 size kind (again-in k);
+        same-shown = λ k size size2. f ∙ sound-out fp _ (sound fp (readBlock fp B) z a) old2 size2 kind ∙ ap (blockNumbers fp kind) (number fp (readBlock fp B) z a)
             ∙ same-numbers k ∙ sym (e ∙ sound-out fp block h old size kind);
         kinds-ldr = λ q. demand-3 .read-kinds-ldr fp B (h .no-fault) q kind;
         kinds-hdr = λ q. demand-3 .read-kinds-hdr fp B (h .no-fault) q kind;

@@ -15,6 +15,7 @@ use Rattle.interpolation.specs.declared.Kind.{Kind}
 use Rattle.interpolation.specs.declared.Kind.the-variants.{Unorm16, Float16}
 use Rattle.interpolation.specs.Expansion.{takesHdr}
 use Rattle.block_fault.specs.Faults.{faultOf}
+use Rattle.texel.specs.BlockTexel.{inRow}
 use Rattle.block_answer.specs.declared.Answer.the-variants.{Refused, Done}
 use Rattle.one_block.specs.Calls.{blockAnswer}
 use Rattle.symbolic_block.specs.declared.SymbolicBlock.{SymbolicBlock}
@@ -48,7 +49,7 @@ roundTripOf kind fp s numbers = record {
 -- the picture's numbers in the order of a result buffer: "Channels are R, G, B, A, rows first"
 unfoldable pub pictureNumbers : ℕ → Kind → SymbolicBlock → List ℕ
 unfolding tab pictureNumber
-pictureNumbers fp kind s = tab (λ k. pictureNumber fp kind s (k / 4 % widthOf fp) (k / 4 / widthOf fp) (k % 4)) (4 * texelsOf fp)
+pictureNumbers fp kind s = tab (λ k. inRow fp (pictureNumber fp kind s) (k / 4 % widthOf fp) (k / 4 / widthOf fp) (k % 4)) (4 * texelsOf fp)
 
 -- of an acceptable symbolic block
 pub record Kept (kind : Kind) (fp : ℕ) (s : SymbolicBlock) (old : List ℕ) (r : RoundTrip) (out : List ℕ) : Type 0 where
@@ -94,7 +95,7 @@ rewritingOf kind fp block numbers numbers2 = rewriting kind fp block numbers num
 
 -- sixteen bytes that are a block without fault
 pub record Sound (fp : ℕ) (block : List ℕ) : Type 0 where
-  pub known : fp ≤ 13
+  pub known : fp ≤ 23
   pub sixteen : length block ≡ 16
   pub no-fault : faultOf true fp (numberOf block) ≡ 0
 
@@ -102,8 +103,8 @@ pub record Sound (fp : ℕ) (block : List ℕ) : Type 0 where
 pub record Rewritten (kind : Kind) (fp : ℕ) (block old old2 : List ℕ) (r : Rewriting) (out again : List ℕ) : Type 0 where
   -- it reads as the symbolic block that the reader tells, and as no other
   pub read : r .reading .answer ≡ Done
-  pub reads-as : ReadsAs (numberOf block) (r .reading .block)
-  pub reads-as-one : (s : SymbolicBlock) → Sized s → ReadsAs (numberOf block) s → s ≡ r .reading .block
+  pub reads-as : ReadsAs fp (numberOf block) (r .reading .block)
+  pub reads-as-one : (s : SymbolicBlock) → Sized s → ReadsAs fp (numberOf block) s → s ≡ r .reading .block
   -- this is acceptable, and written
   pub acceptable : Acceptable fp (r .reading .block)
   pub written : r .writing .answer ≡ Done

@@ -95,7 +95,7 @@ samples =
     -- "Footprint width 8, grid 8, s = 7: column 7, fraction 0." Footprint 7 is 8x8.
     ∷ sample (widthOf 7 ∷ gridPlace (scaleOf (widthOf 7)) 7 8 / 16 ∷ gridPlace (scaleOf (widthOf 7)) 7 8 % 16 ∷ []) (8 ∷ 7 ∷ 0 ∷ [])
     -- "The program's block above, texel 0,0, kind 0: 21504, 21504, 21504, 65535." Footprint 0 is 4x4.
-    ∷ sample (map (blockNumberAt 0 Unorm16 programBlock 0 0) (0 ∷ 1 ∷ 2 ∷ 3 ∷ [])) (21504 ∷ 21504 ∷ 21504 ∷ 65535 ∷ [])
+    ∷ sample (map (blockNumberAt 0 Unorm16 programBlock 0 0 0) (0 ∷ 1 ∷ 2 ∷ 3 ∷ [])) (21504 ∷ 21504 ∷ 21504 ∷ 65535 ∷ [])
     -- "All-zero block: 11."
     ∷ sample (faultOf false 0 0 ∷ []) (11 ∷ [])
     -- "All-one block: 14 at 4x4, 16 at 5x5." Footprint 2 is 5x5.
@@ -105,6 +105,6 @@ samples =
     ∷ sample (map (λ b. faultOf false 0 (solid b)) (0xFD ∷ 0xFF ∷ 0xF9 ∷ [])) (0 ∷ 13 ∷ 12 ∷ [])
     ∷ sample (map (λ b. faultOf true 0 (solid b)) (0xFD ∷ 0xFF ∷ 0xF9 ∷ [])) (0 ∷ 0 ∷ 12 ∷ [])
     -- 02, i: "An HDR solid block shows its four colours as stored, infinities and NaN too. What is LDR .. the half floats that 000 makes of it"
-    ∷ sample (map (blockNumberAt 0 Float16 (solid 0xFF) 0 0) (0 ∷ 1 ∷ 2 ∷ 3 ∷ [])) (0x7C00 ∷ 0x7E01 ∷ 0xFFFF ∷ 0 ∷ [])
-    ∷ sample (map (blockNumberAt 0 Float16 (solid 0xFD) 0 0) (0 ∷ 1 ∷ 2 ∷ 3 ∷ [])) (0x37C0 ∷ 0x37E0 ∷ 0x3C00 ∷ 0 ∷ [])
+    ∷ sample (map (blockNumberAt 0 Float16 (solid 0xFF) 0 0 0) (0 ∷ 1 ∷ 2 ∷ 3 ∷ [])) (0x7C00 ∷ 0x7E01 ∷ 0xFFFF ∷ 0 ∷ [])
+    ∷ sample (map (blockNumberAt 0 Float16 (solid 0xFD) 0 0 0) (0 ∷ 1 ∷ 2 ∷ 3 ∷ [])) (0x37C0 ∷ 0x37E0 ∷ 0x3C00 ∷ 0 ∷ [])
     ∷ []

@@ -3,7 +3,7 @@
 use mathlib.Core.Path.{_≡_, refl}
 use mathlib.Core.Bool.{Bool, true, false, not}
 use mathlib.Core.List.{List, [], _∷_}
-use Prim.Native.Nat.{ℕ, _+_, _-_}
+use Prim.Native.Nat.{ℕ, _+_, _-_, min}
 use native.Mathlib.Omega.{arith}
 use lib.Dec.{eqb}
 use lib.ListN.{length, set}
@@ -22,11 +22,11 @@ pub named-is : (h : Header) → endpointsEnd h + (weightBits (h .grid) + compone
 unfolding endpointsEnd endpointsFrom namedBits
 named-is h = omega arith
 
--- what is left of 128
-pub left-is : (h : Header) {end weights component extra : ℕ} → end ≡ endpointsEnd h → weights ≡ weightBits (h .grid)
+-- what is left of 128, weight bits of more than 1000 clipped
+pub left-is : (h : Header) {end weights component extra : ℕ} → end ≡ endpointsEnd h → weights ≡ min (weightBits (h .grid)) 1000
     → component ≡ componentBits (h .grid .planes) → extra ≡ extraBits (h .partitions) (h .selector) → 128 - (end + (weights + component + extra)) ≡ spareBits h
 unfolding spareBits
-left-is h e w c x = rw (e, w, c, x, named-is h)
+left-is h e w c x = rw (e, w, c, x) (omega (arith, named-is h))
 
 module _ (part : PhysicalBlock) (B p w : ℕ) (e : blockNumber part ≡ field B p w) where
   pub low-set : (part .lo ≡ 0 → ⊥) → true ≡ someSet B p w

@@ -42,7 +42,7 @@ fn spare_bits(h: Header, end: u32) -> u8
     ensures { λ r. ⌜ r ≡ spareBits h ⌝ }
 {
     let g = h.grid;
-    let above = block_header::weight_bits(g)
+    let above = block_header::clipped_weight_bits(g)
         + block_header::component_bits(g.planes)
         + block_header::extra_bits(h.partitions, h.selector);
     quantization::bits_left(128, end + above) as u8

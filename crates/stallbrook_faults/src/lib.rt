@@ -4,6 +4,7 @@ ghost use mathlib.Core.Path.{_≡_};
 ghost use lib.ListN.{length};
 ghost use Rattle.block_reading.specs.declared.Reading.the-variants.{Ordinary};
 ghost use Rattle.fault_numbers.specs.Calls.{faultsNumber, faultsShown, faultsTally};
+ghost use Rattle.volume_layout.specs.Call.{volumeBlocks, volumePlaces};
 ghost use Rattle.stallbrook_faults.specs.Calls.{imageBlocks, bufferNumbers, blockNumbers};
 
 // The fault of each block, 0 for none, in raster order: 0, or the refusal's number with `faults` as it was; `tally` as in the image calls.
@@ -59,10 +60,31 @@ pub extern "C" fn stallbrook_astc_image_numbers(width: u32, height: u32) -> u64
     4 * (height as u64 * width as u64)
 }
 
-// How many numbers a block's result buffer takes: 0 above footprint 13.
+// How many numbers a block's result buffer takes: 0 above footprint 23.
 #[no_mangle]
 pub extern "C" fn stallbrook_astc_block_numbers(footprint: u8) -> u32
     ensures { λ r. ⌜ r ≡ blockNumbers footprint ⌝ }
 {
     4 * footprint::texels(footprint) as u32
+}
+
+// How many blocks a volume has: 0 where its footprint or a size is refused.
+#[no_mangle]
+pub extern "C" fn stallbrook_astc_volume_blocks(
+    footprint: u8,
+    width: u32,
+    height: u32,
+    depth: u32,
+) -> u64
+    ensures { λ r. ⌜ r ≡ volumeBlocks footprint width height depth ⌝ }
+{
+    volume_layout::volume_blocks(footprint, width, height, depth) as u64
+}
+
+// How many numbers a volume's result buffer takes: 0 where a size is refused.
+#[no_mangle]
+pub extern "C" fn stallbrook_astc_volume_numbers(width: u32, height: u32, depth: u32) -> u64
+    ensures { λ r. ⌜ r ≡ volumePlaces width height depth ⌝ }
+{
+    volume_layout::volume_places(width, height, depth) as u64
 }

@@ -1,4 +1,4 @@
-// The calls exported to C for symbolic blocks (01: sheets) as lists of 104 numbers, the fields in the order of 01, "Fields", and the HDR
+// The calls exported to C for symbolic blocks (01: sheets) as lists of 107 numbers, the fields in the order of 01, "Fields", and the HDR
 // mark.
 ghost use mathlib.Core.Path.{_≡_};
 ghost use lib.ListN.{length};

@@ -10,6 +10,7 @@ ghost use Rattle.block_reading.specs.declared.Reading.the-variants.{Strict};
 ghost use Rattle.one_block.specs.Calls.{blockToldIn, blockOutIn};
 ghost use Rattle.fault_numbers.specs.Calls.{faultsNumber, faultsShown, faultsTally};
 ghost use Rattle.image_numbers.specs.Calls.{imageNumberIn, imageShownIn, tallyShownIn, refusalOr5};
+ghost use Rattle.volume_numbers.specs.Calls.{volumeNumberIn, volumeShownIn, tallyShownIn as volumeTallyShown};
 ghost use Rattle.strict_reader.specs.Sheets.{sheetIn};
 ghost use Rattle.symbolic_numbers.specs.Calls.{putNumber, putNumbers, putSpare};
 ghost use Rattle.canonical_image.specs.Frames.{oneAnswer, oneOut, frameRefusal};
@@ -130,6 +131,91 @@ pub extern "C" fn stallbrook_astc_strict_decode_image_float16(
         footprint,
         width,
         height,
+        blocks,
+        out,
+        tally,
+    )
+}
+
+// ---- a volume picture (02, h): as `stallbrook_astc_decode_volume_unorm16`, by the strict reading's faults
+
+// In kind 0.
+#[no_mangle]
+pub extern "C" fn stallbrook_astc_strict_decode_volume_unorm16(
+    footprint: u8,
+    width: u32,
+    height: u32,
+    depth: u32,
+    blocks: &[u8],
+    out: &mut [u16],
+    tally: &mut [u64],
+) -> u8
+    ensures { λ r. ⌜ r ≡ volumeNumberIn Strict footprint Unorm16 width height depth (now (blocks .entry)) (length (now (out .entry))) (length (now (tally .entry))) ⌝ }
+    ensures { λ r. ⌜ now (out .exit) ≡ volumeShownIn Strict footprint Unorm16 width height depth (now (blocks .entry)) (now (out .entry)) (length (now (tally .entry))) ⌝ }
+    ensures { λ r. ⌜ now (tally .exit) ≡ volumeTallyShown Strict footprint Unorm16 width height depth (now (blocks .entry)) (length (now (out .entry))) (now (tally .entry)) ⌝ }
+{
+    volume_numbers::volume_words(
+        Reading::Strict,
+        Kind::Unorm16,
+        footprint,
+        width,
+        height,
+        depth,
+        blocks,
+        out,
+        tally,
+    )
+}
+
+// In kind 1.
+#[no_mangle]
+pub extern "C" fn stallbrook_astc_strict_decode_volume_srgb8(
+    footprint: u8,
+    width: u32,
+    height: u32,
+    depth: u32,
+    blocks: &[u8],
+    out: &mut [u8],
+    tally: &mut [u64],
+) -> u8
+    ensures { λ r. ⌜ r ≡ volumeNumberIn Strict footprint Srgb8 width height depth (now (blocks .entry)) (length (now (out .entry))) (length (now (tally .entry))) ⌝ }
+    ensures { λ r. ⌜ now (out .exit) ≡ volumeShownIn Strict footprint Srgb8 width height depth (now (blocks .entry)) (now (out .entry)) (length (now (tally .entry))) ⌝ }
+    ensures { λ r. ⌜ now (tally .exit) ≡ volumeTallyShown Strict footprint Srgb8 width height depth (now (blocks .entry)) (length (now (out .entry))) (now (tally .entry)) ⌝ }
+{
+    volume_numbers::volume_srgb8(
+        Reading::Strict,
+        footprint,
+        width,
+        height,
+        depth,
+        blocks,
+        out,
+        tally,
+    )
+}
+
+// In kind 2.
+#[no_mangle]
+pub extern "C" fn stallbrook_astc_strict_decode_volume_float16(
+    footprint: u8,
+    width: u32,
+    height: u32,
+    depth: u32,
+    blocks: &[u8],
+    out: &mut [u16],
+    tally: &mut [u64],
+) -> u8
+    ensures { λ r. ⌜ r ≡ volumeNumberIn Strict footprint Float16 width height depth (now (blocks .entry)) (length (now (out .entry))) (length (now (tally .entry))) ⌝ }
+    ensures { λ r. ⌜ now (out .exit) ≡ volumeShownIn Strict footprint Float16 width height depth (now (blocks .entry)) (now (out .entry)) (length (now (tally .entry))) ⌝ }
+    ensures { λ r. ⌜ now (tally .exit) ≡ volumeTallyShown Strict footprint Float16 width height depth (now (blocks .entry)) (length (now (out .entry))) (now (tally .entry)) ⌝ }
+{
+    volume_numbers::volume_words(
+        Reading::Strict,
+        Kind::Float16,
+        footprint,
+        width,
+        height,
+        depth,
         blocks,
         out,
         tally,

@@ -27,7 +27,7 @@ use Rattle.block_fault.proofs.ByKind.{fault-hdr}
 use Rattle.block_fault.proofs.Verdicts.{settings-verdict, told-fault, told-void, told-coded, coded-header, coded-numbers}
 use Rattle.texel.specs.Meaning.{errorTexel, channel}
 use Rattle.texel.specs.BlockTexel.{blockTexel, blockChannel, blockInto}
-use Rattle.block_core.specs.inner.Held.{numberIn, painted}
+use Rattle.block_buffer.specs.Painted.{numberIn, painted}
 use Rattle.block_core.proofs.Shows.{shows-fault}
 use Rattle.block_reading.specs.declared.Reading.the-variants.{Strict}
 use Rattle.block_reading.specs.Faults.{canonicalOf, strictFault}
@@ -75,7 +75,7 @@ module _ (hdr : Bool) (fp B : ℕ) (s : Settings) (e : s ≡ settingsOf hdr fp B
     some-hdr true z = z
     some-hdr false z = fault-hdr fp B z
 
-    is-coded : s .verdict ≡ verdict.Coded → Coded B s
+    is-coded : s .verdict ≡ verdict.Coded → Coded fp B s
     is-coded q =
         let m : (s .numbers ≡ endpointCount (s .header)) × (s .range ≡ endpointRangeOf (s .header)) = rw e (coded-numbers hdr fp B (settings-verdict hdr fp B ∙ verdict-is ∙ q)) in
         record {
@@ -85,7 +85,7 @@ module _ (hdr : Bool) (fp B : ℕ) (s : Settings) (e : s ≡ settingsOf hdr fp B
           range = m .1;
         }
 
-    pub read : fp ≤ 13 → Read fp B s
+    pub read : fp ≤ 23 → Read fp B s
     read l = record {
       low = l;
       no-fault = some-hdr hdr sound;
@@ -99,16 +99,16 @@ module _ (hdr : Bool) (fp B : ℕ) where
   pub told-other : (n : ℕ) → (faultOf hdr fp B ≡ n) × (faultOf hdr fp B ≡ 0 → ⊥) → n ≡ strictFault hdr fp B
   told-other n k = sym (strict-other hdr fp B (k .1) ∙ k .0)
 
-  module _ (e : faultOf hdr fp B ≡ 0) (C : ℕ) (c : C ≡ canonicalOf B) where
+  module _ (e : faultOf hdr fp B ≡ 0) (C : ℕ) (c : C ≡ canonicalOf fp B) where
     pub told-none : true ≡ eqb B C → 0 ≡ strictFault hdr fp B
-    told-none q = sym (strict-none hdr fp B e (same B (canonicalOf B) (q ∙ ap (eqb B) c))) where
+    told-none q = sym (strict-none hdr fp B e (same B (canonicalOf fp B) (q ∙ ap (eqb B) c))) where
       same : (x y : ℕ) → true ≡ eqb x y → x ≡ y
       same x y p = elim (ℕ-discrete x y) [ yes r ↦ r | no n ↦ absurd (differ (p ∙ ne-eqb x y n)) ] where
         differ : _≡_ {A = Bool} true false → ⊥
         differ r = let k : _≡_ {A = ℕ} 1 0 = ap (λ (b : Bool). elim b [ true ↦ 1 | false ↦ 0 ]) r in omega (arith, k)
 
     pub told-21 : false ≡ eqb B C → 21 ≡ strictFault hdr fp B
-    told-21 q = sym (strict-21 hdr fp B e (λ r. differ (q ∙ ap (eqb B) c ∙ eq-eqb B (canonicalOf B) r))) where
+    told-21 q = sym (strict-21 hdr fp B e (λ r. differ (q ∙ ap (eqb B) c ∙ eq-eqb B (canonicalOf fp B) r))) where
       differ : _≡_ {A = Bool} false true → ⊥
       differ r = let k : _≡_ {A = ℕ} 0 1 = ap (λ (b : Bool). elim b [ true ↦ 1 | false ↦ 0 ]) r in omega (arith, k)
 
@@ -117,7 +117,7 @@ module _ (fp B : ℕ) where
   pub form-faulty : (n : ℕ) → (faultOf true fp B ≡ n) × (faultOf true fp B ≡ 0 → ⊥) → B ≡ canonicalIn fp B
   form-faulty n k = sym (canonical-faulty fp B (k .1))
 
-  pub form-sound : faultOf true fp B ≡ 0 → (C : ℕ) → C ≡ canonicalOf B → C ≡ canonicalIn fp B
+  pub form-sound : faultOf true fp B ≡ 0 → (C : ℕ) → C ≡ canonicalOf fp B → C ≡ canonicalIn fp B
   form-sound e C c = c ∙ sym (canonical-sound fp B e)
 
 -- ---- what is shown
@@ -126,27 +126,27 @@ module _ (fp : ℕ) (kind : Kind) (B : ℕ) where
   -- 21: the error colour
   pub error-into : strictFault (takesHdr kind) fp B ≡ 21 → (t : Texel) → t ≡ errorTexel kind → (old l : List ℕ)
       → l ≡ painted (widthOf fp) (λ x y. t) (texelsOf fp) old → l ≡ intoIn Strict fp kind B old
-  unfolding painted numberIn intoIn channelIn
+  unfolding painted numberIn intoIn channelIn channel
   error-into e t q old l p =
-      p ∙ replaced-ext 0 _ _ (4 * texelsOf fp) old (λ k h. ap (λ (u : Texel). channel u (k % 4)) (q ∙ sym (strict-error fp kind B (λ z. omega (arith, z, e)) _ _)))
+      p ∙ replaced-ext 0 _ _ (4 * texelsOf fp) old (λ k h. ap (λ (u : Texel). channel u (k % 4)) (q ∙ sym (strict-error fp kind B (λ z. omega (arith, z, e)) _ _ _)))
 
   module _ (n : strictFault (takesHdr kind) fp B ≡ 21 → ⊥) where
     -- otherwise the fault and the texels are those of the ordinary reading
     pub same-fault : faultOf (takesHdr kind) fp B ≡ strictFault (takesHdr kind) fp B
     same-fault = elim (ℕ-discrete (faultOf (takesHdr kind) fp B) 0) [
       | no h ↦ sym (strict-other (takesHdr kind) fp B h)
-      | yes e ↦ elim (ℕ-discrete B (canonicalOf B)) [
+      | yes e ↦ elim (ℕ-discrete B (canonicalOf fp B)) [
         | yes q ↦ e ∙ sym (strict-none (takesHdr kind) fp B e q)
         | no h ↦ absurd (n (strict-21 (takesHdr kind) fp B e h))
       ]
     ]
 
-    same-texel : (x y : ℕ) → blockTexel fp kind B x y ≡ texelIn Strict fp kind B x y
-    same-texel x y = elim (ℕ-discrete (strictFault (takesHdr kind) fp B) 0) [
-      | yes e ↦ sym (strict-own fp kind B e x y)
-      | no h ↦ sym (shows-fault fp kind B x y (λ z. h (sym same-fault ∙ z))) ∙ sym (strict-error fp kind B h x y)
+    same-texel : (x y z : ℕ) → blockTexel fp kind B x y z ≡ texelIn Strict fp kind B x y z
+    same-texel x y z = elim (ℕ-discrete (strictFault (takesHdr kind) fp B) 0) [
+      | yes e ↦ sym (strict-own fp kind B e x y z)
+      | no h ↦ sym (shows-fault fp kind B x y z (λ z. h (sym same-fault ∙ z))) ∙ sym (strict-error fp kind B h x y z)
     ]
 
     pub same-into : (old l : List ℕ) → l ≡ blockInto fp kind B old → l ≡ intoIn Strict fp kind B old
     unfolding blockInto blockChannel intoIn channelIn
-    same-into old l p = p ∙ replaced-ext 0 _ _ (4 * texelsOf fp) old (λ k h. ap (λ (u : Texel). channel u (k % 4)) (same-texel _ _))
+    same-into old l p = p ∙ replaced-ext 0 _ _ (4 * texelsOf fp) old (λ k h. ap (λ (u : Texel). channel u (k % 4)) (same-texel _ _ _))

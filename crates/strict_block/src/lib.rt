@@ -10,6 +10,7 @@ ghost use Prim.Native.Nat.{_≤_};
 ghost use lib.Dec.{eqb};
 ghost use lib.ListN.{length};
 ghost use Rattle.bits.specs.Block.{blockNumber};
+ghost use Rattle.footprint.specs.Footprint.{isVolume};
 ghost use Rattle.interpolation.specs.Expansion.{takesHdr};
 ghost use Rattle.block_fault.specs.Faults.{faultOf};
 ghost use Rattle.block_reading.specs.Faults.{canonicalOf, strictFault, faultIn};
@@ -31,7 +32,7 @@ pub fn same(a: PhysicalBlock, b: PhysicalBlock) -> bool
 // What the writer makes from the sheet of a block without fault, whose settings are read. All bits of a void extent (01: solid block) are fields.
 fn written(fp: u8, b: PhysicalBlock, s: Settings) -> PhysicalBlock
     requires { ⌜ Read fp (blockNumber b) s ⌝ }
-    ensures { λ r. ⌜ blockNumber r ≡ canonicalOf (blockNumber b) ⌝ }
+    ensures { λ r. ⌜ blockNumber r ≡ canonicalOf fp (blockNumber b) ⌝ }
 {
     let v = s.verdict;
     if let Verdict::VoidExtent = v {
@@ -49,12 +50,12 @@ pub struct CanonicalBlock {
     pub block: PhysicalBlock,
 }
 
-pub fn canonical(fp: u8, b: PhysicalBlock) -> CanonicalBlock
-    requires { ⌜ fp ≤ 13 ⌝ }
+pub fn canonical(fp: u8, volume: bool, b: PhysicalBlock) -> CanonicalBlock
+    requires { ⌜ (fp ≤ 23) × (volume ≡ isVolume fp) ⌝ }
     ensures { λ r. ⌜ r .fault ≡ faultOf true fp (blockNumber b) ⌝ }
     ensures { λ r. ⌜ blockNumber (r .block) ≡ canonicalIn fp (blockNumber b) ⌝ }
 {
-    let s = block_fault::read_settings(true, b, fp);
+    let s = block_fault::read_settings(true, volume, b, fp);
     let v = s.verdict;
     if let Verdict::Fault(n) = v {
         return CanonicalBlock { fault: n, block: b };
@@ -64,11 +65,11 @@ pub fn canonical(fp: u8, b: PhysicalBlock) -> CanonicalBlock
 }
 
 // The fault of the strict reading, HDR taken or not: the settings are read once.
-pub fn strict_fault(hdr: bool, fp: u8, b: PhysicalBlock) -> u8
-    requires { ⌜ fp ≤ 13 ⌝ }
+pub fn strict_fault(hdr: bool, fp: u8, volume: bool, b: PhysicalBlock) -> u8
+    requires { ⌜ (fp ≤ 23) × (volume ≡ isVolume fp) ⌝ }
     ensures { λ r. ⌜ r ≡ strictFault hdr fp (blockNumber b) ⌝ }
 {
-    let s = block_fault::read_settings(hdr, b, fp);
+    let s = block_fault::read_settings(hdr, volume, b, fp);
     let v = s.verdict;
     if let Verdict::Fault(n) = v {
         return n;
@@ -78,27 +79,34 @@ pub fn strict_fault(hdr: bool, fp: u8, b: PhysicalBlock) -> u8
 }
 
 // A block in the strict reading: fault 21 shows the error colour.
-fn decode_strict(b: PhysicalBlock, fp: u8, kind: Kind, out: &mut [u16; 576]) -> u8
-    requires { ⌜ fp ≤ 13 ⌝ }
+fn decode_strict(b: PhysicalBlock, fp: u8, volume: bool, kind: Kind, out: &mut [u16; 864]) -> u8
+    requires { ⌜ (fp ≤ 23) × (volume ≡ isVolume fp) ⌝ }
     ensures { λ r. ⌜ r ≡ strictFault (takesHdr kind) fp (blockNumber b) ⌝ }
-    ensures { λ r. ⌜ (length (now (out .entry)) ≡ 576 → now (out .exit) ≡ intoIn Strict fp kind (blockNumber b) (now (out .entry))) ⌝ }
+    ensures { λ r. ⌜ (length (now (out .entry)) ≡ 864 → now (out .exit) ≡ intoIn Strict fp kind (blockNumber b) (now (out .entry))) ⌝ }
 {
-    let fault = strict_fault(interpolation::takes_hdr(kind), fp, b);
+    let fault = strict_fault(interpolation::takes_hdr(kind), fp, volume, b);
     if fault == 21 {
         block_core::flood(block_core::error_texel(kind), fp, out);
         return 21;
     }
-    block_core::decode_into(b, fp, kind, out)
+    block_core::decode_into(b, fp, volume, kind, out)
 }
 
-// What `block_core::decode_into` does, in a reading.
-pub fn decode_in(reading: Reading, b: PhysicalBlock, fp: u8, kind: Kind, out: &mut [u16; 576]) -> u8
-    requires { ⌜ fp ≤ 13 ⌝ }
+// What `block_core::decode_into` does, in a reading; whether the footprint is a volume is said beside it.
+pub fn decode_in(
+    reading: Reading,
+    b: PhysicalBlock,
+    fp: u8,
+    volume: bool,
+    kind: Kind,
+    out: &mut [u16; 864],
+) -> u8
+    requires { ⌜ (fp ≤ 23) × (volume ≡ isVolume fp) ⌝ }
     ensures { λ r. ⌜ r ≡ faultIn reading (takesHdr kind) fp (blockNumber b) ⌝ }
-    ensures { λ r. ⌜ (length (now (out .entry)) ≡ 576 → now (out .exit) ≡ intoIn reading fp kind (blockNumber b) (now (out .entry))) ⌝ }
+    ensures { λ r. ⌜ (length (now (out .entry)) ≡ 864 → now (out .exit) ≡ intoIn reading fp kind (blockNumber b) (now (out .entry))) ⌝ }
 {
     match reading {
-        Reading::Ordinary => block_core::decode_into(b, fp, kind, out),
-        Reading::Strict => decode_strict(b, fp, kind, out),
+        Reading::Ordinary => block_core::decode_into(b, fp, volume, kind, out),
+        Reading::Strict => decode_strict(b, fp, volume, kind, out),
     }
 }

@@ -44,7 +44,7 @@ module _ (fp : ℕ) (s : SymbolicBlock) (z : Sized s) (a : Acceptable fp s) wher
 
   written-read : ReadBytes fp s written
   written-read = record {
-    bytes = subst Bytes (sym (bytes-are fp s z a)) (small (blockOf s));
+    bytes = subst Bytes (sym (bytes-are fp s z a)) (small (blockOf fp s));
     read = ap (λ (r : SymbolicReading). r .answer) (back fp s z a);
     same = ap (λ (r : SymbolicReading). r .block) (back fp s z a);
   }
@@ -56,11 +56,11 @@ module _ (fp : ℕ) (s : SymbolicBlock) (z : Sized s) (a : Acceptable fp s) wher
     reads : Reads fp s (numberOf block)
     reads = record {
       no-fault = facts .no-fault;
-      reads = subst (ReadsAs (numberOf block)) (sym (facts .block) ∙ h .same) (demand-3 .reads-as fp (numberOf block) (facts .no-fault));
+      reads = subst (ReadsAs fp (numberOf block)) (sym (facts .block) ∙ h .same) (demand-3 .reads-as fp (numberOf block) (facts .no-fault));
     }
 
     -- bytes are written where their number is the writer's
-    bytes-back : numberOf block ≡ blockOf s → block ≡ written
+    bytes-back : numberOf block ≡ blockOf fp s → block ≡ written
     bytes-back e =
         sym (subst (λ (n : ℕ). bytesOf n (numberOf block) ≡ block) (facts .sixteen) (bytes-number block (h .bytes)))
         ∙ ap (bytesOf 16) e ∙ sym (bytes-are fp s z a)

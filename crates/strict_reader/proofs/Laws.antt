@@ -39,7 +39,7 @@ module _ (reading : Reading) (fp : ℕ) (s : List ℕ) where
   unfolding sheetIn sheetOf sheetTold
   sheet-told = go (eqb (readRefusal fp (length s)) 0) (faultIn reading true fp (numberOf s)) (eqb (faultIn reading true fp (numberOf s)) 0) refl where
     go : (a : Bool) (f : ℕ) (b : Bool) → eqb f 0 ≡ b
-        → numberTold ((pick a (pick b (done (numberOf s) (readBlock (numberOf s))) (nothing (Faulty f))) (nothing (Refused (readRefusal fp (length s))))) .answer)
+        → numberTold ((pick a (pick b (done (numberOf s) (readBlock fp (numberOf s))) (nothing (Faulty f))) (nothing (Refused (readRefusal fp (length s))))) .answer)
         ≡ pick a f (readRefusal fp (length s))
     go true f true e = sym (eqb-true f 0 e)
     go true f false e = refl
@@ -53,7 +53,7 @@ module _ (reading : Reading) (fp : ℕ) (s : List ℕ) where
     unfolding sheetTold
     told-fault = rw (eq-eqb (readRefusal fp (length s)) 0 none)
 
-    pub sheet-sound : faultIn reading true fp (numberOf s) ≡ 0 → sheetIn reading fp s ≡ done (numberOf s) (readBlock (numberOf s))
+    pub sheet-sound : faultIn reading true fp (numberOf s) ≡ 0 → sheetIn reading fp s ≡ done (numberOf s) (readBlock fp (numberOf s))
     unfolding sheetIn sheetOf
     sheet-sound e = rw (eq-eqb (readRefusal fp (length s)) 0 none, eq-eqb (faultIn reading true fp (numberOf s)) 0 e)
 
@@ -76,18 +76,18 @@ module _ (fp : ℕ) (s : List ℕ) (h : readRefusal fp (length s) ≡ 0 → ⊥)
 pub record Read (fp : ℕ) (s : List ℕ) : Type 0 where
   pub none : readRefusal fp (length s) ≡ 0
   pub no-fault : faultOf true fp (numberOf s) ≡ 0
-  pub known : fp ≤ 13
+  pub known : fp ≤ 23
   pub sixteen : length s ≡ 16
-  pub block : readingOf fp s .block ≡ readBlock (numberOf s)
+  pub block : readingOf fp s .block ≡ readBlock fp (numberOf s)
 
 module _ (fp : ℕ) (s : List ℕ) where
-  known : readRefusal fp (length s) ≡ 0 → (fp ≤ 13) × (length s ≡ 16)
+  known : readRefusal fp (length s) ≡ 0 → (fp ≤ 23) × (length s ≡ 16)
   unfolding readRefusal
-  known e = go (ltb 13 fp) (eqb (length s) 16) refl refl e where
-    go : (a b : Bool) → ltb 13 fp ≡ a → eqb (length s) 16 ≡ b → _≡_ {A = ℕ} (pick a 1 (pick (not b) 4 0)) 0 → (fp ≤ 13) × (length s ≡ 16)
+  known e = go (ltb 23 fp) (eqb (length s) 16) refl refl e where
+    go : (a b : Bool) → ltb 23 fp ≡ a → eqb (length s) 16 ≡ b → _≡_ {A = ℕ} (pick a 1 (pick (not b) 4 0)) 0 → (fp ≤ 23) × (length s ≡ 16)
     go true b p q z = absurd (omega (arith, z))
     go false false p q z = absurd (omega (arith, z))
-    go false true p q z = (ltb-false 13 fp p, eqb-true (length s) 16 q)
+    go false true p q z = (ltb-false 23 fp p, eqb-true (length s) 16 q)
 
   pub read : readingOf fp s .answer ≡ Done → Read fp s
   read d = elim (ℕ-discrete (readRefusal fp (length s)) 0) [
@@ -128,14 +128,14 @@ module _ (fp : ℕ) (s : List ℕ) (r : Read fp s) where
   pub acceptable : refusalOf fp (readingOf fp s .block) ≡ 0
   acceptable = ap (refusalOf fp) (r .block) ∙ demand-3 .read-acceptable fp (numberOf s) (r .known) (r .no-fault)
 
-  canonical : (C : ℕ) → C ≡ blockOf (readingOf fp s .block) → C ≡ canonicalOf (numberOf s)
+  canonical : (C : ℕ) → C ≡ blockOf fp (readingOf fp s .block) → C ≡ canonicalOf fp (numberOf s)
   unfolding canonicalOf
-  canonical C e = e ∙ ap blockOf (r .block)
+  canonical C e = e ∙ ap (blockOf fp) (r .block)
 
-  module _ (B C : ℕ) (b : B ≡ numberOf s) (c : C ≡ blockOf (readingOf fp s .block)) where
+  module _ (B C : ℕ) (b : B ≡ numberOf s) (c : C ≡ blockOf fp (readingOf fp s .block)) where
     pub same-passes : true ≡ eqb B C → readingOf fp s ≡ sheetIn Strict fp s
     same-passes q =
-        let e : numberOf s ≡ canonicalOf (numberOf s) = sym b ∙ eqb-true B C (sym q) ∙ canonical C c in
+        let e : numberOf s ≡ canonicalOf fp (numberOf s) = sym b ∙ eqb-true B C (sym q) ∙ canonical C c in
         sym (ordinary fp s) ∙ sheet-sound Ordinary fp s (r .none) (r .no-fault)
         ∙ sym (sheet-sound Strict fp s (r .none) (strict-none true fp (numberOf s) (r .no-fault) e))
 

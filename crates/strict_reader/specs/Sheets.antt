@@ -17,7 +17,7 @@ use Rattle.symbolic_reader.specs.Answers.{readRefusal, nothing, done}
 
 -- of 128 bits: the fault by the reading, else the symbolic block
 unfoldable pub sheetOf : Reading → ℕ → ℕ → SymbolicReading
-sheetOf reading fp B = pick (eqb (faultIn reading true fp B) 0) (done B (readBlock B)) (nothing (Faulty (faultIn reading true fp B)))
+sheetOf reading fp B = pick (eqb (faultIn reading true fp B) 0) (done B (readBlock fp B)) (nothing (Faulty (faultIn reading true fp B)))
 
 -- what the reader answers for the bytes s; with Ordinary this is `readingOf` of the crate symbolic_reader, by computation
 unfoldable pub sheetIn : Reading → ℕ → List ℕ → SymbolicReading

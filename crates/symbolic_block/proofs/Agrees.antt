@@ -4,11 +4,13 @@ use mathlib.Core.Path.{_≡_, refl, sym, ap, ap₂, _∙_}
 use mathlib.Core.Bool.{Bool, true, false}
 use mathlib.Core.List.{List}
 use Prim.Native.Nat.{ℕ, zero, suc, _+_, _-_, _*_, _/_, _%_, _≤_, _<_}
+use native.Mathlib.Nat.{zero-mul, zero-add}
 use native.Mathlib.Decide.{decLt}
 use native.Mathlib.Omega.{arith}
+use lib.Arith.{digits-lt}
 use lib.Dec.{eqb, ltb}
 use lib.ListN.{getD}
-use borrow.Author.Tests.{eqb-true, eqb-false, eq-eqb, ne-eqb, ltb-true}
+use borrow.Author.Tests.{eqb-true, eqb-false, eq-eqb, ne-eqb, ltb-true, lt-ltb}
 use Rattle.laws.specs.Choice.{pick, both}
 use Rattle.laws.specs.Table.{tab}
 use Rattle.laws.proofs.Filling.{getD-tab, tab-all}
@@ -20,7 +22,10 @@ use Rattle.partition.proofs.Bounds.{partition-lt, partition-lt-4}
 use Rattle.weight_grid.specs.Cell.{level, weightAt, cellOf}
 use Rattle.weight_grid.specs.Bilinear.{blendOf, infillOf}
 use Rattle.weight_grid.proofs.Factors.{blend-le}
-use Rattle.weight_grid.proofs.Points.{number-lt}
+use Rattle.footprint.specs.Footprint.{isVolume}
+use Rattle.volume_infill.specs.Simplex.{volumeCellOf, simplexOf, volumeInfill}
+use Rattle.volume_infill.proofs.Simplex.{simplex-le}
+use Rattle.volume_infill.proofs.Reading.{volume-point-lt}
 use Rattle.endpoint_arithmetic.specs.declared.EndpointPair.{EndpointPair}
 use Rattle.color_endpoint.specs.Modes as modes
 use Rattle.color_endpoint.specs.Table.{numberCount, startOf, numbersFrom, tableOf}
@@ -42,11 +47,13 @@ use Rattle.block_header.specs.Counts.{weightCount, endpointCount, bitsLeft, end
 use Rattle.texel.specs.Meaning.{endpointLevels, weightLevels, planeWeight, secondWeight, secondComponent, partitionTexel, mixedTexel, texelFrom}
 use Rattle.symbolic_block.specs.declared.SymbolicBlock.{SymbolicBlock}
 use Rattle.symbolic_block.specs.Fields.{gridOf, headerOf, modeIn, endpointIn, weightIn}
-use Rattle.symbolic_block.specs.Picture.{widenedWeight, firstGrid, secondGrid, pointWeight, infillWeight, placeWeight, numbersOf, numbersOfFirst, bitsLeftOver, rangeOfEndpoints, widenedNumbers, pairChannel, partitionAt, channelGrid, channelAt, mixedPicture}
+use Rattle.symbolic_block.specs.Picture.{widenedWeight, firstGrid, secondGrid, pointWeight, infillWeight, simplexWeight, placeWeight, numbersOf, numbersOfFirst, bitsLeftOver, rangeOfEndpoints, widenedNumbers, pairChannel, partitionAt, channelGrid, channelAt, mixedPicture}
+use Rattle.symbolic_block.proofs.Room.{pick-le}
 use Rattle.color_endpoint.proofs.Pairs.{Bytes, pair-same, pair-bytes}
 
 -- what is needed of a mode sheet
 pub record Counted (s : SymbolicBlock) : Type 0 where
+  pub depth-low : 1 ≤ s .depth
   pub planes-low : 1 ≤ s .planes
   pub planes-most : s .planes ≤ 2
   pub partitions-low : 1 ≤ s .partitions
@@ -57,6 +64,12 @@ pub record Counted (s : SymbolicBlock) : Type 0 where
 -- numbers in a list of levels up to 255
 levels-le : (g : ℕ → ℕ) → ((i : ℕ) → g i ≤ 255) → (n k : ℕ) → modes.level (tab (λ i. level (g i)) n) k ≤ 255
 levels-le g h n k = tab-all (λ x. x .0 ≤ 255) (λ i. level (g i)) modes.noLevel h (omega arith) n k
+
+-- a flat grid's cells are those of the first layer
+first-layer : (levels : List Level) (width height depth planes plane x y : ℕ) → 1 ≤ depth
+    → cellOf levels width height planes plane x y ≡ volumeCellOf levels width height depth planes plane x y 0
+unfolding cellOf volumeCellOf
+first-layer levels width height depth planes plane x y h = rw (lt-ltb 0 depth h, zero-mul height, zero-add y)
 
 -- ---- mixing
 
@@ -97,32 +110,42 @@ module _ (s : SymbolicBlock) (f : Counted s) where
   unfolding weightAt weightLevels widenedWeight
   widened-at n h = ap (λ (l : Level). l .0) (getD-tab (λ i. level (unquantWeight (s .range) (weightIn s i))) 64 n (level 0) h)
 
-  count-is : weightCount (gridOf s) ≡ s .width * s .height * s .planes
+  count-is : weightCount (gridOf s) ≡ s .width * s .height * s .depth * s .planes
   unfolding weightCount
   count-is = refl
 
   -- a plane whose weights fill a grid
   module _ (plane : ℕ) (in-planes : plane < s .planes) (grid : ℕ → ℕ) (fills : (i : ℕ) → widenedWeight s (i * s .planes + plane) ≡ grid i) where
-    point-is : (x y : ℕ) → cellOf weights (s .width) (s .height) (s .planes) plane x y ≡ pointWeight s grid x y
-    unfolding cellOf pointWeight
-    point-is x y = go (ltb x (s .width)) (ltb y (s .height)) refl refl where
-      go : (a b : Bool) → ltb x (s .width) ≡ a → ltb y (s .height) ≡ b
-          → pick a (pick b (weightAt weights ((y * s .width + x) * s .planes + plane)) 0) 0 ≡ pick (both a b) (grid (y * s .width + x)) 0
-      go true true p q =
-          let l = number-lt (s .width) (s .height) (s .planes) plane x y (ltb-true x (s .width) p) (ltb-true y (s .height) q) in-planes in
-          widened-at ((y * s .width + x) * s .planes + plane) (omega (arith, l, count-is, f .weights-most)) ∙ fills (y * s .width + x)
-      go true false p q = refl
-      go false b p q = refl
+    point-is : (x y z : ℕ) → volumeCellOf weights (s .width) (s .height) (s .depth) (s .planes) plane x y z ≡ pointWeight s grid x y z
+    unfolding volumeCellOf pointWeight
+    point-is x y z = go ((z * s .height + y) * s .width + x) refl (ltb x (s .width)) (ltb y (s .height)) (ltb z (s .depth)) refl refl refl where
+      go : (n : ℕ) → n ≡ (z * s .height + y) * s .width + x → (a b c : Bool) → ltb x (s .width) ≡ a → ltb y (s .height) ≡ b → ltb z (s .depth) ≡ c
+          → pick a (pick b (pick c (weightAt weights (n * s .planes + plane)) 0) 0) 0 ≡ pick (both a (both b c)) (grid n) 0
+      go n e true true true p q r =
+          let l = volume-point-lt (s .width) (s .height) (s .depth) x y z (ltb-true x (s .width) p) (ltb-true y (s .height) q) (ltb-true z (s .depth) r) in
+          let k : n * s .planes + plane < s .width * s .height * s .depth * s .planes = digits-lt (rw e l) in-planes in
+          widened-at (n * s .planes + plane) (omega (arith, k, count-is, f .weights-most)) ∙ fills n
+      go n e true true false p q r = refl
+      go n e true false c p q r = refl
+      go n e false b c p q r = refl
+
+    -- a flat grid is the first layer
+    flat-is : (x y : ℕ) → cellOf weights (s .width) (s .height) (s .planes) plane x y ≡ pointWeight s grid x y 0
+    flat-is x y = first-layer weights (s .width) (s .height) (s .depth) (s .planes) plane x y (f .depth-low) ∙ point-is x y 0
 
     infill-is : (gs gt : ℕ) → infillOf weights (s .width) (s .height) (s .planes) plane gs gt ≡ infillWeight s grid gs gt
     unfolding infillOf infillWeight
     infill-is gs gt j =
-        blendOf (gs % 16) (gt % 16) (point-is (gs / 16) (gt / 16) j) (point-is (gs / 16 + 1) (gt / 16) j)
-        (point-is (gs / 16) (gt / 16 + 1) j) (point-is (gs / 16 + 1) (gt / 16 + 1) j)
+        blendOf (gs % 16) (gt % 16) (flat-is (gs / 16) (gt / 16) j) (flat-is (gs / 16 + 1) (gt / 16) j)
+        (flat-is (gs / 16) (gt / 16 + 1) j) (flat-is (gs / 16 + 1) (gt / 16 + 1) j)
 
-    plane-is : (fp : ℕ) (kind : Kind) (ends : List Level) (x y : ℕ) → planeWeight fp kind (headerOf s) ends weights x y plane ≡ placeWeight s fp grid x y
+    simplex-is : (gs gt gr : ℕ) → volumeInfill weights (s .width) (s .height) (s .depth) (s .planes) plane gs gt gr ≡ simplexWeight s grid gs gt gr
+    unfolding volumeInfill simplexWeight
+    simplex-is gs gt gr e = simplexOf (gs % 16) (gt % 16) (gr % 16) (λ i j k. point-is (gs / 16 + i) (gt / 16 + j) (gr / 16 + k) e)
+
+    plane-is : (fp : ℕ) (kind : Kind) (ends : List Level) (x y z : ℕ) → planeWeight fp kind (headerOf s) ends weights x y z plane ≡ placeWeight s fp grid x y z
     unfolding planeWeight placeWeight
-    plane-is fp kind ends x y = infill-is _ _
+    plane-is fp kind ends x y z = ap₂ (pick (isVolume fp)) (simplex-is _ _ _) (infill-is _ _)
 
   first-fills : (i : ℕ) → widenedWeight s (i * s .planes + 0) ≡ firstGrid s i
   unfolding firstGrid
@@ -134,16 +157,18 @@ module _ (s : SymbolicBlock) (f : Counted s) where
 
   -- weights are at most 64
   module _ (grid : ℕ → ℕ) (most : (i : ℕ) → grid i ≤ 64) where
-    point-le : (column row : ℕ) → pointWeight s grid column row ≤ 64
+    point-le : (column row layer : ℕ) → pointWeight s grid column row layer ≤ 64
     unfolding pointWeight
-    point-le column row = go (both (ltb column (s .width)) (ltb row (s .height))) where
-      go : (b : Bool) → pick b (grid (row * s .width + column)) 0 ≤ 64
+    point-le column row layer = go (both (ltb column (s .width)) (both (ltb row (s .height)) (ltb layer (s .depth)))) where
+      go : (b : Bool) → pick b (grid ((layer * s .height + row) * s .width + column)) 0 ≤ 64
       go true = most _
       go false = omega arith
 
-    place-le : (fp x y : ℕ) → placeWeight s fp grid x y ≤ 64
-    unfolding placeWeight infillWeight
-    place-le fp x y = blend-le 64 _ _ _ _ _ _ (omega arith) (omega arith) (point-le _ _) (point-le _ _) (point-le _ _) (point-le _ _)
+    place-le : (fp x y z : ℕ) → placeWeight s fp grid x y z ≤ 64
+    unfolding placeWeight infillWeight simplexWeight
+    place-le fp x y z =
+        pick-le (isVolume fp) _ _ 64 (simplex-le 64 _ _ _ _ (omega arith) (omega arith) (omega arith) (λ i j k. point-le _ _ _))
+        (blend-le 64 _ _ _ _ _ _ (omega arith) (omega arith) (point-le _ _ _) (point-le _ _ _) (point-le _ _ _) (point-le _ _ _))
 
   first-le : (i : ℕ) → firstGrid s i ≤ 64
   unfolding firstGrid widenedWeight
@@ -224,33 +249,33 @@ module _ (s : SymbolicBlock) (f : Counted s) where
 
   -- ---- the texel
 
-  module _ (fp : ℕ) (kind : Kind) (x y : ℕ) where
+  module _ (fp : ℕ) (kind : Kind) (x y z : ℕ) where
     abbrev partition : ℕ
-    partition = partitionAt s fp x y
+    partition = partitionAt s fp x y z
 
     few-lt : partition < 4
     unfolding partitionAt
-    few-lt = partition-lt-4 _ _ _ x y 0
+    few-lt = partition-lt-4 _ _ _ x y z
 
     used-lt : partition < s .partitions
     unfolding partitionAt
-    used-lt = partition-lt _ _ _ x y 0 (f .partitions-low)
+    used-lt = partition-lt _ _ _ x y z (f .partitions-low)
 
     abbrev first : ℕ
-    first = placeWeight s fp (firstGrid s) x y
+    first = placeWeight s fp (firstGrid s) x y z
 
-    first-is : planeWeight fp kind (headerOf s) ends weights x y 0 ≡ first
-    first-is = plane-is 0 (f .planes-low) (firstGrid s) first-fills fp kind ends x y
+    first-is : planeWeight fp kind (headerOf s) ends weights x y z 0 ≡ first
+    first-is = plane-is 0 (f .planes-low) (firstGrid s) first-fills fp kind ends x y z
 
     abbrev second : ℕ
-    second = secondWeight fp kind (headerOf s) ends weights x y
+    second = secondWeight fp kind (headerOf s) ends weights x y z
 
     abbrev named : ℕ
-    named = secondComponent fp kind (headerOf s) ends weights x y
+    named = secondComponent fp kind (headerOf s) ends weights x y z
 
-    second-two : s .planes ≡ 2 → second ≡ placeWeight s fp (secondGrid s) x y
+    second-two : s .planes ≡ 2 → second ≡ placeWeight s fp (secondGrid s) x y z
     unfolding secondWeight
-    second-two e = rw (eq-eqb (s .planes) 2 e) (plane-is 1 (omega arith) (secondGrid s) (second-fills e) fp kind ends x y)
+    second-two e = rw (eq-eqb (s .planes) 2 e) (plane-is 1 (omega arith) (secondGrid s) (second-fills e) fp kind ends x y z)
 
     second-one : s .planes ≡ 1 → second ≡ first
     unfolding secondWeight
@@ -258,12 +283,12 @@ module _ (s : SymbolicBlock) (f : Counted s) where
 
     second-most : second ≤ 64
     second-most =
-        by-planes (λ e. rw (second-two e) (place-le (secondGrid s) second-le fp x y)) (λ e. rw (second-one e) (place-le (firstGrid s) first-le fp x y))
+        by-planes (λ e. rw (second-two e) (place-le (secondGrid s) second-le fp x y z)) (λ e. rw (second-one e) (place-le (firstGrid s) first-le fp x y z))
 
-    weight-two : s .planes ≡ 2 → (c : ℕ) → weightOf named (level first) (level second) c .0 ≡ placeWeight s fp (channelGrid s c) x y
+    weight-two : s .planes ≡ 2 → (c : ℕ) → weightOf named (level first) (level second) c .0 ≡ placeWeight s fp (channelGrid s c) x y z
     unfolding weightOf secondComponent channelGrid
     weight-two e c = rw (eq-eqb (s .planes) 2 e) (go (eqb c (s .component))) where
-      go : (b : Bool) → pick b (level second) (level first) .0 ≡ placeWeight s fp (pick b (secondGrid s) (firstGrid s)) x y
+      go : (b : Bool) → pick b (level second) (level first) .0 ≡ placeWeight s fp (pick b (secondGrid s) (firstGrid s)) x y z
       go true = second-two e
       go false = refl
 
@@ -275,25 +300,25 @@ module _ (s : SymbolicBlock) (f : Counted s) where
     unfolding channelGrid
     grid-one e c = rw (ne-eqb (s .planes) 2 (λ q. omega (arith, q)))
 
-    weight-one : s .planes ≡ 1 → (c : ℕ) → c < 4 → weightOf named (level first) (level second) c .0 ≡ placeWeight s fp (channelGrid s c) x y
+    weight-one : s .planes ≡ 1 → (c : ℕ) → c < 4 → weightOf named (level first) (level second) c .0 ≡ placeWeight s fp (channelGrid s c) x y z
     weight-one e c h =
         ap (λ (l : Level). l .0) (weight-none named (level first) (level second) c (omega (arith, named-none e)) h)
-        ∙ sym (ap (λ (g : ℕ → ℕ). placeWeight s fp g x y) (grid-one e c))
+        ∙ sym (ap (λ (g : ℕ → ℕ). placeWeight s fp g x y z) (grid-one e c))
 
-    weight-is : (c : ℕ) → c < 4 → weightOf named (level first) (level second) c .0 ≡ placeWeight s fp (channelGrid s c) x y
+    weight-is : (c : ℕ) → c < 4 → weightOf named (level first) (level second) c .0 ≡ placeWeight s fp (channelGrid s c) x y z
     weight-is c h = by-planes (λ e. weight-two e c) (λ e. weight-one e c h)
 
     abbrev numbers : List Level
     numbers = widenedNumbers s partition
 
     abbrev weight : ℕ → ℕ
-    weight c = placeWeight s fp (channelGrid s c) x y
+    weight c = placeWeight s fp (channelGrid s c) x y z
 
     -- a channel of kinds 0 and 1
     line-is : (k : Kind) (c : ℕ) → c < 4 → channelOf (expandedPair k (pairOf (modeIn s partition) numbers)) (level first) (level second) named c
         ≡ mixOf (expandOf k (getD (pairOf (modeIn s partition) numbers .e0) c 0)) (expandOf k (getD (pairOf (modeIn s partition) numbers .e1) c 0)) (weight c)
     line-is k c h =
-        mix-whole k (pairOf (modeIn s partition) numbers) (colour-bytes partition) first second named c h (place-le (firstGrid s) first-le fp x y) second-most
+        mix-whole k (pairOf (modeIn s partition) numbers) (colour-bytes partition) first second named c h (place-le (firstGrid s) first-le fp x y z) second-most
         ∙ ap (mixOf (expandOf k (getD (pairOf (modeIn s partition) numbers .e0) c 0)) (expandOf k (getD (pairOf (modeIn s partition) numbers .e1) c 0))) (weight-is c h)
 
     abbrev half : HalfPair
@@ -305,7 +330,7 @@ module _ (s : SymbolicBlock) (f : Counted s) where
     half-line-is c h =
         let sixteen = half-sixteen (modeIn s partition) numbers (level-le partition) in
         ap (halfOf (hdrAt half c))
-        (channel-whole (endsOf half) (level first) (level second) named c (sixteen .first c) (sixteen .second c) (place-le (firstGrid s) first-le fp x y) second-most
+        (channel-whole (endsOf half) (level first) (level second) named c (sixteen .first c) (sixteen .second c) (place-le (firstGrid s) first-le fp x y z) second-most
         ∙ ap (mixOf (getD (half .c0) c 0) (getD (half .c1) c 0)) (weight-is c h))
 
     four-are : {r g b a r2 g2 b2 a2 : ℕ} → r ≡ r2 → g ≡ g2 → b ≡ b2 → a ≡ a2
@@ -332,7 +357,7 @@ module _ (s : SymbolicBlock) (f : Counted s) where
         ∙ four-are (half-line-is 0 (omega arith)) (half-line-is 1 (omega arith)) (half-line-is 2 (omega arith)) (half-line-is 3 (omega arith))
 
     -- both definitions give the same texel
-    pub agrees : mixedPicture s fp kind x y ≡ texelFrom fp kind (headerOf s) (endpointIn s) (weightIn s) x y
+    pub agrees : mixedPicture s fp kind x y z ≡ texelFrom fp kind (headerOf s) (endpointIn s) (weightIn s) x y z
     unfolding texelFrom mixedTexel partitionAt mixedPicture channelAt
     agrees =
         sym (ap (λ (w : ℕ). partitionTexel kind (s .modes) (s .partitions) ends partition (level w) (level second) named) first-is ∙ shown-is kind)

@@ -20,8 +20,12 @@ use Rattle.interpolation.specs.declared.Texel.{Texel}
 use Rattle.block_header.specs.declared.Header.{Header}
 use Rattle.block_header.specs.Counts.{weightCount, weightBits, componentBits, extraBits, endpointCount, bitsLeft, endpointRangeOf}
 use Rattle.block_header.specs.Reasons.{tooFewEndpointBits, someHdr}
-use Rattle.block_fault.specs.Bits.{modeAt, isVoid, partitionsAt, modeOf, headerAt, endpointsFrom, endpointAt, weightAt, colourAt, extentAt}
-use Rattle.block_fault.specs.Faults.{hdrVoidExtent, faultOf, hdrBlock}
+use Rattle.block_fault.specs.Bits.{modeAt, isVoid, partitionsAt, modeOf, headerAt, endpointsFrom, endpointAt, weightAt}
+use Rattle.footprint.specs.Footprint.{isVolume}
+use Rattle.block_mode.specs.declared.BlockMode.the-variants.{Grid}
+use Rattle.volume_mode.specs.Either.{blockModeIn}
+use Rattle.void_extent.specs.Layout.{colourAt, extentAt, hdrVoidExtent}
+use Rattle.block_fault.specs.Faults.{faultOf, hdrBlock}
 use Rattle.block_fault.proofs.ByKind.{fault-ldr}
 use Rattle.texel.specs.Meaning.{shownChannel}
 use Rattle.texel.specs.BlockTexel.{blockTexel, blockNumberAt}
@@ -78,30 +82,30 @@ module _ (fp : ℕ) (s : SymbolicBlock) where
 
 -- ---- the kinds in which a block without fault in kind 2 has none
 
-by-void : {A : Type 0} (B : ℕ) → (isVoid (modeAt B) ≡ true → A) → (isVoid (modeAt B) ≡ false → A) → A
-by-void {A} B f g = go (isVoid (modeAt B)) refl where
-  go : (v : Bool) → isVoid (modeAt B) ≡ v → A
+by-void : {A : Type 0} (fp B : ℕ) → (isVoid (modeAt fp B) ≡ true → A) → (isVoid (modeAt fp B) ≡ false → A) → A
+by-void {A} fp B f g = go (isVoid (modeAt fp B)) refl where
+  go : (v : Bool) → isVoid (modeAt fp B) ≡ v → A
   go true v = f v
   go false v = g v
 
-module _ (B : ℕ) where
+module _ (fp B : ℕ) where
   -- the marks that are read
   marked-back : (b : Bool) → b ≡ eqb (pick b 1 0) 1
   marked-back true = refl
   marked-back false = refl
 
-  hdr-read : hdrBlock B ≡ isMarked (readBlock B)
+  hdr-read : hdrBlock fp B ≡ isMarked (readBlock fp B)
   unfolding hdrBlock hdrVoidExtent voidBlock modeBlock
   hdr-read =
-      by-void B
-      (λ v. ap (λ (b : Bool). pick b (hdrVoidExtent B) (someHdr (headerAt B))) v ∙ sym (ap isMarked (read-void B v)))
-      (λ v. ap (λ (b : Bool). pick b (hdrVoidExtent B) (someHdr (headerAt B))) v ∙ marked-back (someHdr (headerAt B)) ∙ sym (ap isMarked (read-mode B v)))
+      by-void fp B
+      (λ v. ap (λ (b : Bool). pick b (hdrVoidExtent B) (someHdr (headerAt fp B))) v ∙ sym (ap isMarked (read-void fp B v)))
+      (λ v. ap (λ (b : Bool). pick b (hdrVoidExtent B) (someHdr (headerAt fp B))) v ∙ marked-back (someHdr (headerAt fp B)) ∙ sym (ap isMarked (read-mode fp B v)))
 
-  void-read-mark : isVoid (modeAt B) ≡ eqb (readBlock B .mark) 1
+  void-read-mark : isVoid (modeAt fp B) ≡ eqb (readBlock fp B .mark) 1
   unfolding voidBlock modeBlock
   void-read-mark =
-      by-void B (λ v. v ∙ sym (ap (λ (s : SymbolicBlock). eqb (s .mark) 1) (read-void B v)))
-      (λ v. v ∙ sym (ap (λ (s : SymbolicBlock). eqb (s .mark) 1) (read-mode B v)))
+      by-void fp B (λ v. v ∙ sym (ap (λ (s : SymbolicBlock). eqb (s .mark) 1) (read-void fp B v)))
+      (λ v. v ∙ sym (ap (λ (s : SymbolicBlock). eqb (s .mark) 1) (read-mode fp B v)))
 
 -- the fault in kinds 0 and 1, by the marks
 abbrev ldrFault : SymbolicBlock → ℕ
@@ -112,20 +116,20 @@ not-none true e = omega arith
 not-none false e = omega arith
 
 module _ (fp B : ℕ) (e : faultOf true fp B ≡ 0) where
-  in-ldr : faultOf false fp B ≡ ldrFault (readBlock B)
+  in-ldr : faultOf false fp B ≡ ldrFault (readBlock fp B)
   in-ldr =
       fault-ldr fp B e
-      ∙ (λ i. pick (hdr-read B i) (pick (void-read-mark B i) 13 20) 0)
+      ∙ (λ i. pick (hdr-read fp B i) (pick (void-read-mark fp B i) 13 20) 0)
 
-  ldr-none : readBlock B .hdr ≡ 0 → faultOf false fp B ≡ 0
-  ldr-none h = in-ldr ∙ ap (λ (x : ℕ). pick (eqb x 1) (pick (eqb (readBlock B .mark) 1) 13 20) 0) h
+  ldr-none : readBlock fp B .hdr ≡ 0 → faultOf false fp B ≡ 0
+  ldr-none h = in-ldr ∙ ap (λ (x : ℕ). pick (eqb x 1) (pick (eqb (readBlock fp B .mark) 1) 13 20) 0) h
 
-  hdr-some : readBlock B .hdr ≡ 1 → faultOf false fp B ≡ 0 → ⊥
+  hdr-some : readBlock fp B .hdr ≡ 1 → faultOf false fp B ≡ 0 → ⊥
   hdr-some h z =
-      not-none (eqb (readBlock B .mark) 1)
-      (sym (in-ldr ∙ ap (λ (x : ℕ). pick (eqb x 1) (pick (eqb (readBlock B .mark) 1) 13 20) 0) h) ∙ z)
+      not-none (eqb (readBlock fp B .mark) 1)
+      (sym (in-ldr ∙ ap (λ (x : ℕ). pick (eqb x 1) (pick (eqb (readBlock fp B .mark) 1) 13 20) 0) h) ∙ z)
 
-  kinds-ldr : readBlock B .hdr ≡ 0 → (kind : Kind) → faultOf (takesHdr kind) fp B ≡ 0
+  kinds-ldr : readBlock fp B .hdr ≡ 0 → (kind : Kind) → faultOf (takesHdr kind) fp B ≡ 0
   kinds-ldr h Unorm16 = ldr-none h
   kinds-ldr h Srgb8 = ldr-none h
   kinds-ldr h Float16 = e
@@ -133,13 +137,13 @@ module _ (fp B : ℕ) (e : faultOf true fp B ≡ 0) where
   other-kind : (kind : Kind) → takesHdr kind ≡ false → kind ≡ Float16 → ⊥
   other-kind kind f q = subst T (sym (ap takesHdr q) ∙ f) tt
 
-  kinds-hdr : readBlock B .hdr ≡ 1 → (kind : Kind) → (faultOf (takesHdr kind) fp B ≡ 0) ↔ (kind ≡ Float16)
+  kinds-hdr : readBlock fp B .hdr ≡ 1 → (kind : Kind) → (faultOf (takesHdr kind) fp B ≡ 0) ↔ (kind ≡ Float16)
   kinds-hdr h Unorm16 = (λ z. absurd (hdr-some h z), λ q. absurd (other-kind Unorm16 refl q))
   kinds-hdr h Srgb8 = (λ z. absurd (hdr-some h z), λ q. absurd (other-kind Srgb8 refl q))
   kinds-hdr h Float16 = (λ z. refl, λ q. e)
 
 -- two blocks that read as the same have the same faults
-same-kinds : (fp B C : ℕ) → faultOf true fp B ≡ 0 → faultOf true fp C ≡ 0 → readBlock B ≡ readBlock C
+same-kinds : (fp B C : ℕ) → faultOf true fp B ≡ 0 → faultOf true fp C ≡ 0 → readBlock fp B ≡ readBlock fp C
     → (kind : Kind) → faultOf (takesHdr kind) fp B ≡ faultOf (takesHdr kind) fp C
 same-kinds fp B C b c r kind = go kind where
   ldr : faultOf false fp B ≡ faultOf false fp C
@@ -153,34 +157,34 @@ same-kinds fp B C b c r kind = go kind where
 -- ---- writing
 
 module _ (fp : ℕ) (s : SymbolicBlock) (z : Sized s) (a : Acceptable fp s) where
-  fits : blockOf s < 2 ^ 128
+  fits : blockOf fp s < 2 ^ 128
   fits =
-      by-mark s (λ m. rw (block-void s m) (void.block-lt fp s m (void-none fp s a m) z))
-      (λ m. rw (block-mode s m) (written.block-lt fp s (fine fp s m (mode-none fp s a m)) z))
+      by-mark s (λ m. rw (block-void s m fp) (void.block-lt fp s m (void-none fp s a m) z))
+      (λ m. rw (block-mode s m fp) (written.block-lt fp s (fine fp s m (mode-none fp s a m)) z))
 
-  no-fault : faultOf true fp (blockOf s) ≡ 0
+  no-fault : faultOf true fp (blockOf fp s) ≡ 0
   no-fault =
-      by-mark s (λ m. rw (block-void s m) (void.void-faultless fp s m (void-none fp s a m) z))
-      (λ m. rw (block-mode s m) (written.mode-faultless fp s (fine fp s m (mode-none fp s a m)) z (mode-none fp s a m)))
+      by-mark s (λ m. rw (block-void s m fp) (void.void-faultless fp s m (void-none fp s a m) z))
+      (λ m. rw (block-mode s m fp) (written.mode-faultless fp s (fine fp s m (mode-none fp s a m)) z (mode-none fp s a m)))
 
-  back : readBlock (blockOf s) ≡ s
+  back : readBlock fp (blockOf fp s) ≡ s
   back =
-      by-mark s (λ m. rw (block-void s m) (void.void-back fp s m (void-none fp s a m) z))
-      (λ m. rw (block-mode s m) (written.mode-back fp s (fine fp s m (mode-none fp s a m)) z))
+      by-mark s (λ m. rw (block-void s m fp) (void.void-back fp s m (void-none fp s a m) z))
+      (λ m. rw (block-mode s m fp) (written.mode-back fp s (fine fp s m (mode-none fp s a m)) z))
 
-  shows : (kind : Kind) → faultOf (takesHdr kind) fp (blockOf s) ≡ 0 → (x y : ℕ) → blockTexel fp kind (blockOf s) x y ≡ pictureOf fp kind s x y
-  shows kind e x y = block-shows fp kind (blockOf s) x y e ∙ ap (λ (t : SymbolicBlock). pictureOf fp kind t x y) back
+  shows : (kind : Kind) → faultOf (takesHdr kind) fp (blockOf fp s) ≡ 0 → (x y z : ℕ) → blockTexel fp kind (blockOf fp s) x y z ≡ pictureOf fp kind s x y z
+  shows kind e x y z = block-shows fp kind (blockOf fp s) x y z e ∙ ap (λ (t : SymbolicBlock). pictureOf fp kind t x y z) back
 
-  shows-numbers : (kind : Kind) → faultOf (takesHdr kind) fp (blockOf s) ≡ 0
-      → (x y c : ℕ) → blockNumberAt fp kind (blockOf s) x y c ≡ pictureNumber fp kind s x y c
+  shows-numbers : (kind : Kind) → faultOf (takesHdr kind) fp (blockOf fp s) ≡ 0
+      → (x y z c : ℕ) → blockNumberAt fp kind (blockOf fp s) x y z c ≡ pictureNumber fp kind s x y z c
   unfolding blockNumberAt pictureNumber shownChannel
-  shows-numbers kind e x y c = ap (λ (t : Texel). shownChannel kind t c) (shows kind e x y)
+  shows-numbers kind e x y z c = ap (λ (t : Texel). shownChannel kind t c) (shows kind e x y z)
 
-  written-ldr : s .hdr ≡ 0 → (kind : Kind) → faultOf (takesHdr kind) fp (blockOf s) ≡ 0
-  written-ldr h = kinds-ldr fp (blockOf s) no-fault (ap (λ (t : SymbolicBlock). t .hdr) back ∙ h)
+  written-ldr : s .hdr ≡ 0 → (kind : Kind) → faultOf (takesHdr kind) fp (blockOf fp s) ≡ 0
+  written-ldr h = kinds-ldr fp (blockOf fp s) no-fault (ap (λ (t : SymbolicBlock). t .hdr) back ∙ h)
 
-  written-hdr : s .hdr ≡ 1 → (kind : Kind) → (faultOf (takesHdr kind) fp (blockOf s) ≡ 0) ↔ (kind ≡ Float16)
-  written-hdr h = kinds-hdr fp (blockOf s) no-fault (ap (λ (t : SymbolicBlock). t .hdr) back ∙ h)
+  written-hdr : s .hdr ≡ 1 → (kind : Kind) → (faultOf (takesHdr kind) fp (blockOf fp s) ≡ 0) ↔ (kind ≡ Float16)
+  written-hdr h = kinds-hdr fp (blockOf fp s) no-fault (ap (λ (t : SymbolicBlock). t .hdr) back ∙ h)
 
   pub typed : Typed s
   typed = by-mark s (λ m. void-typed fp s m (void-none fp s a m) z) (λ m. mode-typed fp s (fine fp s m (mode-none fp s a m)) z)
@@ -190,69 +194,72 @@ module _ (fp : ℕ) (s : SymbolicBlock) (z : Sized s) (a : Acceptable fp s) wher
     not-1 e = omega arith
 
     endpoint-codes : Smallest (encodingAt (endpointRangeOf (headerOf s))) (bitsAt (endpointRangeOf (headerOf s))) (endpointCount (headerOf s)) (endpointIn s)
-        (sequenceAt (encodingAt (endpointRangeOf (headerOf s))) (bitsAt (endpointRangeOf (headerOf s))) (blockOf s) (endpointsFrom (s .partitions)) (endpointCount (headerOf s)))
-    endpoint-codes = rw (block-mode s not-1) (written.endpoint-codes fp s (fine fp s not-1 (mode-none fp s a not-1)) z)
+        (sequenceAt (encodingAt (endpointRangeOf (headerOf s))) (bitsAt (endpointRangeOf (headerOf s))) (blockOf fp s) (endpointsFrom (s .partitions)) (endpointCount (headerOf s)))
+    endpoint-codes = rw (block-mode s not-1 fp) (written.endpoint-codes fp s (fine fp s not-1 (mode-none fp s a not-1)) z)
 
     weight-codes : Smallest (encodingAt (s .range)) (bitsAt (s .range)) (weightCount (gridOf s)) (weightIn s)
-        (sequenceAt (encodingAt (s .range)) (bitsAt (s .range)) (reverse 128 (blockOf s)) 0 (weightCount (gridOf s)))
-    weight-codes = rw (block-mode s not-1) (written.weight-codes fp s (fine fp s not-1 (mode-none fp s a not-1)) z)
+        (sequenceAt (encodingAt (s .range)) (bitsAt (s .range)) (reverse 128 (blockOf fp s)) 0 (weightCount (gridOf s)))
+    weight-codes = rw (block-mode s not-1 fp) (written.weight-codes fp s (fine fp s not-1 (mode-none fp s a not-1)) z)
 
-    spare : field (blockOf s) (endpointsEnd (headerOf s)) (componentFrom (headerOf s) - endpointsEnd (headerOf s)) ≡ 0
-    spare = rw (block-mode s not-1) (written.spare-zero fp s (fine fp s not-1 (mode-none fp s a not-1)) z)
+    spare : field (blockOf fp s) (endpointsEnd (headerOf s)) (componentFrom (headerOf s) - endpointsEnd (headerOf s)) ≡ 0
+    spare = rw (block-mode s not-1 fp) (written.spare-zero fp s (fine fp s not-1 (mode-none fp s a not-1)) z)
+
+    smallest-mode : (m : ℕ) → m < 2048 → blockModeIn (isVolume fp) m ≡ Grid (gridOf s) → field (blockOf fp s) 0 11 ≤ m
+    smallest-mode = rw (block-mode s not-1 fp) (written.mode-least fp s (fine fp s not-1 (mode-none fp s a not-1)) z)
 
 -- ---- reading
 
-four-modes : (B : ℕ) → length (headerAt B .modes) ≡ 4
+four-modes : (fp B : ℕ) → length (headerAt fp B .modes) ≡ 4
 unfolding headerAt
-four-modes B = length-padded (modeOf (partitionsAt B) (selectorIn B) (modesCodeIn B)) 0 4 (partitionsAt B)
+four-modes fp B = length-padded (modeOf (partitionsAt B) (selectorIn B) (modesCodeIn fp B)) 0 4 (partitionsAt B)
 
-pub sized : (B : ℕ) → Sized (readBlock B)
-sized B = by-void B (λ v. rw (read-void B v) (void.void-sized B)) (λ v. rw (read-mode B v) (read.mode-sized B (headerAt B) (four-modes B)))
+pub sized : (fp B : ℕ) → Sized (readBlock fp B)
+sized fp B = by-void fp B (λ v. rw (read-void fp B v) (void.void-sized fp B)) (λ v. rw (read-mode fp B v) (read.mode-sized B (headerAt fp B) (four-modes fp B)))
 
-module _ (fp B : ℕ) (low : fp ≤ 13) (e : faultOf true fp B ≡ 0) where
-  void-read : isVoid (modeAt B) ≡ true → None (refusals fp (readBlock B))
+module _ (fp B : ℕ) (low : fp ≤ 23) (e : faultOf true fp B ≡ 0) where
+  void-read : isVoid (modeAt fp B) ≡ true → None (refusals fp (readBlock fp B))
   unfolding voidBlock
   void-read v =
-      let s = voidBlock (field B 9 1) (colourAt B) (extentAt B) in
-      subst (λ (t : SymbolicBlock). None (refusals fp t)) (sym (read-void B v)) (subst None (sym (refusals-void s refl fp)) (void.void-accepted B fp low v e))
+      let s = voidBlock (field B 9 1) (colourAt B) (extentAt (isVolume fp) B) in
+      subst (λ (t : SymbolicBlock). None (refusals fp t)) (sym (read-void fp B v)) (subst None (sym (refusals-void s refl fp)) (void.void-accepted fp B low v e))
 
-  mode-read : isVoid (modeAt B) ≡ false → None (refusals fp (readBlock B))
+  mode-read : isVoid (modeAt fp B) ≡ false → None (refusals fp (readBlock fp B))
   unfolding modeBlock
   mode-read v =
       let n = no-mode-fault fp B v e in
-      let s = modeBlock (headerAt B) (endpointAt B (headerAt B)) (weightAt B (headerAt B)) in
+      let s = modeBlock (headerAt fp B) (endpointAt B (headerAt fp B)) (weightAt B (headerAt fp B)) in
       let not-1 : s .mark ≡ 1 → ⊥ = (λ q. omega (arith, q)) in
-      subst (λ (t : SymbolicBlock). None (refusals fp t)) (sym (read-mode B v))
-      (subst None (sym (refusals-mode s not-1 fp)) (read.mode-accepted B (headerAt B) fp low (read.settled B v (n .0)) (n .1)))
+      subst (λ (t : SymbolicBlock). None (refusals fp t)) (sym (read-mode fp B v))
+      (subst None (sym (refusals-mode s not-1 fp)) (read.mode-accepted B (headerAt fp B) fp low (read.settled fp B v (n .0)) (n .1)))
 
-  read-accepted : Acceptable fp (readBlock B)
-  read-accepted = accepted fp (readBlock B) (by-void B void-read mode-read)
+  read-accepted : Acceptable fp (readBlock fp B)
+  read-accepted = accepted fp (readBlock fp B) (by-void fp B void-read mode-read)
 
-  again-kinds : (kind : Kind) → faultOf (takesHdr kind) fp (blockOf (readBlock B)) ≡ faultOf (takesHdr kind) fp B
+  again-kinds : (kind : Kind) → faultOf (takesHdr kind) fp (blockOf fp (readBlock fp B)) ≡ faultOf (takesHdr kind) fp B
   again-kinds =
-      let s = readBlock B in
-      same-kinds fp (blockOf s) B (no-fault fp s (sized B) read-accepted) e (back fp s (sized B) read-accepted)
+      let s = readBlock fp B in
+      same-kinds fp (blockOf fp s) B (no-fault fp s (sized fp B) read-accepted) e (back fp s (sized fp B) read-accepted)
 
 -- of a kind in which it has none
-module _ (fp B : ℕ) (low : fp ≤ 13) (kind : Kind) (k : faultOf (takesHdr kind) fp B ≡ 0) where
-  same-shown : (x y : ℕ) → blockTexel fp kind (blockOf (readBlock B)) x y ≡ blockTexel fp kind B x y
-  same-shown x y =
+module _ (fp B : ℕ) (low : fp ≤ 23) (kind : Kind) (k : faultOf (takesHdr kind) fp B ≡ 0) where
+  same-shown : (x y z : ℕ) → blockTexel fp kind (blockOf fp (readBlock fp B)) x y z ≡ blockTexel fp kind B x y z
+  same-shown x y z =
       let e = some-kind fp B kind k in
-      shows fp (readBlock B) (sized B) (read-accepted fp B low e) kind (again-kinds fp B low e kind ∙ k) x y ∙ sym (block-shows fp kind B x y k)
+      shows fp (readBlock fp B) (sized fp B) (read-accepted fp B low e) kind (again-kinds fp B low e kind ∙ k) x y z ∙ sym (block-shows fp kind B x y z k)
 
-  same-numbers : (x y c : ℕ) → blockNumberAt fp kind (blockOf (readBlock B)) x y c ≡ blockNumberAt fp kind B x y c
+  same-numbers : (x y z c : ℕ) → blockNumberAt fp kind (blockOf fp (readBlock fp B)) x y z c ≡ blockNumberAt fp kind B x y z c
   unfolding blockNumberAt
-  same-numbers x y c = ap (λ (t : Texel). shownChannel kind t c) (same-shown x y)
+  same-numbers x y z c = ap (λ (t : Texel). shownChannel kind t c) (same-shown x y z)
 
 few : (h : Header) → tooFewEndpointBits h ≡ false → (13 * endpointCount h + 4) / 5 ≤ bitsLeft h
 unfolding tooFewEndpointBits
 few h e = ltb-false (bitsLeft h) ((13 * endpointCount h + 4) / 5) e
 
-parts : (fp B : ℕ) → isVoid (modeAt B) ≡ false → faultOf true fp B ≡ 0 → endpointsEnd (headerAt B)
-    + (weightBits (headerAt B .grid) + componentBits (headerAt B .grid .planes) + extraBits (headerAt B .partitions) (headerAt B .selector)) ≤ 128
+parts : (fp B : ℕ) → isVoid (modeAt fp B) ≡ false → faultOf true fp B ≡ 0 → endpointsEnd (headerAt fp B)
+    + (weightBits (headerAt fp B .grid) + componentBits (headerAt fp B .grid .planes) + extraBits (headerAt fp B .partitions) (headerAt fp B .selector)) ≤ 128
 parts fp B v e =
     let n = no-mode-fault fp B v e in
-    room (headerAt B) (read.settled B v (n .0) .partitions-low) (few (headerAt B) (none-at (modeFaults fp (headerAt B)) (n .1) 5))
+    room (headerAt fp B) (read.settled fp B v (n .0) .partitions-low) (few (headerAt fp B) (none-at (modeFaults fp (headerAt fp B)) (n .1) 5))
 
 -- ---- the whole
 
@@ -267,11 +274,11 @@ demand-3 = record {
   written-shows-numbers = shows-numbers;
   written-kinds-ldr = written-ldr;
   written-kinds-hdr = written-hdr;
-  read-sized = λ fp B e. sized B;
-  read-typed = λ fp B low e. typed fp (readBlock B) (sized B) (read-accepted fp B low e);
+  read-sized = λ fp B e. sized fp B;
+  read-typed = λ fp B low e. typed fp (readBlock fp B) (sized fp B) (read-accepted fp B low e);
   read-acceptable = read-accepted;
-  reads-as = λ fp B e. relation.reads-as B;
-  reads-as-one = λ fp B s e z r. relation.reads-same B s (readBlock B) z (sized B) r (relation.reads-as B);
+  reads-as = λ fp B e. relation.reads-as fp B;
+  reads-as-one = λ fp B s e z r. relation.reads-same fp B s (readBlock fp B) z (sized fp B) r (relation.reads-as fp B);
   parts-apart = parts;
   read-kinds-ldr = kinds-ldr;
   read-kinds-hdr = kinds-hdr;
@@ -281,4 +288,5 @@ demand-3 = record {
   smallest-endpoint-codes = endpoint-codes;
   smallest-weight-codes = weight-codes;
   spare-bits = spare;
+  smallest-mode = smallest-mode;
 }

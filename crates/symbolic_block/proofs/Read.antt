@@ -8,7 +8,7 @@ use lib.Arith.{digits-lt}
 use lib.Dec.{T, ltb, eqb}
 use lib.ListN.{length, getD}
 use lib.Pow.{pow-add}
-use borrow.Author.Tests.{le-ltb, lt-ltb}
+use borrow.Author.Tests.{le-ltb, lt-ltb, ltb-true, ltb-false}
 use Rattle.laws.specs.Choice.{pick, both}
 use Rattle.laws.specs.Table.{tab, padded}
 use Rattle.laws.proofs.Filling.{length-tab, length-padded, padded-here, padded-past}
@@ -18,9 +18,10 @@ use Rattle.quantization.specs.Ranges.{mostAt}
 use Rattle.integer_sequence.specs.Reading.{stored}
 use Rattle.block_mode.specs.declared.WeightGrid.{WeightGrid}
 use Rattle.block_mode.specs.declared.BlockMode.the-variants.{Grid}
-use Rattle.block_mode.specs.Mode2D.{blockMode}
+use Rattle.footprint.specs.Footprint.{isVolume}
+use Rattle.volume_mode.specs.Either.{blockModeIn, isDeep, modeBitsOf}
 use Rattle.block_mode.specs.Back2D.{Limits}
-use Rattle.block_mode.proofs.Modes.{mode-limits, mode-found}
+use Rattle.volume_mode.proofs.Modes.{mode-limits, mode-found, mode-deep}
 use Rattle.block_header.specs.declared.Header.{Header}
 use Rattle.block_header.specs.Counts.{weightCount, weightBits, componentBits, indexBits, selectorBits, extraBits, endpointCount, endpointRangeOf}
 use Rattle.block_header.specs.Reasons.{someHdr, hdrRefused}
@@ -28,7 +29,7 @@ use Rattle.block_fault.specs.Bits.{modeAt, isVoid, isReserved, gridIn, partitio
 use Rattle.block_fault.proofs.Verdicts.{a-grid}
 use Rattle.symbolic_block.specs.declared.SymbolicBlock.{SymbolicBlock}
 use Rattle.symbolic_block.specs.Fields.{numberIn, Sized}
-use Rattle.symbolic_block.specs.Refusals.{within, outside, noBlockMode, modesMisfit, unknownFootprint, badMark, badHdr, badWidth, badHeight, badRange, badPlanes, badComponent, badPartitions, badIndex, badSelector, badModes, badEndpoints, badWeights, markedWithout, modeRefusals}
+use Rattle.symbolic_block.specs.Refusals.{within, outside, noBlockMode, modesMisfit, unknownFootprint, badMark, badHdr, badWidth, badHeight, badDepth, badRange, badPlanes, badComponent, badPartitions, badIndex, badSelector, badModes, badEndpoints, badWeights, markedWithout, modeRefusals}
 use Rattle.symbolic_block.specs.Reading.{modeBlock}
 use Rattle.laws.proofs.Reasons.{None, _also_, none-at, none-either}
 use Rattle.symbolic_block.proofs.Lists.{is-within, all-within, stored-at, zeros-unused}
@@ -38,8 +39,9 @@ use Rattle.symbolic_block.proofs.Opened.{modeFaults, header-is, endpoin
 use Rattle.symbolic_block.proofs.Room.{index-le, selector-le, component-le, pick-le}
 
 -- what every header is that is read
-pub record Settled (h : Header) : Type 0 where
+pub record Settled (fp : ℕ) (h : Header) : Type 0 where
   pub coded : noBlockMode (h .grid) ≡ false
+  pub deep : isDeep (h .grid) ≡ isVolume fp
   pub limits : Limits (h .grid)
   pub component-in : h .component ≤ pick (eqb (h .grid .planes) 2) 3 0
   pub partitions-low : 1 ≤ h .partitions
@@ -54,7 +56,7 @@ padded-within : (N n most : ℕ) (f : ℕ → ℕ) → ((i : ℕ) → f i ≤ mo
 padded-within N n most f h =
     all-within N n most _ (λ i l m. rw (padded-here f 0 N n i 0 l m) (h i)) (λ i l m. padded-past f 0 N n i 0 l m)
 
-module _ (B : ℕ) (g : WeightGrid) (P sel : ℕ) (m : noBlockMode g ≡ false) (i : Limits g) (low : 1 ≤ P) (most : P ≤ 4) (s : sel < 2 ^ selectorBits P) where
+module _ (fp B : ℕ) (g : WeightGrid) (P sel : ℕ) (m : noBlockMode g ≡ false) (deep : isDeep g ≡ isVolume fp) (i : Limits g) (low : 1 ≤ P) (most : P ≤ 4) (s : sel < 2 ^ selectorBits P) where
   abbrev code : ℕ
   code = extraAt B g P sel * 2 ^ 4 + baseAt B P
 
@@ -73,10 +75,11 @@ module _ (B : ℕ) (g : WeightGrid) (P sel : ℕ) (m : noBlockMode g ≡ false) 
   sel<4 : sel ≤ 3
   sel<4 = omega (arith, selector-le P sel s, pick-le (eqb P 1) 0 3 3 (omega arith) (omega arith))
 
-  settled-with : Settled (headerWith B g P sel)
+  settled-with : Settled fp (headerWith B g P sel)
   unfolding headerWith
   settled-with = record {
     coded = m;
+    deep = deep;
     limits = i;
     component-in = component-le (g .planes) (componentAt B g P sel) (i .planes-low) (i .planes-most) component<;
     partitions-low = low;
@@ -88,17 +91,17 @@ module _ (B : ℕ) (g : WeightGrid) (P sel : ℕ) (m : noBlockMode g ≡ false) 
     modes-4 = length-padded (modeOf P sel code) 0 4 P;
   }
 
-module _ (B : ℕ) (v : isVoid (modeAt B) ≡ false) (r : isReserved (modeAt B) ≡ false) where
+module _ (fp B : ℕ) (v : isVoid (modeAt fp B) ≡ false) (r : isReserved (modeAt fp B) ≡ false) where
   abbrev g : WeightGrid
-  g = gridIn (modeAt B)
+  g = gridIn (modeAt fp B)
 
-  is-grid : blockMode (field B 0 11) ≡ Grid g
+  is-grid : blockModeIn (isVolume fp) (field B 0 11) ≡ Grid g
   unfolding modeAt
-  is-grid = a-grid (modeAt B) v r
+  is-grid = a-grid (modeAt fp B) v r
 
   coded : noBlockMode g ≡ false
   unfolding noBlockMode
-  coded = rw (mode-found (field B 0 11) (field-lt B 0 11) g is-grid)
+  coded = rw (mode-found (isVolume fp) (field B 0 11) (field-lt B 0 11) g is-grid .is)
 
   partitions-are : partitionsAt B ≡ field B 11 2 + 1
   unfolding partitionsAt
@@ -108,10 +111,10 @@ module _ (B : ℕ) (v : isVoid (modeAt B) ≡ false) (r : isReserved (modeAt B) 
   unfolding selectorAt
   selector< = field-lt B (13 + indexBits (partitionsAt B)) (selectorBits (partitionsAt B))
 
-  pub settled : Settled (headerAt B)
+  pub settled : Settled fp (headerAt fp B)
   settled =
       rw header-is
-      (settled-with B g (partitionsAt B) (selectorAt B (partitionsAt B)) coded (mode-limits (field B 0 11) (field-lt B 0 11) g is-grid)
+      (settled-with fp B g (partitionsAt B) (selectorAt B (partitionsAt B)) coded (mode-deep (isVolume fp) (field B 0 11) (field-lt B 0 11) g is-grid) (mode-limits (isVolume fp) (field B 0 11) (field-lt B 0 11) g is-grid)
       (omega (arith, partitions-are)) (omega (arith, partitions-are, field-lt B 11 2)) selector<)
 
 -- ---- the numbers
@@ -139,6 +142,11 @@ stored-within N n most f u p =
 
 inside : (low high x : ℕ) → low ≤ x → x ≤ high → outside low high x ≡ false
 inside low high x h l = none-either (ltb x low) (ltb high x) (le-ltb x low h) (le-ltb high x l)
+
+-- a depth in its limits: above 1 in a volume, 1 in a flat block
+depth-in : (volume : Bool) (d : ℕ) → 1 ≤ d → d ≤ 6 → ltb 1 d ≡ volume → pick volume (outside 2 6 d) (outside 1 1 d) ≡ false
+depth-in true d l m e = inside 2 6 d (ltb-true 1 d e) m
+depth-in false d l m e = inside 1 1 d l (ltb-false 1 d e)
 
 -- the HDR mark that is read: in its limits, and neither 20 nor 35
 mark-in : (b : Bool) → ltb 1 (pick b 1 0) ≡ false
@@ -169,21 +177,22 @@ module _ (B : ℕ) (h : Header) where
   unfolding modeBlock
   mode-sized e = record {
     colours-4 = length-tab (λ i. 0) 4;
-    extents-4 = length-tab (λ i. 0) 4;
+    extents-6 = length-tab (λ i. 0) 6;
     modes-4 = e;
     endpoints-18 = length-tab (λ i. stored (endpointAt B h i)) 18;
     weights-64 = length-tab (λ i. stored (weightAt B h i)) 64;
   }
 
-  pub mode-accepted : (fp : ℕ) → fp ≤ 13 → Settled h → None (modeFaults fp h) → None (modeRefusals fp read)
-  unfolding modeRefusals modeBlock unknownFootprint badMark badHdr badWidth badHeight badRange badPlanes badComponent badPartitions badIndex badSelector badModes hdrRefused markedWithout
+  pub mode-accepted : (fp : ℕ) → fp ≤ 23 → Settled fp h → None (modeFaults fp h) → None (modeRefusals fp read)
+  unfolding modeRefusals modeBlock isDeep unknownFootprint badMark badHdr badWidth badHeight badDepth badRange badPlanes badComponent badPartitions badIndex badSelector badModes hdrRefused markedWithout
   mode-accepted fp low i n =
       let r = none-at (modeFaults fp h) n in
-      le-ltb 13 fp low
+      le-ltb 23 fp low
       also refl
       also mark-in (someHdr h)
       also inside 2 12 (h .grid .width) (i .limits .width-low) (i .limits .width-most)
       also inside 2 12 (h .grid .height) (i .limits .height-low) (i .limits .height-most)
+      also depth-in (isVolume fp) (h .grid .depth) (i .limits .depth-low) (i .limits .depth-most) (i .deep)
       also le-ltb 11 (h .grid .range) (i .limits .range-most)
       also inside 1 2 (h .grid .planes) (i .limits .planes-low) (i .limits .planes-most)
       also le-ltb (pick (eqb (h .grid .planes) 2) 3 0) (h .component) (i .component-in)
@@ -192,7 +201,7 @@ module _ (B : ℕ) (h : Header) where
       also le-ltb (pick (eqb (h .partitions) 1) 0 3) (h .selector) (i .selector-in)
       also is-within (within 4 (h .partitions) 15 (λ k. getD (h .modes) k 0)) (i .modes-in)
       also zeros-unused 4
-      also zeros-unused 4
+      also zeros-unused 6
       also i .coded
       also r 0 also r 1 also r 2 also r 3
       also i .selected

@@ -13,26 +13,29 @@ use Rattle.laws.proofs.Filling.{getD-tab, padded-at}
 use Rattle.encoding.specs.declared.Stored.{Stored}
 use Rattle.bits.specs.Field.{field}
 use Rattle.integer_sequence.specs.Reading.{stored}
-use Rattle.block_fault.specs.Bits.{modeAt, isVoid, partitionsAt, modeOf, headerAt, endpointAt, weightAt, extentAt, colourAt}
+use Rattle.block_fault.specs.Bits.{modeAt, isVoid, partitionsAt, modeOf, headerAt, endpointAt, weightAt}
+use Rattle.footprint.specs.Footprint.{isVolume}
+use Rattle.void_extent.specs.Layout.{extentAt, colourAt}
 use Rattle.symbolic_block.specs.declared.SymbolicBlock.{SymbolicBlock}
 use Rattle.symbolic_block.specs.Fields.{numberIn, Sized}
 use Rattle.symbolic_block.specs.Reading.{modeBlock, voidBlock, readBlock, selectorIn, modesCodeIn, ReadsAs}
 use Rattle.symbolic_block.proofs.Lists.{zero-at, stored-at}
 use Rattle.symbolic_block.proofs.Opened.{read-void, read-mode}
 
-module _ (B : ℕ) where
+module _ (fp B : ℕ) where
   -- ---- it does
 
-  module _ (v : isVoid (modeAt B) ≡ true) where
-    void-reads : ReadsAs B (voidBlock (field B 9 1) (colourAt B) (extentAt B))
+  module _ (v : isVoid (modeAt fp B) ≡ true) where
+    void-reads : ReadsAs fp B (voidBlock (field B 9 1) (colourAt B) (extentAt (isVolume fp) B))
     unfolding voidBlock
     void-reads = record {
       mark = rw v;
       hdr = rw v;
       colours = λ i h. rw v (getD-tab (colourAt B) 4 i 0 h);
-      extents = λ i h. rw v (getD-tab (extentAt B) 4 i 0 h);
+      extents = λ i h. rw v (getD-tab (extentAt (isVolume fp) B) 6 i 0 h);
       width = rw v;
       height = rw v;
+      depth = rw v;
       range = rw v;
       planes = rw v;
       component = rw v;
@@ -44,21 +47,22 @@ module _ (B : ℕ) where
       weights = λ i h. rw v (stored-at (λ k. 0) 64 i h);
     }
 
-  module _ (v : isVoid (modeAt B) ≡ false) where
-    mode-at : (i : ℕ) → i < 4 → getD (headerAt B .modes) i 0
-        ≡ pick (ltb i (partitionsAt B)) (modeOf (partitionsAt B) (selectorIn B) (modesCodeIn B) i) 0
+  module _ (v : isVoid (modeAt fp B) ≡ false) where
+    mode-at : (i : ℕ) → i < 4 → getD (headerAt fp B .modes) i 0
+        ≡ pick (ltb i (partitionsAt B)) (modeOf (partitionsAt B) (selectorIn B) (modesCodeIn fp B) i) 0
     unfolding headerAt
-    mode-at i h = padded-at (modeOf (partitionsAt B) (selectorIn B) (modesCodeIn B)) 0 4 (partitionsAt B) i 0 h
+    mode-at i h = padded-at (modeOf (partitionsAt B) (selectorIn B) (modesCodeIn fp B)) 0 4 (partitionsAt B) i 0 h
 
-    mode-reads : ReadsAs B (modeBlock (headerAt B) (endpointAt B (headerAt B)) (weightAt B (headerAt B)))
+    mode-reads : ReadsAs fp B (modeBlock (headerAt fp B) (endpointAt B (headerAt fp B)) (weightAt B (headerAt fp B)))
     unfolding modeBlock headerAt
     mode-reads = record {
       mark = rw v;
       hdr = rw v;
       colours = λ i h. rw v (zero-at 4 i h);
-      extents = λ i h. rw v (zero-at 4 i h);
+      extents = λ i h. rw v (zero-at 6 i h);
       width = rw v;
       height = rw v;
+      depth = rw v;
       range = rw v;
       planes = rw v;
       component = rw v;
@@ -66,19 +70,19 @@ module _ (B : ℕ) where
       index = rw v;
       selector = rw v;
       modes = λ i h. rw v (mode-at i h);
-      endpoints = λ i h. rw v (stored-at (endpointAt B (headerAt B)) 18 i h);
-      weights = λ i h. rw v (stored-at (weightAt B (headerAt B)) 64 i h);
+      endpoints = λ i h. rw v (stored-at (endpointAt B (headerAt fp B)) 18 i h);
+      weights = λ i h. rw v (stored-at (weightAt B (headerAt fp B)) 64 i h);
     }
 
-  pub reads-as : ReadsAs B (readBlock B)
-  reads-as = go (isVoid (modeAt B)) refl where
-    go : (v : Bool) → isVoid (modeAt B) ≡ v → ReadsAs B (readBlock B)
-    go true v = rw (read-void B v) (void-reads v)
-    go false v = rw (read-mode B v) (mode-reads v)
+  pub reads-as : ReadsAs fp B (readBlock fp B)
+  reads-as = go (isVoid (modeAt fp B)) refl where
+    go : (v : Bool) → isVoid (modeAt fp B) ≡ v → ReadsAs fp B (readBlock fp B)
+    go true v = rw (read-void fp B v) (void-reads v)
+    go false v = rw (read-mode fp B v) (mode-reads v)
 
   -- ---- two that a block reads as are the same
 
-  module _ (s t : SymbolicBlock) (z : Sized s) (w : Sized t) (p : ReadsAs B s) (q : ReadsAs B t) where
+  module _ (s t : SymbolicBlock) (z : Sized s) (w : Sized t) (p : ReadsAs fp B s) (q : ReadsAs fp B t) where
     list : (xs ys : List ℕ) (N : ℕ) → length xs ≡ N → length ys ≡ N → ((i : ℕ) → i < N → getD xs i 0 ≡ getD ys i 0) → xs ≡ ys
     list xs ys N e f h = ext-getD 0 xs ys (e ∙ sym f) (λ i l. h i (omega arith))
 
@@ -90,9 +94,10 @@ module _ (B : ℕ) where
         let e0 = p .mark ∙ sym (q .mark) in
         let k = p .hdr ∙ sym (q .hdr) in
         let e1 = list (s .colours) (t .colours) 4 (z .colours-4) (w .colours-4) (λ i h. p .colours i h ∙ sym (q .colours i h)) in
-        let e2 = list (s .extents) (t .extents) 4 (z .extents-4) (w .extents-4) (λ i h. p .extents i h ∙ sym (q .extents i h)) in
+        let e2 = list (s .extents) (t .extents) 6 (z .extents-6) (w .extents-6) (λ i h. p .extents i h ∙ sym (q .extents i h)) in
         let e3 = p .width ∙ sym (q .width) in
         let e4 = p .height ∙ sym (q .height) in
+        let d = p .depth ∙ sym (q .depth) in
         let e5 = p .range ∙ sym (q .range) in
         let e6 = p .planes ∙ sym (q .planes) in
         let e7 = p .component ∙ sym (q .component) in
@@ -109,6 +114,7 @@ module _ (B : ℕ) where
           extents = e2 i;
           width = e3 i;
           height = e4 i;
+          depth = d i;
           range = e5 i;
           planes = e6 i;
           component = e7 i;

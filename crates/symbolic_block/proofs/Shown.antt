@@ -21,8 +21,10 @@ use Rattle.bits.specs.Field.{field}
 use Rattle.block_header.specs.declared.Header.{Header}
 use Rattle.block_header.specs.Counts.{weightCount, endpointCount, endpointRangeOf}
 use Rattle.block_header.specs.Reasons.{tooManyWeights, tooManyEndpoints}
-use Rattle.block_fault.specs.Bits.{modeAt, isVoid, headerAt, endpointAt, weightAt, colourAt, extentAt}
-use Rattle.block_fault.specs.Faults.{hdrVoidExtent, faultOf}
+use Rattle.block_fault.specs.Bits.{modeAt, isVoid, headerAt, endpointAt, weightAt}
+use Rattle.footprint.specs.Footprint.{isVolume}
+use Rattle.void_extent.specs.Layout.{extentAt, colourAt, hdrVoidExtent}
+use Rattle.block_fault.specs.Faults.{faultOf}
 use Rattle.texel.specs.Meaning.{endpointLevels, weightLevels, mixedTexel, texelFrom, solidNumber, solidTexel}
 use Rattle.texel.specs.BlockTexel.{blockTexel}
 use Rattle.symbolic_block.specs.declared.SymbolicBlock.{SymbolicBlock}
@@ -49,11 +51,11 @@ weights-same range f g h =
     tab-ext (λ i. level (unquantWeight range (f i))) (λ i. level (unquantWeight range (g i))) (level 0) 64
     (λ i l. ap (λ (x : ℕ). level (unquantWeight range x)) (h i l))
 
-pub texel-same : (fp : ℕ) (kind : Kind) (h : Header) (e f v w : ℕ → ℕ) (x y : ℕ) → ((i : ℕ) → i < 18 → e i ≡ f i) → ((i : ℕ) → i < 64 → v i ≡ w i)
-    → texelFrom fp kind h e v x y ≡ texelFrom fp kind h f w x y
+pub texel-same : (fp : ℕ) (kind : Kind) (h : Header) (e f v w : ℕ → ℕ) (x y z : ℕ) → ((i : ℕ) → i < 18 → e i ≡ f i) → ((i : ℕ) → i < 64 → v i ≡ w i)
+    → texelFrom fp kind h e v x y z ≡ texelFrom fp kind h f w x y z
 unfolding texelFrom
-texel-same fp kind h e f v w x y p q =
-    ap₂ (λ ends weights. mixedTexel fp kind h ends weights x y) (levels-same (endpointRangeOf h) e f p) (weights-same (h .grid .range) v w q)
+texel-same fp kind h e f v w x y z p q =
+    ap₂ (λ ends weights. mixedTexel fp kind h ends weights x y z) (levels-same (endpointRangeOf h) e f p) (weights-same (h .grid .range) v w q)
 
 pub solid-same : (kind : Kind) (s : SymbolicBlock) (g : ℕ → ℕ) → ((i : ℕ) → i < 4 → colourIn s i ≡ g i)
     → solidPicture kind s ≡ solidTexel kind (isMarked s) g
@@ -79,26 +81,27 @@ solid-same kind s g h =
 
 -- ---- what is read
 
-module _ (fp : ℕ) (kind : Kind) (B x y : ℕ) where
-  void-picture : pictureOf fp kind (voidBlock (field B 9 1) (colourAt B) (extentAt B)) x y ≡ solidTexel kind (hdrVoidExtent B) (colourAt B)
+module _ (fp : ℕ) (kind : Kind) (B x y z : ℕ) where
+  void-picture : pictureOf fp kind (voidBlock (field B 9 1) (colourAt B) (extentAt (isVolume fp) B)) x y z ≡ solidTexel kind (hdrVoidExtent B) (colourAt B)
   unfolding voidBlock hdrVoidExtent
   void-picture =
-      picture-void (voidBlock (field B 9 1) (colourAt B) (extentAt B)) refl fp kind x y
-      ∙ solid-same kind (voidBlock (field B 9 1) (colourAt B) (extentAt B)) (colourAt B) (λ i h. getD-tab (colourAt B) 4 i 0 h)
+      picture-void (voidBlock (field B 9 1) (colourAt B) (extentAt (isVolume fp) B)) refl fp kind x y z
+      ∙ solid-same kind (voidBlock (field B 9 1) (colourAt B) (extentAt (isVolume fp) B)) (colourAt B) (λ i h. getD-tab (colourAt B) 4 i 0 h)
 
   mode-picture : (h : Header) → Counted (modeBlock h (endpointAt B h) (weightAt B h))
-      → pictureOf fp kind (modeBlock h (endpointAt B h) (weightAt B h)) x y ≡ texelFrom fp kind h (endpointAt B h) (weightAt B h) x y
+      → pictureOf fp kind (modeBlock h (endpointAt B h) (weightAt B h)) x y z ≡ texelFrom fp kind h (endpointAt B h) (weightAt B h) x y z
   unfolding modeBlock
   mode-picture h c =
-      picture-mode (modeBlock h (endpointAt B h) (weightAt B h)) (λ e. omega (arith, e)) fp kind x y
-      ∙ agrees (modeBlock h (endpointAt B h) (weightAt B h)) c fp kind x y
+      picture-mode (modeBlock h (endpointAt B h) (weightAt B h)) (λ e. omega (arith, e)) fp kind x y z
+      ∙ agrees (modeBlock h (endpointAt B h) (weightAt B h)) c fp kind x y z
       ∙ texel-same fp kind h (numberIn (tab (λ i. stored (endpointAt B h i)) 18)) (endpointAt B h)
-      (numberIn (tab (λ i. stored (weightAt B h i)) 64)) (weightAt B h) x y (stored-at (endpointAt B h) 18) (stored-at (weightAt B h) 64)
+      (numberIn (tab (λ i. stored (weightAt B h i)) 64)) (weightAt B h) x y z (stored-at (endpointAt B h) 18) (stored-at (weightAt B h) 64)
 
   -- the settings of a block without fault
-  counted : (h : Header) → Settled h → None (modeFaults fp h) → Counted (modeBlock h (endpointAt B h) (weightAt B h))
+  counted : (h : Header) → Settled fp h → None (modeFaults fp h) → Counted (modeBlock h (endpointAt B h) (weightAt B h))
   unfolding modeBlock tooManyWeights tooManyEndpoints
   counted h i n = record {
+    depth-low = i .limits .depth-low;
     planes-low = i .limits .planes-low;
     planes-most = i .limits .planes-most;
     partitions-low = i .partitions-low;
@@ -107,10 +110,10 @@ module _ (fp : ℕ) (kind : Kind) (B x y : ℕ) where
     numbers-most = ltb-false 18 (endpointCount h) (none-at (modeFaults fp h) n 4);
   }
 
-  pub block-shows : faultOf (takesHdr kind) fp B ≡ 0 → blockTexel fp kind B x y ≡ pictureOf fp kind (readBlock B) x y
-  block-shows e = go (isVoid (modeAt B)) refl where
-    go : (v : Bool) → isVoid (modeAt B) ≡ v → blockTexel fp kind B x y ≡ pictureOf fp kind (readBlock B) x y
-    go true v = texel-void B v fp kind x y e ∙ sym (rw (read-void B v) void-picture)
+  pub block-shows : faultOf (takesHdr kind) fp B ≡ 0 → blockTexel fp kind B x y z ≡ pictureOf fp kind (readBlock fp B) x y z
+  block-shows e = go (isVoid (modeAt fp B)) refl where
+    go : (v : Bool) → isVoid (modeAt fp B) ≡ v → blockTexel fp kind B x y z ≡ pictureOf fp kind (readBlock fp B) x y z
+    go true v = texel-void fp B v kind x y z e ∙ sym (rw (read-void fp B v) void-picture)
     go false v =
         let n = no-mode-fault fp B v (some-kind fp B kind e) in
-        texel-mode B v fp kind x y e ∙ sym (rw (read-mode B v) (mode-picture (headerAt B) (counted (headerAt B) (settled B v (n .0)) (n .1))))
+        texel-mode fp B v kind x y z e ∙ sym (rw (read-mode fp B v) (mode-picture (headerAt fp B) (counted (headerAt fp B) (settled fp B v (n .0)) (n .1))))

@@ -16,9 +16,9 @@ use Rattle.bits.proofs.Reverse.{reverse-lt, reverse-reverse}
 use Rattle.quantization.specs.Ranges.{encodingAt, bitsAt, rangeBits}
 use Rattle.integer_sequence.specs.Reading.{sequenceAt}
 use Rattle.block_mode.specs.declared.BlockMode.the-variants.{Grid}
-use Rattle.block_mode.specs.Mode2D.{blockMode}
-use Rattle.block_mode.specs.Back2D.{modeBits}
-use Rattle.block_mode.proofs.Modes.{found-mode}
+use Rattle.footprint.specs.Footprint.{isVolume}
+use Rattle.volume_mode.specs.Either.{blockModeIn, isDeep, modeBitsOf}
+use Rattle.volume_mode.proofs.Modes.{found-mode, least-mode}
 use Rattle.block_header.specs.declared.Header.{Header}
 use Rattle.block_header.specs.Counts.{weightCount, weightBits, extraBits, endpointCount, endpointRangeOf}
 use Rattle.block_header.specs.Reasons.{someHdr, hdrRefused}
@@ -68,8 +68,8 @@ module _ (fp : ℕ) (s : SymbolicBlock) (f : Fine fp s) (z : Sized s) where
   unfolding endpointStream
   endpoints< = packed-size 18 (endpointCount h) (endpointRangeOf h) (s .endpoints) (z .endpoints-18) (f .numbers-most)
 
-  found : (modeNumber (modeBits (gridOf s)) < 2048) × (blockMode (modeNumber (modeBits (gridOf s))) ≡ Grid (gridOf s))
-  found = found-mode (gridOf s) (modeNumber (modeBits (gridOf s))) (f .found)
+  found : (modeNumber (modeBitsOf (gridOf s)) < 2048) × (blockModeIn (isVolume fp) (modeNumber (modeBitsOf (gridOf s))) ≡ Grid (gridOf s))
+  found = rw (f .deep) at (found-mode (gridOf s) (modeNumber (modeBitsOf (gridOf s))) (f .found))
 
   end-is : endpointsFrom (s .partitions) + rangeBits (endpointRangeOf h) (endpointCount h) ≡ endpointsEnd h
   unfolding endpointsEnd
@@ -103,9 +103,14 @@ module _ (fp : ℕ) (s : SymbolicBlock) (f : Fine fp s) (z : Sized s) where
 
   -- ---- the settings
 
-  mode-is : modeAt b ≡ Grid (gridOf s)
+  mode-is : modeAt fp b ≡ Grid (gridOf s)
   unfolding modeAt modeCells
-  mode-is = ap blockMode (at 0 (omega arith)) ∙ found .1
+  mode-is = ap (blockModeIn (isVolume fp)) (at 0 (omega arith)) ∙ found .1
+
+  -- 02, h: of two modes "the writer the smaller mode number"
+  pub mode-least : (m : ℕ) → m < 2048 → blockModeIn (isVolume fp) m ≡ Grid (gridOf s) → field b 0 11 ≤ m
+  unfolding modeCells
+  mode-least m l e = rw (at 0 (omega arith)) (least-mode (gridOf s) _ (f .found) m l (rw (f .deep) e))
 
   partitions-is : partitionsAt b ≡ s .partitions
   unfolding partitionsAt modeCells
@@ -150,9 +155,9 @@ module _ (fp : ℕ) (s : SymbolicBlock) (f : Fine fp s) (z : Sized s) where
     modes = modes-are i;
   }
 
-  pub settings-are : headerAt b ≡ h
+  pub settings-are : headerAt fp b ≡ h
   settings-are =
-      header-is b ∙ rw (mode-is, partitions-is, selector-is) with-is
+      header-is fp b ∙ rw (mode-is, partitions-is, selector-is) with-is
 
   -- ---- the numbers
 
@@ -196,7 +201,7 @@ module _ (fp : ℕ) (s : SymbolicBlock) (f : Fine fp s) (z : Sized s) where
 
   -- ---- the whole
 
-  not-void : isVoid (modeAt b) ≡ false
+  not-void : isVoid (modeAt fp b) ≡ false
   not-void = rw mode-is
 
   with-numbers : modeBlock h (endpointAt b h) (weightAt b h) ≡ s
@@ -205,7 +210,7 @@ module _ (fp : ℕ) (s : SymbolicBlock) (f : Fine fp s) (z : Sized s) where
       let m : 0 ≡ s .mark = sym (f .mark-0) in
       let k : pick (someHdr h) 1 0 ≡ s .hdr = mark-back (s .hdr) (someHdr h) (f .hdr-most) (f .marked) in
       let c = zeros-back (s .colours) 4 (z .colours-4) (f .colours-0) in
-      let x = zeros-back (s .extents) 4 (z .extents-4) (f .extents-0) in
+      let x = zeros-back (s .extents) 6 (z .extents-6) (f .extents-0) in
       let e = stored-back (s .endpoints) (endpointAt b h) 18 (z .endpoints-18) endpoints-are in
       let w = stored-back (s .weights) (weightAt b h) 64 (z .weights-64) weights-are in
       λ i. record {
@@ -215,6 +220,7 @@ module _ (fp : ℕ) (s : SymbolicBlock) (f : Fine fp s) (z : Sized s) where
         extents = x i;
         width = s .width;
         height = s .height;
+        depth = s .depth;
         range = s .range;
         planes = s .planes;
         component = s .component;
@@ -226,12 +232,12 @@ module _ (fp : ℕ) (s : SymbolicBlock) (f : Fine fp s) (z : Sized s) where
         weights = w i;
       }
 
-  pub mode-back : readBlock b ≡ s
-  mode-back = read-mode b not-void ∙ rw settings-are with-numbers
+  pub mode-back : readBlock fp b ≡ s
+  mode-back = read-mode fp b not-void ∙ rw settings-are with-numbers
 
   pub mode-faultless : None (modeRefusals fp s) → faultOf true fp b ≡ 0
   unfolding modeRefusals hdrRefused
   mode-faultless n =
       let r = none-at (modeRefusals fp s) n in
       mode-no-fault fp b not-void (rw mode-is)
-      (subst (λ (k : Header). None (modeFaults fp k)) (sym settings-are) (r 15, (r 16, (r 17, (r 18, (r 20, (r 21, (refl, tt))))))))
+      (subst (λ (k : Header). None (modeFaults fp k)) (sym settings-are) (r 16, (r 17, (r 18, (r 19, (r 21, (r 22, (refl, tt))))))))

@@ -1,4 +1,5 @@
--- 01, "Fields": a symbolic block (01: sheet) and the numbers that it holds. 02, i: "Sheets gain an HDR mark".
+-- 01, "Fields": a symbolic block (01: sheet) and the numbers that it holds. 02, i: "Sheets gain an HDR mark". 02, h: "The sheet gains a grid depth", "and solid sheets gain a third pair of
+-- extents".
 -- Assumes nothing.
 use mathlib.Core.Path.{_≡_}
 use mathlib.Core.Bool.{Bool}
@@ -14,7 +15,7 @@ use Rattle.symbolic_block.specs.declared.SymbolicBlock.{SymbolicBlock}
 
 -- the weight grid of a mode sheet, and its settings without the numbers
 abbrev pub gridOf : SymbolicBlock → WeightGrid
-gridOf s = record { width = s .width; height = s .height; range = s .range; planes = s .planes }
+gridOf s = record { width = s .width; height = s .height; depth = s .depth; range = s .range; planes = s .planes }
 
 abbrev pub headerOf : SymbolicBlock → Header
 headerOf s = record {
@@ -52,7 +53,7 @@ weightIn s i = numberIn (s .weights) i
 -- the lists have their lengths
 pub record Sized (s : SymbolicBlock) : Type 0 where
   pub colours-4 : length (s .colours) ≡ 4
-  pub extents-4 : length (s .extents) ≡ 4
+  pub extents-6 : length (s .extents) ≡ 6
   pub modes-4 : length (s .modes) ≡ 4
   pub endpoints-18 : length (s .endpoints) ≡ 18
   pub weights-64 : length (s .weights) ≡ 64
@@ -65,6 +66,7 @@ pub record Typed (s : SymbolicBlock) : Type 0 where
   pub extents-u16 : (i : ℕ) → extentIn s i < 65536
   pub width-u8 : s .width < 256
   pub height-u8 : s .height < 256
+  pub depth-u8 : s .depth < 256
   pub range-u8 : s .range < 256
   pub planes-u8 : s .planes < 256
   pub component-u8 : s .component < 256

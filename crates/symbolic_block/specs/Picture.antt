@@ -10,10 +10,11 @@ use Rattle.laws.specs.Table.{tab}
 use Rattle.encoding.specs.declared.Level.{Level}
 use Rattle.quantization.specs.Ranges.{rangeBits, endpointRange}
 use Rattle.quantization.specs.Unquantise.{unquantEndpoint, unquantWeight}
-use Rattle.footprint.specs.Footprint.{widthOf, heightOf, isSmall}
+use Rattle.footprint.specs.Footprint.{widthOf, heightOf, depthOf, isVolume, isSmall}
 use Rattle.partition.specs.Select.{partitionOf}
 use Rattle.weight_grid.specs.Place.{scaleOf, gridPlace}
 use Rattle.weight_grid.specs.Bilinear.{blendOf}
+use Rattle.volume_infill.specs.Simplex.{simplexOf}
 use Rattle.color_endpoint.specs.Modes.{pairOf}
 use Rattle.interpolation.specs.declared.Kind.{Kind}
 use Rattle.interpolation.specs.declared.Texel.{Texel}
@@ -56,9 +57,11 @@ module _ (s : SymbolicBlock) where
   unfoldable pub secondGrid : ℕ → ℕ
   secondGrid i = widenedWeight (2 * i + 1)
 
-  -- the weight in a column and a row: "the neighbour right of the last column or below the last row counts 0"
-  unfoldable pub pointWeight : (ℕ → ℕ) → ℕ → ℕ → ℕ
-  pointWeight grid column row = pick (both (ltb column (s .width)) (ltb row (s .height))) (grid (row * s .width + column)) 0
+  -- the weight in a column, a row and a layer, of which a flat grid has one: "the neighbour right of the last column or below the last row counts
+  -- 0", in a volume the one behind the last layer too
+  unfoldable pub pointWeight : (ℕ → ℕ) → ℕ → ℕ → ℕ → ℕ
+  pointWeight grid column row layer =
+      pick (both (ltb column (s .width)) (both (ltb row (s .height)) (ltb layer (s .depth)))) (grid ((layer * s .height + row) * s .width + column)) 0
 
   -- 000, "Weight Infill": at gs, gt, in sixteenths of a step, the four neighbours by the two fractions
   unfoldable pub infillWeight : (ℕ → ℕ) → ℕ → ℕ → ℕ
@@ -66,11 +69,20 @@ module _ (s : SymbolicBlock) where
       let column = gs / 16 in
       let row = gt / 16 in
       blendOf (gs % 16) (gt % 16)
-      (pointWeight grid column row) (pointWeight grid (column + 1) row) (pointWeight grid column (row + 1)) (pointWeight grid (column + 1) (row + 1))
+      (pointWeight grid column row 0) (pointWeight grid (column + 1) row 0) (pointWeight grid column (row + 1) 0) (pointWeight grid (column + 1) (row + 1) 0)
+
+  -- 000: "For 3D, simplex interpolation is used", at gs, gt, gr
+  unfoldable pub simplexWeight : (ℕ → ℕ) → ℕ → ℕ → ℕ → ℕ
+  simplexWeight grid gs gt gr =
+      simplexOf (gs % 16) (gt % 16) (gr % 16) (λ i j k. pointWeight grid (gs / 16 + i) (gt / 16 + j) (gr / 16 + k))
 
   -- "Infill gives one weight at the place for each grid."
-  unfoldable pub placeWeight : ℕ → (ℕ → ℕ) → ℕ → ℕ → ℕ
-  placeWeight fp grid x y = infillWeight grid (gridPlace (scaleOf (widthOf fp)) x (s .width)) (gridPlace (scaleOf (heightOf fp)) y (s .height))
+  unfoldable pub placeWeight : ℕ → (ℕ → ℕ) → ℕ → ℕ → ℕ → ℕ
+  placeWeight fp grid x y z =
+      let gs = gridPlace (scaleOf (widthOf fp)) x (s .width) in
+      let gt = gridPlace (scaleOf (heightOf fp)) y (s .height) in
+      let gr = gridPlace (scaleOf (depthOf fp)) z (s .depth) in
+      pick (isVolume fp) (simplexWeight grid gs gt gr) (infillWeight grid gs gt)
 
   -- ---- "Endpoints"
 
@@ -88,7 +100,7 @@ module _ (s : SymbolicBlock) where
   unfoldable pub bitsLeftOver : ℕ
   bitsLeftOver =
       pick (eqb (s .partitions) 1) 111 99
-      - rangeBits (s .range) (s .width * s .height * s .planes)
+      - rangeBits (s .range) (s .width * s .height * s .depth * s .planes)
       - pick (eqb (s .planes) 2) 2 0
       - pick (eqb (s .selector) 0) 0 (3 * s .partitions - 4)
 
@@ -103,8 +115,8 @@ module _ (s : SymbolicBlock) where
   -- ---- "Partition"
 
   -- "the hash of index, count, place and footprint; with one partition it is 0"
-  unfoldable pub partitionAt : ℕ → ℕ → ℕ → ℕ
-  partitionAt fp x y = partitionOf (s .index) (s .partitions) (isSmall fp) x y 0
+  unfoldable pub partitionAt : ℕ → ℕ → ℕ → ℕ → ℕ
+  partitionAt fp x y z = partitionOf (s .index) (s .partitions) (isSmall fp) x y z
 
   -- ---- "Texel"
 
@@ -113,20 +125,20 @@ module _ (s : SymbolicBlock) where
   channelGrid c = pick (both (eqb (s .planes) 2) (eqb c (s .component))) secondGrid firstGrid
 
   -- "that partition's pair, widened for the kind and mixed": channel c, in 16 bits
-  unfoldable pub channelAt : ℕ → Kind → ℕ → ℕ → ℕ → ℕ
-  channelAt fp kind x y c =
-      pairChannel kind (modeIn s (partitionAt fp x y)) (widenedNumbers (partitionAt fp x y)) c (placeWeight fp (channelGrid c) x y)
+  unfoldable pub channelAt : ℕ → Kind → ℕ → ℕ → ℕ → ℕ → ℕ
+  channelAt fp kind x y z c =
+      pairChannel kind (modeIn s (partitionAt fp x y z)) (widenedNumbers (partitionAt fp x y z)) c (placeWeight fp (channelGrid c) x y z)
 
-  unfoldable pub mixedPicture : ℕ → Kind → ℕ → ℕ → Texel
-  mixedPicture fp kind x y =
-      record { r = channelAt fp kind x y 0; g = channelAt fp kind x y 1; b = channelAt fp kind x y 2; a = channelAt fp kind x y 3 }
+  unfoldable pub mixedPicture : ℕ → Kind → ℕ → ℕ → ℕ → Texel
+  mixedPicture fp kind x y z =
+      record { r = channelAt fp kind x y z 0; g = channelAt fp kind x y z 1; b = channelAt fp kind x y z 2; a = channelAt fp kind x y z 3 }
 
--- the texel at x, y, in 16 bits
-unfoldable pub pictureOf : ℕ → Kind → SymbolicBlock → ℕ → ℕ → Texel
-pictureOf fp kind s x y = pick (eqb (s .mark) 1) (solidPicture kind s) (mixedPicture s fp kind x y)
+-- the texel at x, y, z, in 16 bits; z is 0 in a flat block
+unfoldable pub pictureOf : ℕ → Kind → SymbolicBlock → ℕ → ℕ → ℕ → Texel
+pictureOf fp kind s x y z = pick (eqb (s .mark) 1) (solidPicture kind s) (mixedPicture s fp kind x y z)
 
 -- the number shown of its channel c, of R, G, B, A: "in kind 1 their top bytes", "kind 1 keeps the top byte"
-unfoldable pub pictureNumber : ℕ → Kind → SymbolicBlock → ℕ → ℕ → ℕ → ℕ
-pictureNumber fp kind s x y c =
-    let t = pictureOf fp kind s x y in
+unfoldable pub pictureNumber : ℕ → Kind → SymbolicBlock → ℕ → ℕ → ℕ → ℕ → ℕ
+pictureNumber fp kind s x y z c =
+    let t = pictureOf fp kind s x y z in
     shownOf kind (getD (t .r ∷ t .g ∷ t .b ∷ t .a ∷ []) c 0)

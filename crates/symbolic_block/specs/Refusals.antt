@@ -3,7 +3,7 @@
 use mathlib.Core.Path.{_≡_}
 use mathlib.Core.Bool.{Bool, true, false, not}
 use mathlib.Core.List.{List, [], _∷_}
-use Prim.Native.Nat.{ℕ, _-_, _/_}
+use Prim.Native.Nat.{ℕ, _-_, _*_, _/_}
 use lib.Dec.{eqb, leb, ltb}
 use lib.ListN.{getD}
 use Rattle.laws.specs.Choice.{pick, both, either, all}
@@ -11,18 +11,19 @@ use Rattle.quantization.specs.Ranges.{mostAt}
 use Rattle.block_mode.specs.declared.WeightGrid.{WeightGrid}
 use Rattle.block_mode.specs.declared.ModeBits.{ModeBits}
 use Rattle.block_mode.specs.declared.ModeBits.the-variants.{Mode, NoMode}
-use Rattle.block_mode.specs.Back2D.{modeBits}
+use Rattle.footprint.specs.Footprint.{isVolume}
+use Rattle.volume_mode.specs.Either.{modeBitsOf}
 use Rattle.block_header.specs.declared.Header.{Header}
 use Rattle.block_header.specs.Counts.{weightCount, endpointCount, endpointRangeOf}
 use Rattle.block_header.specs.Reasons.{someHdr, gridReasons, endpointReasons}
 use Rattle.laws.specs.Reasons.{Reason, when, firstOf, some}
-use Rattle.block_fault.specs.Faults.{badExtents}
+use Rattle.void_extent.specs.Layout.{axesOf, extentMost, badExtents}
 use Rattle.symbolic_block.specs.declared.SymbolicBlock.{SymbolicBlock}
 use Rattle.symbolic_block.specs.Fields.{gridOf, headerOf, isMarked, colourIn, extentIn, modeIn, endpointIn, weightIn}
 
--- 1: "footprint above 13"
+-- 1: "footprint above 13"; 02, h: "in these refusal 1 is a footprint above 23"
 unfoldable pub unknownFootprint : ℕ → Bool
-unknownFootprint fp = ltb 13 fp
+unknownFootprint fp = ltb 23 fp
 
 -- ---- 31: "a field outside its limits, or an unused field not 0"
 
@@ -53,6 +54,10 @@ badWidth s = outside 2 12 (s .width)
 unfoldable pub badHeight : SymbolicBlock → Bool
 badHeight s = outside 2 12 (s .height)
 
+-- 02, h: "a grid depth, in a mode sheet 1 for flat footprints and 2 to 6 for volumes, else 31"
+unfoldable pub badDepth : ℕ → SymbolicBlock → Bool
+badDepth fp s = pick (isVolume fp) (outside 2 6 (s .depth)) (outside 1 1 (s .depth))
+
 unfoldable pub badRange : SymbolicBlock → Bool
 badRange s = ltb 11 (s .range)
 
@@ -78,12 +83,12 @@ badSelector s = ltb (pick (eqb (s .partitions) 1) 0 3) (s .selector)
 unfoldable pub badModes : SymbolicBlock → Bool
 badModes s = not (within 4 (s .partitions) 15 (modeIn s))
 
--- "four colours 0..65535, four extents 0..8191"
+-- "four colours 0..65535, four extents 0..8191"; 02, h: "a third pair of extents, 0 for flat ones", and for volumes "their limit in a sheet is 511"
 unfoldable pub badColours : SymbolicBlock → Bool
 badColours s = not (within 4 4 65535 (colourIn s))
 
-unfoldable pub badExtentFields : SymbolicBlock → Bool
-badExtentFields s = not (within 4 4 8191 (extentIn s))
+unfoldable pub badExtentFields : ℕ → SymbolicBlock → Bool
+badExtentFields fp s = not (within 6 (2 * axesOf (isVolume fp)) (extentMost (isVolume fp)) (extentIn s))
 
 -- N unused numbers, not all 0
 unfoldable pub someInUse : ℕ → (ℕ → ℕ) → Bool
@@ -96,7 +101,7 @@ isNoMode (Mode m) = false
 isNoMode NoMode = true
 
 unfoldable pub noBlockMode : WeightGrid → Bool
-noBlockMode g = isNoMode (modeBits g)
+noBlockMode g = isNoMode (modeBitsOf g)
 
 -- ---- 33: "modes don't fit the selector"
 
@@ -134,6 +139,7 @@ modeRefusals fp s =
     ∷ when (badHdr s) 31
     ∷ when (badWidth s) 31
     ∷ when (badHeight s) 31
+    ∷ when (badDepth fp s) 31
     ∷ when (badRange s) 31
     ∷ when (badPlanes s) 31
     ∷ when (badComponent s) 31
@@ -142,7 +148,7 @@ modeRefusals fp s =
     ∷ when (badSelector s) 31
     ∷ when (badModes s) 31
     ∷ when (someInUse 4 (colourIn s)) 31
-    ∷ when (someInUse 4 (extentIn s)) 31
+    ∷ when (someInUse 6 (extentIn s)) 31
     ∷ when (noBlockMode (gridOf s)) 32
     ∷ gridReasons fp (headerOf s)
     (when (modesMisfit (headerOf s)) 33
@@ -158,9 +164,10 @@ voidRefusals fp s =
     when (unknownFootprint fp) 1
     ∷ when (badHdr s) 31
     ∷ when (badColours s) 31
-    ∷ when (badExtentFields s) 31
+    ∷ when (badExtentFields fp s) 31
     ∷ when (inUse (s .width)) 31
     ∷ when (inUse (s .height)) 31
+    ∷ when (inUse (s .depth)) 31
     ∷ when (inUse (s .range)) 31
     ∷ when (inUse (s .planes)) 31
     ∷ when (inUse (s .component)) 31
@@ -170,7 +177,7 @@ voidRefusals fp s =
     ∷ when (someInUse 4 (modeIn s)) 31
     ∷ when (someInUse 18 (endpointIn s)) 31
     ∷ when (someInUse 64 (weightIn s)) 31
-    ∷ when (badExtents (extentIn s)) 12
+    ∷ when (badExtents (isVolume fp) (extentIn s)) 12
     ∷ []
 
 -- mark 1 is a void extent (01: solid sheet); any other a mode sheet, for which a mark above 1 is 31
@@ -179,7 +186,7 @@ refusals fp s = pick (eqb (s .mark) 1) (voidRefusals fp s) (modeRefusals fp s)
 
 -- the refusal of a symbolic block at a footprint, 0 for none
 unfoldable pub refusalOf : ℕ → SymbolicBlock → ℕ
-unfolding refusals modeRefusals voidRefusals within unknownFootprint badMark badHdr badWidth badHeight badRange badPlanes badComponent badPartitions badIndex badSelector badModes badColours badExtentFields someInUse noBlockMode modesMisfit badEndpoints badWeights markedWithout badExtents
+unfolding refusals modeRefusals voidRefusals within unknownFootprint badMark badHdr badWidth badHeight badDepth badRange badPlanes badComponent badPartitions badIndex badSelector badModes badColours badExtentFields someInUse noBlockMode modesMisfit badEndpoints badWeights markedWithout badExtents
 refusalOf fp s = firstOf (refusals fp s)
 
 -- "A sheet is acceptable at a footprint when none of its refusals holds there."

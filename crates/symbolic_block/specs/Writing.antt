@@ -10,7 +10,9 @@ use Rattle.quantization.specs.Ranges.{encodingAt, bitsAt, rangeBits}
 use Rattle.integer_sequence.specs.Writing.{packed, values}
 use Rattle.block_mode.specs.declared.ModeBits.{ModeBits}
 use Rattle.block_mode.specs.declared.ModeBits.the-variants.{Mode, NoMode}
-use Rattle.block_mode.specs.Back2D.{modeBits}
+use Rattle.footprint.specs.Footprint.{isVolume}
+use Rattle.volume_mode.specs.Either.{modeBitsOf}
+use Rattle.void_extent.specs.Writing.{voidCells}
 use Rattle.block_header.specs.declared.Header.{Header}
 use Rattle.block_header.specs.Counts.{weightCount, weightBits, componentBits, indexBits, selectorBits, extraBits, endpointCount, endpointRangeOf}
 use Rattle.block_fault.specs.Bits.{endpointsFrom}
@@ -61,7 +63,7 @@ modeCells s =
     let X = extraBits P (s .selector) in
     let W = weightBits (gridOf s) in
     -- "Mode is bits 10..0; partitions less one, bits 12..11."
-    cell 0 11 (modeNumber (modeBits (gridOf s)))
+    cell 0 11 (modeNumber (modeBitsOf (gridOf s)))
     ∷ cell 11 2 (P - 1)
     -- "partition index 22..13", then the selector; with one partition neither has bits
     ∷ cell 13 (indexBits P) (s .index)
@@ -80,24 +82,7 @@ modeCells s =
     ∷ cell (128 - W) W (reverse W (weightStream s))
     ∷ []
 
--- "Bits 8..0 = 111111100"; 02, i: "In a solid sheet it is bit 9", the HDR mark; bits 11..10 both 1; "extents low s, high s, low t, high t of
--- 13 bits from bit 12; colours of 16 bits from bit 64"
-unfoldable pub voidCells : SymbolicBlock → List Cell
-voidCells s =
-    cell 0 9 0b111111100
-    ∷ cell 9 1 (s .hdr)
-    ∷ cell 10 2 3
-    ∷ cell 12 13 (extentIn s 0)
-    ∷ cell 25 13 (extentIn s 1)
-    ∷ cell 38 13 (extentIn s 2)
-    ∷ cell 51 13 (extentIn s 3)
-    ∷ cell 64 16 (colourIn s 0)
-    ∷ cell 80 16 (colourIn s 1)
-    ∷ cell 96 16 (colourIn s 2)
-    ∷ cell 112 16 (colourIn s 3)
-    ∷ []
-
--- the 128 bits of an acceptable symbolic block
-unfoldable pub blockOf : SymbolicBlock → ℕ
-unfolding laid voidCells modeCells modesCode endpointStream weightStream endpointsEnd componentFrom packed reverse modeBits endpointsFrom endpointRangeOf weightBits componentBits indexBits selectorBits extraBits encodingAt bitsAt rangeBits
-blockOf s = pick (eqb (s .mark) 1) (laid (voidCells s)) (laid (modeCells s))
+-- the 128 bits of a symbolic block that is acceptable at a footprint, which says how a void extent is laid out
+unfoldable pub blockOf : ℕ → SymbolicBlock → ℕ
+unfolding laid voidCells modeCells modesCode endpointStream weightStream endpointsEnd componentFrom packed reverse modeBitsOf endpointsFrom endpointRangeOf weightBits componentBits indexBits selectorBits extraBits encodingAt bitsAt rangeBits
+blockOf fp s = pick (eqb (s .mark) 1) (laid (voidCells (isVolume fp) (s .hdr) (extentIn s) (colourIn s))) (laid (modeCells s))

@@ -9,10 +9,12 @@ pub struct SymbolicBlock {
     pub hdr: u8,
     // R, G, B, A
     pub colours: [u16; 4],
-    // low s, high s, low t, high t
-    pub extents: [u16; 4],
+    // low s, high s, low t, high t; 02, h: of volumes also low r, high r, which are 0 in flat ones
+    pub extents: [u16; 6],
     pub width: u8,
     pub height: u8,
+    // 02, h: 1 in a flat mode sheet
+    pub depth: u8,
     pub range: u8,
     pub planes: u8,
     // 01: plane channel

@@ -19,7 +19,7 @@ abbrev holding : List ℕ → Writing
 holding bytes = record { answer = Done; bytes = bytes }
 
 module _ (fp : ℕ) (s : SymbolicBlock) where
-  pub written : Acceptable fp s → wrote s ≡ writingOf fp s
+  pub written : Acceptable fp s → wrote fp s ≡ writingOf fp s
   unfolding writingOf
   written e = rw (eq-eqb _ _ e)
 
@@ -47,6 +47,6 @@ module _ (fp : ℕ) (s : SymbolicBlock) where
   pub told : (n : ℕ) → n ≡ refusalOf fp s → (n ≡ 0 → ⊥) → wroteNothing n ≡ writingOf fp s
   told n e h = ap wroteNothing e ∙ refused (λ q. h (e ∙ q))
 
-  pub stored : (B : ℕ) (bytes : List ℕ) → Acceptable fp s → B ≡ blockOf s → bytes ≡ bytesOf 16 B
+  pub stored : (B : ℕ) (bytes : List ℕ) → Acceptable fp s → B ≡ blockOf fp s → bytes ≡ bytesOf 16 B
       → holding bytes ≡ writingOf fp s
   stored B bytes a e b = ap holding (b ∙ ap (bytesOf 16) e) ∙ written a

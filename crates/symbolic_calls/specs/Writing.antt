@@ -12,8 +12,8 @@ use Rattle.symbolic_block.specs.Writing.{blockOf}
 use Rattle.symbolic_calls.specs.declared.Writing.{Writing}
 
 -- "The written block comes back as sixteen bytes",
-abbrev pub wrote : SymbolicBlock → Writing
-wrote s = record { answer = Done; bytes = bytesOf 16 (blockOf s) }
+abbrev pub wrote : ℕ → SymbolicBlock → Writing
+wrote fp s = record { answer = Done; bytes = bytesOf 16 (blockOf fp s) }
 
 -- "all 0 on a refusal"
 abbrev pub wroteNothing : ℕ → Writing
@@ -22,4 +22,4 @@ wroteNothing n = record { answer = Refused n; bytes = tab (λ i. 0) 16 }
 -- what the writer answers for s at a footprint: the first refusal that holds, else the block
 unfoldable pub writingOf : ℕ → SymbolicBlock → Writing
 unfolding tab bytesOf refusalOf blockOf
-writingOf fp s = pick (eqb (refusalOf fp s) 0) (wrote s) (wroteNothing (refusalOf fp s))
+writingOf fp s = pick (eqb (refusalOf fp s) 0) (wrote fp s) (wroteNothing (refusalOf fp s))

@@ -15,6 +15,7 @@ use Rattle.laws.proofs.Filling.{getD-tab}
 use Rattle.quantization.specs.Ranges.{mostAt}
 use Rattle.quantization.proofs.Ranges.{most-le, weight-most-le}
 use Rattle.integer_sequence.specs.Reading.{stored}
+use Rattle.footprint.specs.Footprint.{isVolume}
 use Rattle.block_mode.specs.declared.WeightGrid.{WeightGrid}
 use Rattle.block_header.specs.declared.Header.{Header}
 use Rattle.block_header.specs.Counts.{weightCount, endpointCount, endpointRangeOf}
@@ -22,7 +23,7 @@ use Rattle.block_header.specs.Reasons.{someHdr, gridReasons, endpointReasons, e
 use Rattle.laws.specs.Reasons.{Reason, when, firstOf}
 use Rattle.symbolic_block.specs.declared.SymbolicBlock.{SymbolicBlock}
 use Rattle.symbolic_block.specs.Fields.{gridOf, headerOf, isMarked, modeIn, endpointIn, weightIn, Sized}
-use Rattle.symbolic_block.specs.Refusals.{within, unknownFootprint, badMark, badHdr, badWidth, badHeight, badRange, badPlanes, badComponent, badPartitions, badIndex, badSelector, badModes, badColours, badExtentFields, someInUse, modesMisfit, badEndpoints, badWeights, markedWithout, modeRefusals, voidRefusals, refusals, refusalOf}
+use Rattle.symbolic_block.specs.Refusals.{within, outside, unknownFootprint, badMark, badHdr, badWidth, badHeight, badDepth, badRange, badPlanes, badComponent, badPartitions, badIndex, badSelector, badModes, badColours, badExtentFields, someInUse, modesMisfit, badEndpoints, badWeights, markedWithout, modeRefusals, voidRefusals, refusals, refusalOf}
 use Rattle.laws.proofs.Reasons.{none-at, first-none, either-none}
 use Rattle.symbolic_block.proofs.Lists.{not-not, stored-at, tab-back, stored-back, within-used, within-unused}
 use Rattle.symbolic_block.proofs.Room.{pick-le}
@@ -216,6 +217,7 @@ clip s = record {
   extents = s .extents;
   width = min (s .width) 255;
   height = min (s .height) 255;
+  depth = min (s .depth) 255;
   range = min (s .range) 255;
   planes = min (s .planes) 255;
   component = min (s .component) 255;
@@ -270,6 +272,7 @@ module _ (s : SymbolicBlock) where
         above 1 (s .hdr) (omega arith),
         above 0 (s .width) (omega arith),
         above 0 (s .height) (omega arith),
+        above 0 (s .depth) (omega arith),
         above 0 (s .range) (omega arith),
         above 0 (s .planes) (omega arith),
         above 0 (s .component) (omega arith),
@@ -284,7 +287,7 @@ module _ (s : SymbolicBlock) where
   void-fits : (fp : ℕ) → firstOf (voidRefusals fp s) ≡ 0 → fits s ≡ true
   unfolding fits voidRefusals someInUse
   void-fits fp e =
-      let t = not-not (within 18 0 0 (endpointIn s)) (none-at (voidRefusals fp s) (first-none (voidRefusals fp s) tt e) 13) in
+      let t = not-not (within 18 0 0 (endpointIn s)) (none-at (voidRefusals fp s) (first-none (voidRefusals fp s) tt e) 14) in
       all-true (λ i. leb (endpointIn s i) 255) 18 (λ i h. le-leb (endpointIn s i) 255 (omega (arith, within-unused 18 0 0 (endpointIn s) t i h (omega arith))))
 
   void-below : (fp : ℕ) → firstOf (voidRefusals fp s) < 35
@@ -311,10 +314,23 @@ module _ (s : SymbolicBlock) where
       rw (equal 1 (s .partitions) (omega arith))
       (above (pick (eqb (s .partitions) 1) 0 3) (s .selector) (omega (arith, pick-le (eqb (s .partitions) 1) 0 3 3 (omega arith) (omega arith))))
 
-  fields-same : badFields (clip s) ≡ badFields s
+  -- a depth in a volume's limits or in a flat one's
+  depth-same : (fp : ℕ) → badDepth fp (clip s) ≡ badDepth fp s
+  unfolding badDepth
+  depth-same fp = rw (below 2 (s .depth) (omega arith), above 6 (s .depth) (omega arith), below 1 (s .depth) (omega arith), above 1 (s .depth) (omega arith))
+
+  depth-kept : (fp : ℕ) → badDepth fp s ≡ false → min (s .depth) 255 ≡ s .depth
+  unfolding badDepth
+  depth-kept fp = go (isVolume fp) where
+    go : (b : Bool) → pick b (outside 2 6 (s .depth)) (outside 1 1 (s .depth)) ≡ false → min (s .depth) 255 ≡ s .depth
+    go true e = kept 6 (s .depth) (omega arith) (either-none (ltb (s .depth) 2) _ e .1)
+    go false e = kept 1 (s .depth) (omega arith) (either-none (ltb (s .depth) 1) _ e .1)
+
+  fields-same : (fp : ℕ) → badFields fp (clip s) ≡ badFields fp s
   unfolding badFields badGrid badPartitioning badLists badMark badHdr badWidth badHeight badRange badPlanes badPartitions badIndex
-  fields-same =
+  fields-same fp =
       rw (
+        depth-same fp,
         component-same,
         selector-same,
         modes-same,
@@ -333,15 +349,15 @@ module _ (s : SymbolicBlock) where
       )
 
   -- where no field is refused, the settings are the same
-  module _ (z : Sized s) (n : badFields s ≡ false) where
+  module _ (fp : ℕ) (z : Sized s) (n : badFields fp s ≡ false) where
     -- the tests one by one
-    grid-none : badGrid s ≡ false
+    grid-none : badGrid fp s ≡ false
     unfolding badFields
-    grid-none = either-none (badGrid s) _ (either-none (badHdr s) _ (either-none (badMark s) _ n .1) .1) .0
+    grid-none = either-none (badGrid fp s) _ (either-none (badHdr s) _ (either-none (badMark s) _ n .1) .1) .0
 
     rest-none : either (badPartitioning s) (badLists s) ≡ false
     unfolding badFields
-    rest-none = either-none (badGrid s) _ (either-none (badHdr s) _ (either-none (badMark s) _ n .1) .1) .1
+    rest-none = either-none (badGrid fp s) _ (either-none (badHdr s) _ (either-none (badMark s) _ n .1) .1) .1
 
     partitioning-none : badPartitioning s ≡ false
     partitioning-none = either-none (badPartitioning s) (badLists s) rest-none .0
@@ -354,17 +370,19 @@ module _ (s : SymbolicBlock) where
     unfolding badGrid badWidth badHeight badRange badPlanes
     grid-is =
         let h = either-none (badWidth s) _ grid-none .1 in
-        let r = either-none (badHeight s) _ h .1 in
+        let d = either-none (badHeight s) _ h .1 in
+        let r = either-none (badDepth fp s) _ d .1 in
         rw (
           kept 12 (s .width) (omega arith) (either-none (ltb (s .width) 2) _ (either-none (badWidth s) _ grid-none .0) .1),
           kept 12 (s .height) (omega arith) (either-none (ltb (s .height) 2) _ (either-none (badHeight s) _ h .0) .1),
+          depth-kept fp (either-none (badDepth fp s) _ d .0),
           kept 11 (s .range) (omega arith) (either-none (badRange s) _ r .0),
           kept 2 (s .planes) (omega arith) (either-none (ltb (s .planes) 1) _ (either-none (badRange s) _ r .1) .1),
         )
 
     range-in : s .range ≤ 11
     unfolding badGrid badRange
-    range-in = ltb-false 11 (s .range) (either-none (badRange s) _ (either-none (badHeight s) _ (either-none (badWidth s) _ grid-none .1) .1) .0)
+    range-in = ltb-false 11 (s .range) (either-none (badRange s) _ (either-none (badDepth fp s) _ (either-none (badHeight s) _ (either-none (badWidth s) _ grid-none .1) .1) .1) .0)
 
     modes-kept : tab (λ i. min (modeIn s i) 255) 4 ≡ s .modes
     modes-kept = tab-back (s .modes) (λ i. min (modeIn s i) 255) 0 4 (z .modes-4) (λ i l. go i l (ltb i (s .partitions)) refl) where
@@ -408,19 +426,19 @@ module _ (s : SymbolicBlock) where
     without-same =
         ap (λ (b : Bool). both b (not (someHdr (headerOf (clip s))))) mark-same ∙ ap (λ (h : Header). both (isMarked s) (not (someHdr h))) header-is
 
-    fields-of : (fp : ℕ) → fieldReasons fp (clip s) ≡ fieldReasons fp s
+    fields-of : fieldReasons fp (clip s) ≡ fieldReasons fp s
     unfolding fieldReasons
-    fields-of fp = rw (fields-same, grid-is)
+    fields-of = rw (fields-same fp, grid-is)
 
     -- all stages
-    mode-fits : (fp : ℕ) → firstOf (modeRefusals fp s) ≡ with34 (fits s) (firstOf (modeRefusals fp (clip s)))
+    mode-fits : firstOf (modeRefusals fp s) ≡ with34 (fits s) (firstOf (modeRefusals fp (clip s)))
     unfolding numberReasons
-    mode-fits fp =
+    mode-fits =
         let h = headerOf (clip s) in
         let m = isMarked (clip s) in
         let f = firstOf (fieldReasons fp (clip s)) in
         sym (mode-stages fp s)
-        ∙ ap (λ (n : ℕ). stages fp n (isMarked s) (headerOf s) (either (badEndpoints s) (badWeights s)) (markedWithout s)) (ap firstOf (sym (fields-of fp)))
+        ∙ ap (λ (n : ℕ). stages fp n (isMarked s) (headerOf s) (either (badEndpoints s) (badWeights s)) (markedWithout s)) (ap firstOf (sym fields-of))
         ∙ ap (λ (b : Bool). stages fp f b (headerOf s) (either (badEndpoints s) (badWeights s)) (markedWithout s)) (sym mark-same)
         ∙ ap (λ (k : Header). stages fp f m k (either (badEndpoints s) (badWeights s)) (markedWithout s)) (sym header-is)
         ∙ ap (λ (b : Bool). stages fp f m h (either b (badWeights s)) (markedWithout s)) endpoints-fit
@@ -432,15 +450,15 @@ module _ (s : SymbolicBlock) where
         ∙ ap (with34 (fits s)) (mode-stages fp (clip s))
 
   -- where one is, it is told before all that differs
-  mode-31 : (t : SymbolicBlock) (fp : ℕ) → badFields t ≡ true → firstOf (modeRefusals fp t) ≡ pick (unknownFootprint fp) 1 31
+  mode-31 : (t : SymbolicBlock) (fp : ℕ) → badFields fp t ≡ true → firstOf (modeRefusals fp t) ≡ pick (unknownFootprint fp) 1 31
   unfolding fieldReasons
   mode-31 t fp e = sym (mode-stages fp t) ∙ rw e (sym (tells (unknownFootprint fp) _))
 
   mode-clip : Sized s → (fp : ℕ) → firstOf (modeRefusals fp s) ≡ with34 (fits s) (firstOf (modeRefusals fp (clip s)))
-  mode-clip z fp = go (badFields s) refl where
-    go : (b : Bool) → badFields s ≡ b → firstOf (modeRefusals fp s) ≡ with34 (fits s) (firstOf (modeRefusals fp (clip s)))
-    go true e = rw (mode-31 s fp e, mode-31 (clip s) fp (fields-same ∙ e)) (tells-34 (unknownFootprint fp) (fits s))
-    go false e = mode-fits z e fp
+  mode-clip z fp = go (badFields fp s) refl where
+    go : (b : Bool) → badFields fp s ≡ b → firstOf (modeRefusals fp s) ≡ with34 (fits s) (firstOf (modeRefusals fp (clip s)))
+    go true e = rw (mode-31 s fp e, mode-31 (clip s) fp (fields-same fp ∙ e)) (tells-34 (unknownFootprint fp) (fits s))
+    go false e = mode-fits fp z e
 
   -- ---- both
 
@@ -466,6 +484,7 @@ module _ (s : SymbolicBlock) where
         byte (s .hdr) (t .hdr-u8),
         byte (s .width) (t .width-u8),
         byte (s .height) (t .height-u8),
+        byte (s .depth) (t .depth-u8),
         byte (s .range) (t .range-u8),
         byte (s .planes) (t .planes-u8),
         byte (s .component) (t .component-u8),

@@ -21,22 +21,22 @@ use Rattle.symbolic_numbers.specs.Numbers.{flatOf, blockOver, blockFrom}
 use Rattle.symbolic_numbers.specs.Calls.{readNumber, readNumbers, readSpare, writeNumber, writeBlock}
 use Rattle.symbolic_numbers.proofs.Laws.{from-sized, number-read, numbers-read, spare-read, write-told, block-written}
 
-module _ (numbers : List ℕ) (l : length numbers ≡ 104) where
-  by-place : flatOf (blockFrom numbers) ≡ tab (λ i. getD numbers i 0) 104
+module _ (numbers : List ℕ) (l : length numbers ≡ 107) where
+  by-place : flatOf (blockFrom numbers) ≡ tab (λ i. getD numbers i 0) 107
   unfolding flatOf blockOver tab tabFrom
   by-place = refl
 
   -- a list's symbolic block has that list
   pub flat-from : flatOf (blockFrom numbers) ≡ numbers
   unfolding Filled
-  flat-from = by-place ∙ sym (filled-all (λ i. getD numbers i 0) 0 numbers 104 l (λ i h. refl))
+  flat-from = by-place ∙ sym (filled-all (λ i. getD numbers i 0) 0 numbers 107 l (λ i h. refl))
 
   -- written without a refusal, it is told again, number for number
-  module _ (fp : ℕ) (old told spare : List ℕ) (sixteen : length old ≡ 16) (room : length told ≡ 104) (two : length spare ≡ 2) (taken : writeNumber fp numbers (length old) ≡ 0) where
+  module _ (fp : ℕ) (old told spare : List ℕ) (sixteen : length old ≡ 16) (room : length told ≡ 107) (two : length spare ≡ 2) (taken : writeNumber fp numbers (length old) ≡ 0) where
     acceptable : Acceptable fp (blockFrom numbers)
     acceptable = sym (told-number fp (blockFrom numbers)) ∙ write-told fp numbers old sixteen l ∙ taken
 
-    read : readingOf fp (writeBlock fp numbers old) ≡ done (blockOf (blockFrom numbers)) (blockFrom numbers)
+    read : readingOf fp (writeBlock fp numbers old) ≡ done (blockOf fp (blockFrom numbers)) (blockFrom numbers)
     read = ap (readingOf fp) (sym (block-written fp numbers old sixteen l)) ∙ back fp (blockFrom numbers) (from-sized numbers) acceptable
 
     pub list-back : (readNumber fp (writeBlock fp numbers old) (length told) (length spare) ≡ 0) × (readNumbers fp (writeBlock fp numbers old) told (length spare) ≡ numbers)
@@ -50,4 +50,4 @@ module _ (numbers : List ℕ) (l : length numbers ≡ 104) where
     spare-back =
         sym (spare-read (readingOf fp (writeBlock fp numbers old)) told spare room two)
         ∙ ap (λ (r : SymbolicReading). spareNumbers (r .spare)) read
-        ∙ ap₂ (λ (n : ℕ) (set : Bool). n ∷ pick set 1 0 ∷ []) (count-is (blockOf (blockFrom numbers)) (blockFrom numbers)) (written-clear fp (blockFrom numbers) (from-sized numbers) acceptable)
+        ∙ ap₂ (λ (n : ℕ) (set : Bool). n ∷ pick set 1 0 ∷ []) (count-is (blockOf fp (blockFrom numbers)) (blockFrom numbers)) (written-clear fp (blockFrom numbers) (from-sized numbers) acceptable)

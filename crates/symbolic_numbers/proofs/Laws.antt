@@ -24,7 +24,7 @@ use Rattle.symbolic_block.proofs.Lists.{tab-back, stored-back}
 use Rattle.symbolic_calls.specs.Writing.{wrote, wroteNothing, writingOf}
 use Rattle.symbolic_calls.proofs.Laws.{told-number}
 use Rattle.symbolic_reader.specs.declared.SymbolicReading.{SymbolicReading}
-use Rattle.symbolic_numbers.specs.Numbers.{settingsWith, settingsOf, flatAt, flatOf, blockOver, blockFrom, clippedNumbers, endpointsFit}
+use Rattle.symbolic_numbers.specs.Numbers.{settingsWith, settingsOf, addedOf, flatAt, flatOf, blockOver, blockFrom, clippedNumbers, endpointsFit}
 use Rattle.symbolic_numbers.specs.Calls.{refusedOr5, roomFor, putNumber, putNumbers, putSpare, lentRefusal, writeNumber, writeBlock}
 use Rattle.symbolic_clip.proofs.Clip.{clip, fits, refused-1}
 
@@ -38,20 +38,20 @@ settings-same s a b c d p q r t =
     ∙ ap (λ (x : ℕ). settingsWith s (modeIn s 0) (modeIn s 1) x d) r
     ∙ ap (λ (x : ℕ). settingsWith s (modeIn s 0) (modeIn s 1) (modeIn s 2) x) t
 
-pub flat-by-position : (s : SymbolicBlock) → tab (flatAt (settingsOf s) (s .endpoints) (s .weights) (s .hdr)) 104 ≡ flatOf s
+pub flat-by-position : (s : SymbolicBlock) → tab (flatAt (settingsOf s) (s .endpoints) (s .weights) (addedOf s)) 107 ≡ flatOf s
 unfolding flatOf tab tabFrom
 flat-by-position s = refl
 
 -- a list of another length
-no-room : (n m : ℕ) → (n ≡ 104 → ⊥) ⊎ (m ≡ 2 → ⊥) → roomFor n m ≡ false
-no-room n m (inl h) = rw (ne-eqb n 104 h)
-no-room n m (inr h) = rw (ne-eqb m 2 h) (off (eqb n 104)) where
+no-room : (n m : ℕ) → (n ≡ 107 → ⊥) ⊎ (m ≡ 2 → ⊥) → roomFor n m ≡ false
+no-room n m (inl h) = rw (ne-eqb n 107 h)
+no-room n m (inr h) = rw (ne-eqb m 2 h) (off (eqb n 107)) where
   off : (b : Bool) → both b false ≡ false
   off true = refl
   off false = refl
 
 module _ (r : SymbolicReading) (old spare : List ℕ) where
-  module _ (h : (length old ≡ 104 → ⊥) ⊎ (length spare ≡ 2 → ⊥)) where
+  module _ (h : (length old ≡ 107 → ⊥) ⊎ (length spare ≡ 2 → ⊥)) where
     pub number-5 : refusedOr5 (r .answer) ≡ putNumber r (length old) (length spare)
     unfolding putNumber
     number-5 = rw (no-room (length old) (length spare) h)
@@ -64,7 +64,7 @@ module _ (r : SymbolicReading) (old spare : List ℕ) where
     unfolding putSpare
     spare-kept = rw (no-room (length old) (length spare) h)
 
-  module _ (e : length old ≡ 104) (f : length spare ≡ 2) where
+  module _ (e : length old ≡ 107) (f : length spare ≡ 2) where
     pub number-read : numberTold (r .answer) ≡ putNumber r (length old) (length spare)
     unfolding putNumber
     number-read = rw (eq-eqb _ _ e, eq-eqb _ _ f)
@@ -82,7 +82,7 @@ module _ (r : SymbolicReading) (old spare : List ℕ) where
 module _ (numbers : List ℕ) where
   pub from-sized : Sized (blockFrom numbers)
   unfolding blockOver tab tabFrom
-  from-sized = record { colours-4 = refl; extents-4 = refl; modes-4 = refl; endpoints-18 = refl; weights-64 = refl }
+  from-sized = record { colours-4 = refl; extents-6 = refl; modes-4 = refl; endpoints-18 = refl; weights-64 = refl }
 
   pub from-clipped : blockOver numbers (clippedNumbers numbers) ≡ clip (blockFrom numbers)
   unfolding blockOver clippedNumbers tab tabFrom
@@ -98,9 +98,10 @@ tabled s = record {
   mark = s .mark;
   hdr = s .hdr;
   colours = tab (colourIn s) 4;
-  extents = tab (extentIn s) 4;
+  extents = tab (extentIn s) 6;
   width = s .width;
   height = s .height;
+  depth = s .depth;
   range = s .range;
   planes = s .planes;
   component = s .component;
@@ -121,7 +122,7 @@ from-flat s z =
     flat-tabled s
     ∙ rw (
       tab-back (s .colours) (colourIn s) 0 4 (z .colours-4) (λ i l. refl),
-      tab-back (s .extents) (extentIn s) 0 4 (z .extents-4) (λ i l. refl),
+      tab-back (s .extents) (extentIn s) 0 6 (z .extents-6) (λ i l. refl),
       tab-back (s .modes) (modeIn s) 0 4 (z .modes-4) (λ i l. refl),
       stored-back (s .endpoints) (endpointIn s) 18 (z .endpoints-18) (λ i l. refl),
       stored-back (s .weights) (weightIn s) 64 (z .weights-64) (λ i l. refl),
@@ -145,7 +146,7 @@ module _ (fp : ℕ) (numbers old : List ℕ) where
     kept-4 = rw (ne-eqb _ _ h)
 
   module _ (e : length old ≡ 16) where
-    module _ (h : length numbers ≡ 104 → ⊥) where
+    module _ (h : length numbers ≡ 107 → ⊥) where
       pub write-5 : pick (unknownFootprint fp) 1 5 ≡ writeNumber fp numbers (length old)
       unfolding writeNumber lentRefusal
       write-5 = rw (eq-eqb _ _ e, ne-eqb _ _ h) (after-1 (unknownFootprint fp) 5 _ (λ q. absurd (omega (arith, q))))
@@ -154,7 +155,7 @@ module _ (fp : ℕ) (numbers old : List ℕ) where
       unfolding writeBlock
       zeros-5 = rw (eq-eqb _ _ e, ne-eqb _ _ h)
 
-    module _ (l : length numbers ≡ 104) where
+    module _ (l : length numbers ≡ 107) where
       pub write-told : numberTold (writingOf fp (blockFrom numbers) .answer) ≡ writeNumber fp numbers (length old)
       unfolding writeNumber lentRefusal
       write-told = rw (eq-eqb _ _ e, eq-eqb _ _ l) (go (unknownFootprint fp) refl) where
@@ -171,8 +172,8 @@ module _ (fp : ℕ) (numbers old : List ℕ) where
 written-length : (fp : ℕ) (s : SymbolicBlock) → length (writingOf fp s .bytes) ≡ 16
 unfolding writingOf
 written-length fp s = go (eqb (refusalOf fp s) 0) where
-  go : (t : Bool) → length (pick t (wrote s) (wroteNothing (refusalOf fp s)) .bytes) ≡ 16
-  go true = bytes-length 16 (blockOf s)
+  go : (t : Bool) → length (pick t (wrote fp s) (wroteNothing (refusalOf fp s)) .bytes) ≡ 16
+  go true = bytes-length 16 (blockOf fp s)
   go false = length-tab {A = ℕ} (λ i. 0) 16
 
 pub whole-block : (fp : ℕ) (s : SymbolicBlock) → tab (λ k. getD (writingOf fp s .bytes) k 0) 16 ≡ writingOf fp s .bytes

@@ -1,4 +1,4 @@
--- What the calls that read and write a symbolic block (01: sheet) as a list of 104 numbers answer, and what they leave.
+-- What the calls that read and write a symbolic block (01: sheet) as a list of 107 numbers answer, and what they leave.
 -- Assumes nothing.
 use Prim.Native.Nat.{ℕ}
 use mathlib.Core.Bool.{Bool, not}
@@ -26,15 +26,15 @@ refusedOr5 (Refused n) = n
 refusedOr5 (Faulty n) = 5
 refusedOr5 Done = 5
 
--- 104 numbers for the symbolic block, two for the spare bits (02, g)
+-- 107 numbers for the symbolic block, two for the spare bits (02, g)
 abbrev pub roomFor : ℕ → ℕ → Bool
-roomFor numbers spare = both (eqb numbers 104) (eqb spare 2)
+roomFor numbers spare = both (eqb numbers 107) (eqb spare 2)
 
 -- what a call answers that puts a reading into two lists of so many numbers
 unfoldable pub putNumber : SymbolicReading → ℕ → ℕ → ℕ
 putNumber r n m = pick (roomFor n m) (numberTold (r .answer)) (refusedOr5 (r .answer))
 
--- what the first list holds then: the symbolic block, zeros on a fault and on the refusals 1 and 4; what it held where it is not of 104 numbers
+-- what the first list holds then: the symbolic block, zeros on a fault and on the refusals 1 and 4; what it held where it is not of 107 numbers
 -- or the other not of two
 unfoldable pub putNumbers : SymbolicReading → List ℕ → ℕ → List ℕ
 unfolding flatOf
@@ -60,7 +60,7 @@ readSpare fp s n old = putSpare (readingOf fp s) n old
 unfoldable pub lentRefusal : ℕ → ℕ → ℕ → ℕ
 unfolding unknownFootprint
 lentRefusal fp numbers block =
-    firstOf (when (unknownFootprint fp) 1 ∷ when (not (eqb block 16)) 4 ∷ when (not (eqb numbers 104)) 5 ∷ [])
+    firstOf (when (unknownFootprint fp) 1 ∷ when (not (eqb block 16)) 4 ∷ when (not (eqb numbers 107)) 5 ∷ [])
 
 -- what the call answers with a block of so many bytes: these, else the refusal of the list's symbolic block, 0 for none
 unfoldable pub writeNumber : ℕ → List ℕ → ℕ → ℕ
@@ -69,9 +69,9 @@ writeNumber fp numbers n =
     let e = lentRefusal fp (length numbers) n in
     pick (eqb e 0) (numberTold (writingOf fp (blockFrom numbers) .answer)) e
 
--- what the block holds then: the bytes written, "all 0 on a refusal", also of a list that is not of 104 numbers; what it held where it is not
+-- what the block holds then: the bytes written, "all 0 on a refusal", also of a list that is not of 107 numbers; what it held where it is not
 -- of 16 bytes
 unfoldable pub writeBlock : ℕ → List ℕ → List ℕ → List ℕ
 unfolding blockOver writingOf
 writeBlock fp numbers old =
-    pick (eqb (length old) 16) (pick (eqb (length numbers) 104) (writingOf fp (blockFrom numbers) .bytes) (tab (λ k. 0) 16)) old
+    pick (eqb (length old) 16) (pick (eqb (length numbers) 107) (writingOf fp (blockFrom numbers) .bytes) (tab (λ k. 0) 16)) old

@@ -1,4 +1,5 @@
--- A symbolic block (01: sheet) as one list of 104 numbers, both ways: 01's fields in its order, and the HDR mark of 02, i, as the last.
+-- A symbolic block (01: sheet) as one list of 107 numbers, both ways: 01's fields in its order, then the HDR mark of 02, i,
+-- and what 02, h, adds: the grid's depth and the third axis' two extents.
 -- Assumes nothing.
 use Prim.Native.Nat.{ℕ, _+_, _-_, min}
 use mathlib.Core.Bool.{Bool}
@@ -28,15 +29,19 @@ settingsWith s mode0 mode1 mode2 mode3 =
 abbrev pub settingsOf : SymbolicBlock → List ℕ
 settingsOf s = settingsWith s (modeIn s 0) (modeIn s 1) (modeIn s 2) (modeIn s 3)
 
--- then the endpoint numbers, then the weights, then the HDR mark
+-- what 02, i and h, add, after the weights: so every field of 01 keeps its place
+abbrev pub addedOf : SymbolicBlock → List ℕ
+addedOf s = s .hdr ∷ s .depth ∷ extentIn s 4 ∷ extentIn s 5 ∷ []
+
+-- the settings, then the endpoint numbers, then the weights, then the added fields
 unfoldable pub flatOf : SymbolicBlock → List ℕ
 unfolding tab
-flatOf s = settingsOf s ++ (tab (endpointIn s) 18 ++ (tab (weightIn s) 64 ++ (s .hdr ∷ [])))
+flatOf s = settingsOf s ++ (tab (endpointIn s) 18 ++ (tab (weightIn s) 64 ++ addedOf s))
 
 -- its number i, by position
-abbrev pub flatAt : List ℕ → List Stored → List Stored → ℕ → ℕ → ℕ
-flatAt settings endpoints weights hdr i =
-    pick (ltb i 21) (getD settings i 0) (pick (ltb i 39) (numberIn endpoints (i - 21)) (pick (ltb i 103) (numberIn weights (i - 39)) hdr))
+abbrev pub flatAt : List ℕ → List Stored → List Stored → List ℕ → ℕ → ℕ
+flatAt settings endpoints weights added i =
+    pick (ltb i 21) (getD settings i 0) (pick (ltb i 39) (numberIn endpoints (i - 21)) (pick (ltb i 103) (numberIn weights (i - 39)) (getD added (i - 103) 0)))
 
 -- ---- a list's symbolic block
 
@@ -48,9 +53,10 @@ blockOver words bytes = record {
   mark = getD bytes 0 0;
   hdr = getD bytes 103 0;
   colours = tab (λ i. getD words (1 + i) 0) 4;
-  extents = tab (λ i. getD words (5 + i) 0) 4;
+  extents = tab (λ i. getD words (pick (ltb i 4) (5 + i) (101 + i)) 0) 6;
   width = getD bytes 9 0;
   height = getD bytes 10 0;
+  depth = getD bytes 104 0;
   range = getD bytes 11 0;
   planes = getD bytes 12 0;
   component = getD bytes 13 0;
@@ -71,7 +77,7 @@ blockFrom numbers = blockOver numbers numbers
 -- the list with 255 for each number above it
 unfoldable pub clippedNumbers : List ℕ → List ℕ
 unfolding tab
-clippedNumbers numbers = tab (λ i. min (getD numbers i 0) 255) 104
+clippedNumbers numbers = tab (λ i. min (getD numbers i 0) 255) 107
 
 -- no endpoint number is above 255
 unfoldable pub endpointsFit : List ℕ → Bool

@@ -1,5 +1,5 @@
-// The reader and the writer of symbolic blocks (01: sheets) over one list of 104 numbers: the fields of 01 in its order, and the HDR mark
-// of 02, i, as the last.
+// The reader and the writer of symbolic blocks (01: sheets) over one list of 107 numbers: the fields of 01 in its order, then the HDR mark
+// of 02, i, and what 02, h, adds: the grid's depth and the third axis' two extents.
 use block_answer::Answer;
 use encoding::Stored;
 use symbolic_block::SymbolicBlock;
@@ -58,15 +58,17 @@ fn settings_of(s: SymbolicBlock) -> [u16; 21]
     ]
 }
 
-// The settings, the endpoint numbers and the weights, each list in a loop of its own, and the HDR mark.
+// The settings, the endpoint numbers and the weights, each list in a loop of its own, and the added fields.
 fn put(s: SymbolicBlock, numbers: &mut [u16])
-    requires { ⌜ length (now numbers) ≡ 104 ⌝ }
+    requires { ⌜ length (now numbers) ≡ 107 ⌝ }
     ensures { λ r. ⌜ now (numbers .exit) ≡ flatOf s ⌝ }
 {
     let settings = settings_of(s);
     let endpoints = s.endpoints;
     let weights = s.weights;
+    let e = s.extents;
     let hdr = s.hdr;
+    let depth = s.depth;
     let mut i: usize = 0;
     while i < 21 {
         numbers[i] = settings[i];
@@ -74,8 +76,8 @@ fn put(s: SymbolicBlock, numbers: &mut [u16])
     }
     let mut j: usize = 0;
     while j < 18 {
-        let e = endpoints[j];
-        numbers[21 + j] = wide(e.0);
+        let v = endpoints[j];
+        numbers[21 + j] = wide(v.0);
         j += 1;
     }
     let mut k: usize = 0;
@@ -85,6 +87,9 @@ fn put(s: SymbolicBlock, numbers: &mut [u16])
         k += 1;
     }
     numbers[103] = wide(hdr);
+    numbers[104] = wide(depth);
+    numbers[105] = e[4];
+    numbers[106] = e[5];
 }
 
 fn refused_or_5(a: Answer) -> u8
@@ -104,7 +109,7 @@ pub fn put_reading(reading: SymbolicReading, numbers: &mut [u16], spare: &mut [u
     ensures { λ r. ⌜ now (spare .exit) ≡ putSpare reading (length (now (numbers .entry))) (now (spare .entry)) ⌝ }
 {
     let answer = reading.answer;
-    if numbers.len() != 104 {
+    if numbers.len() != 107 {
         return refused_or_5(answer);
     }
     if spare.len() != 2 {
@@ -133,11 +138,11 @@ fn clipped(x: u16) -> u8
     if x < 256 { x as u8 } else { 255 }
 }
 
-fn clipped_numbers(numbers: &[u16]) -> [u8; 104]
-    requires { ⌜ length (now numbers) ≡ 104 ⌝ }
+fn clipped_numbers(numbers: &[u16]) -> [u8; 107]
+    requires { ⌜ length (now numbers) ≡ 107 ⌝ }
     ensures { λ r. ⌜ r ≡ clippedNumbers (now (numbers .entry)) ⌝ }
 {
-    let mut out = [0u8; 104];
+    let mut out = [0u8; 107];
     let mut i: usize = 0;
     while i < numbers.len() {
         out[i] = clipped(numbers[i]);
@@ -146,7 +151,7 @@ fn clipped_numbers(numbers: &[u16]) -> [u8; 104]
     out
 }
 
-fn endpoints_from(bytes: [u8; 104]) -> [Stored; 18]
+fn endpoints_from(bytes: [u8; 107]) -> [Stored; 18]
     ensures { λ r. ⌜ r ≡ tab (λ i. stored (getD bytes (21 + i) 0)) 18 ⌝ }
 {
     let mut out = [Stored(0); 18];
@@ -158,7 +163,7 @@ fn endpoints_from(bytes: [u8; 104]) -> [Stored; 18]
     out
 }
 
-fn weights_from(bytes: [u8; 104]) -> [Stored; 64]
+fn weights_from(bytes: [u8; 107]) -> [Stored; 64]
     ensures { λ r. ⌜ r ≡ tab (λ i. stored (getD bytes (39 + i) 0)) 64 ⌝ }
 {
     let mut out = [Stored(0); 64];
@@ -171,7 +176,7 @@ fn weights_from(bytes: [u8; 104]) -> [Stored; 64]
 }
 
 fn block_from(numbers: &[u16]) -> SymbolicBlock
-    requires { ⌜ length (now numbers) ≡ 104 ⌝ }
+    requires { ⌜ length (now numbers) ≡ 107 ⌝ }
     ensures { λ r. ⌜ r ≡ blockOver (now (numbers .entry)) (clippedNumbers (now (numbers .entry))) ⌝ }
 {
     let bytes = clipped_numbers(numbers);
@@ -181,9 +186,17 @@ fn block_from(numbers: &[u16]) -> SymbolicBlock
         mark: bytes[0],
         hdr: bytes[103],
         colours: [numbers[1], numbers[2], numbers[3], numbers[4]],
-        extents: [numbers[5], numbers[6], numbers[7], numbers[8]],
+        extents: [
+            numbers[5],
+            numbers[6],
+            numbers[7],
+            numbers[8],
+            numbers[105],
+            numbers[106],
+        ],
         width: bytes[9],
         height: bytes[10],
+        depth: bytes[104],
         range: bytes[11],
         planes: bytes[12],
         component: bytes[13],
@@ -205,7 +218,7 @@ fn fits(x: u16, before: bool) -> bool
 
 // Whether no endpoint number is above 255.
 fn endpoints_fit(numbers: &[u16]) -> bool
-    requires { ⌜ length (now numbers) ≡ 104 ⌝ }
+    requires { ⌜ length (now numbers) ≡ 107 ⌝ }
     ensures { λ r. ⌜ r ≡ endpointsFit (now (numbers .entry)) ⌝ }
 {
     let mut ok = true;
@@ -230,7 +243,7 @@ fn or_34(n: u8) -> u8
 // The block of a list. Every limit of a byte field is below 255, but that of an endpoint number may be 255: so 255 in place of a
 // number above it is refused for the same reason, except where it would be an endpoint number within its range.
 fn writing_of(footprint: u8, numbers: &[u16]) -> Writing
-    requires { ⌜ length (now numbers) ≡ 104 ⌝ }
+    requires { ⌜ length (now numbers) ≡ 107 ⌝ }
     ensures { λ r. ⌜ r ≡ writingOf footprint (blockFrom (now (numbers .entry))) ⌝ }
 {
     let written = symbolic_calls::write_symbolic(footprint, block_from(numbers));
@@ -259,7 +272,7 @@ fn put_block(from: [u8; 16], block: &mut [u8])
 fn after_1(footprint: u8, n: u8) -> u8
     ensures { λ r. ⌜ r ≡ pick (unknownFootprint footprint) 1 n ⌝ }
 {
-    if 13 < footprint { 1 } else { n }
+    if 23 < footprint { 1 } else { n }
 }
 
 // The block of a list: 0, or the refusal with zeros in `block`; where `block` is not of 16 bytes it stays as it was, 1 or 4 being told.
@@ -270,7 +283,7 @@ pub fn write_numbers(footprint: u8, numbers: &[u16], block: &mut [u8]) -> u8
     if block.len() != 16 {
         return after_1(footprint, 4);
     }
-    if numbers.len() != 104 {
+    if numbers.len() != 107 {
         put_block([0u8; 16], block);
         return after_1(footprint, 5);
     }

@@ -22,7 +22,9 @@ use Rattle.bits.specs.Block.{numberOf}
 use Rattle.block_fault.specs.declared.Verdict.{Verdict}
 use Rattle.block_fault.specs.declared.Verdict.the-variants as verdict
 use Rattle.block_fault.specs.Settings.{verdictOf}
-use Rattle.block_fault.specs.Bits.{headerAt, endpointAt, weightAt, colourAt, extentAt}
+use Rattle.block_fault.specs.Bits.{headerAt, endpointAt, weightAt}
+use Rattle.footprint.specs.Footprint.{isVolume}
+use Rattle.void_extent.specs.Layout.{colourAt, extentAt}
 use Rattle.block_fault.specs.Faults.{faultOf}
 use Rattle.block_header.proofs.Stages.{stage-passed, stage-stopped}
 use Rattle.block_fault.proofs.Verdicts.{told-fault, told-void, told-coded}
@@ -38,15 +40,15 @@ use Rattle.symbolic_reader.specs.declared.SymbolicReading.{SymbolicReadi
 -- ---- refusals one by one
 
 module _ (fp bytes : ℕ) where
-  pub unknown-footprint : 13 < fp → Stopped 1 ≡ stageOf (readRefusal fp bytes)
+  pub unknown-footprint : 23 < fp → Stopped 1 ≡ stageOf (readRefusal fp bytes)
   unfolding readRefusal stageOf
   unknown-footprint h = rw (lt-ltb _ _ h)
 
-  pub not-sixteen : fp ≤ 13 → (bytes ≡ 16 → ⊥) → Stopped 4 ≡ stageOf (readRefusal fp bytes)
+  pub not-sixteen : fp ≤ 23 → (bytes ≡ 16 → ⊥) → Stopped 4 ≡ stageOf (readRefusal fp bytes)
   unfolding readRefusal stageOf
   not-sixteen k h = rw (le-ltb _ _ k, ne-eqb _ _ h)
 
-  pub accepted : fp ≤ 13 → bytes ≡ 16 → Passed ≡ stageOf (readRefusal fp bytes)
+  pub accepted : fp ≤ 23 → bytes ≡ 16 → Passed ≡ stageOf (readRefusal fp bytes)
   unfolding readRefusal stageOf
   accepted k h = rw (le-ltb _ _ k, eq-eqb _ _ h)
 
@@ -76,17 +78,17 @@ module _ (fp B : ℕ) where
       let k = told-fault true fp B n e in
       rw (ne-eqb (faultOf true fp B) 0 (k .1), k .0)
 
-  pub void-reading : verdictOf true fp B ≡ verdict.VoidExtent → doneWith (voidBlock (field B 9 1) (colourAt B) (extentAt B)) noSpare ≡ readingIn fp B
+  pub void-reading : verdictOf true fp B ≡ verdict.VoidExtent → doneWith (voidBlock (field B 9 1) (colourAt B) (extentAt (isVolume fp) B)) noSpare ≡ readingIn fp B
   unfolding readingIn voidBlock
   void-reading e =
       let k = told-void true fp B e in
-      rw (eq-eqb (faultOf true fp B) 0 (k .0), read-void B (k .1))
+      rw (eq-eqb (faultOf true fp B) 0 (k .0), read-void fp B (k .1))
 
-  pub coded-reading : verdictOf true fp B ≡ verdict.Coded → doneWith (modeBlock (headerAt B) (endpointAt B (headerAt B)) (weightAt B (headerAt B))) (spareIn B (headerAt B)) ≡ readingIn fp B
+  pub coded-reading : verdictOf true fp B ≡ verdict.Coded → doneWith (modeBlock (headerAt fp B) (endpointAt B (headerAt fp B)) (weightAt B (headerAt fp B))) (spareIn B (headerAt fp B)) ≡ readingIn fp B
   unfolding readingIn modeBlock
   coded-reading e =
       let k = told-coded true fp B e in
-      rw (eq-eqb (faultOf true fp B) 0 (k .0), read-mode B (k .1))
+      rw (eq-eqb (faultOf true fp B) 0 (k .0), read-mode fp B (k .1))
 
 module _ (fp : ℕ) (s : List ℕ) where
   -- a refusal at once with its number
@@ -103,7 +105,7 @@ module _ (fp : ℕ) (s : List ℕ) where
 
   pub sixteen : stageOf (readRefusal fp (length s)) ≡ Passed → length s ≡ 16
   unfolding readRefusal
-  sixteen e = go (ltb 13 fp) (eqb (length s) 16) refl (stage-passed _ e) where
+  sixteen e = go (ltb 23 fp) (eqb (length s) 16) refl (stage-passed _ e) where
     go : (a b : Bool) → eqb (length s) 16 ≡ b → _≡_ {A = ℕ} (pick a 1 (pick (not b) 4 0)) 0 → length s ≡ 16
     go true b q r = absurd (omega arith)
     go false false q r = absurd (omega arith)
@@ -114,7 +116,7 @@ module _ (fp : ℕ) (s : List ℕ) where
   unfolding readingOf readingIn readTold
   number-told = go (eqb (readRefusal fp (length s)) 0) (eqb (faultOf true fp (numberOf s)) 0) refl where
     go : (a b : Bool) → eqb (faultOf true fp (numberOf s)) 0 ≡ b
-        → numberTold ((pick a (pick b (done (numberOf s) (readBlock (numberOf s))) (nothing (Faulty (faultOf true fp (numberOf s))))) (nothing (Refused (readRefusal fp (length s))))) .answer)
+        → numberTold ((pick a (pick b (done (numberOf s) (readBlock fp (numberOf s))) (nothing (Faulty (faultOf true fp (numberOf s))))) (nothing (Refused (readRefusal fp (length s))))) .answer)
         ≡ pick a (faultOf true fp (numberOf s)) (readRefusal fp (length s))
     go true true e = sym (eqb-true (faultOf true fp (numberOf s)) 0 e)
     go true false e = refl

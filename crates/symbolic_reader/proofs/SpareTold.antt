@@ -38,7 +38,7 @@ module _ (fp : ℕ) (s : List ℕ) where
 
   -- by the two tests: not refused, and without fault
   abbrev told : Bool → Bool → SymbolicReading
-  told a b = pick a (pick b (done B (readBlock B)) (nothing (Faulty (faultOf true fp B)))) (nothing (Refused (readRefusal fp (length s))))
+  told a b = pick a (pick b (done B (readBlock fp B)) (nothing (Faulty (faultOf true fp B)))) (nothing (Refused (readRefusal fp (length s))))
 
   abbrev fine : Bool
   fine = eqb (faultOf true fp B) 0
@@ -61,13 +61,13 @@ module _ (fp : ℕ) (s : List ℕ) where
   same-block : readingOf fp s .block ≡ plainBlock fp s
   unfolding plainBlock readTold
   same-block = ap (λ (r : SymbolicReading). r .block) told-is ∙ go passed fine refl refl where
-    go : (a b : Bool) → passed ≡ a → fine ≡ b → told a b .block ≡ pick (eqb (pick a (faultOf true fp B) (readRefusal fp (length s))) 0) (readBlock B) zeroBlock
+    go : (a b : Bool) → passed ≡ a → fine ≡ b → told a b .block ≡ pick (eqb (pick a (faultOf true fp B) (readRefusal fp (length s))) 0) (readBlock fp B) zeroBlock
     go true true p q = rw q
     go true false p q = rw q
     go false b p q = rw p
 
   -- the spare bits are the sheet's where one was read, else none
-  by-answer : (P : SymbolicReading → Type 0) → P (done B (readBlock B)) → ((a : Answer) → (a ≡ Done → ⊥) → P (nothing a)) → P (readingOf fp s)
+  by-answer : (P : SymbolicReading → Type 0) → P (done B (readBlock fp B)) → ((a : Answer) → (a ≡ Done → ⊥) → P (nothing a)) → P (readingOf fp s)
   by-answer P x y = subst P (sym told-is) (go passed fine) where
     go : (a b : Bool) → P (told a b)
     go true true = x
@@ -84,45 +84,45 @@ count-is C t = go (eqb (t .mark) 1) where
 solid-none : (C : ℕ) (t : SymbolicBlock) → t .mark ≡ 1 → spareOf C t ≡ noSpare
 solid-none C t e = rw (eq-eqb (t .mark) 1 e)
 
-count-mode : (C : ℕ) → isVoid (modeAt C) ≡ false → spareCount (readBlock C) ≡ spareBits (headerAt C)
+count-mode : (fp C : ℕ) → isVoid (modeAt fp C) ≡ false → spareCount (readBlock fp C) ≡ spareBits (headerAt fp C)
 unfolding modeBlock
-count-mode C v = ap spareCount (read-mode C v)
+count-mode fp C v = ap spareCount (read-mode fp C v)
 
-whole : (fp C : ℕ) → isVoid (modeAt C) ≡ false → faultOf true fp C ≡ 0 → namedBits (headerAt C) + spareCount (readBlock C) ≡ 128
+whole : (fp C : ℕ) → isVoid (modeAt fp C) ≡ false → faultOf true fp C ≡ 0 → namedBits (headerAt fp C) + spareCount (readBlock fp C) ≡ 128
 unfolding spareBits
-whole fp C v e = rw (count-mode C v) (omega (arith, named-is (headerAt C), demand-3 .parts-apart fp C v e))
+whole fp C v e = rw (count-mode fp C v) (omega (arith, named-is (headerAt fp C), demand-3 .parts-apart fp C v e))
 
 -- the mark that is read
-mark-void : (C : ℕ) → isVoid (modeAt C) ≡ true → readBlock C .mark ≡ 1
+mark-void : (fp C : ℕ) → isVoid (modeAt fp C) ≡ true → readBlock fp C .mark ≡ 1
 unfolding voidBlock
-mark-void C v = ap (λ (t : SymbolicBlock). t .mark) (read-void C v)
+mark-void fp C v = ap (λ (t : SymbolicBlock). t .mark) (read-void fp C v)
 
-mark-mode : (C : ℕ) → isVoid (modeAt C) ≡ false → readBlock C .mark ≡ 0
+mark-mode : (fp C : ℕ) → isVoid (modeAt fp C) ≡ false → readBlock fp C .mark ≡ 0
 unfolding modeBlock
-mark-mode C v = ap (λ (t : SymbolicBlock). t .mark) (read-mode C v)
+mark-mode fp C v = ap (λ (t : SymbolicBlock). t .mark) (read-mode fp C v)
 
 module _ (fp : ℕ) (s : SymbolicBlock) (z : Sized s) (a : Acceptable fp s) where
-  mark-back : readBlock (blockOf s) .mark ≡ s .mark
+  mark-back : readBlock fp (blockOf fp s) .mark ≡ s .mark
   mark-back = ap (λ (t : SymbolicBlock). t .mark) (demand-3 .written-reads-back fp s z a)
 
-  field-clear : s .mark ≡ 0 → field (blockOf s) (endpointsEnd (headerOf s)) (spareBits (headerOf s)) ≡ 0
-  field-clear m = ap (field (blockOf s) (endpointsEnd (headerOf s))) (between-is (headerOf s)) ∙ demand-3 .spare-bits fp s z a m
+  field-clear : s .mark ≡ 0 → field (blockOf fp s) (endpointsEnd (headerOf s)) (spareBits (headerOf s)) ≡ 0
+  field-clear m = ap (field (blockOf fp s) (endpointsEnd (headerOf s))) (between-is (headerOf s)) ∙ demand-3 .spare-bits fp s z a m
 
-  mode-clear : s .mark ≡ 0 → spareOf (blockOf s) s .set ≡ false
+  mode-clear : s .mark ≡ 0 → spareOf (blockOf fp s) s .set ≡ false
   unfolding someSet
   mode-clear m = rw (ne-eqb (s .mark) 1 (λ q. omega (arith, m, q)), eq-eqb _ 0 (field-clear m))
 
-  pub written-clear : spareOf (blockOf s) s .set ≡ false
-  written-clear = go (isVoid (modeAt (blockOf s))) refl where
-    go : (v : Bool) → isVoid (modeAt (blockOf s)) ≡ v → spareOf (blockOf s) s .set ≡ false
-    go true v = ap (λ (q : Spare). q .set) (solid-none (blockOf s) s (sym mark-back ∙ mark-void (blockOf s) v))
-    go false v = mode-clear (sym mark-back ∙ mark-mode (blockOf s) v)
+  pub written-clear : spareOf (blockOf fp s) s .set ≡ false
+  written-clear = go (isVoid (modeAt fp (blockOf fp s))) refl where
+    go : (v : Bool) → isVoid (modeAt fp (blockOf fp s)) ≡ v → spareOf (blockOf fp s) s .set ≡ false
+    go true v = ap (λ (q : Spare). q .set) (solid-none (blockOf fp s) s (sym mark-back ∙ mark-void fp (blockOf fp s) v))
+    go false v = mode-clear (sym mark-back ∙ mark-mode fp (blockOf fp s) v)
 
 -- ---- the whole
 
 fixed : (fp : ℕ) (s : List ℕ) → readingOf fp s .answer ≡ Done → readingOf fp s .spare .count ≡ spareCount (readingOf fp s .block)
 fixed fp s =
-    by-answer fp s (λ r. r .answer ≡ Done → r .spare .count ≡ spareCount (r .block)) (λ d. count-is (numberOf s) (readBlock (numberOf s)))
+    by-answer fp s (λ r. r .answer ≡ Done → r .spare .count ≡ spareCount (r .block)) (λ d. count-is (numberOf s) (readBlock fp (numberOf s)))
     (λ a n d. absurd (n d))
 
 pub spare-told : SpareTold
@@ -131,9 +131,9 @@ spare-told = record {
   same-block = same-block;
   fixed = fixed;
   same-count = λ fp fp2 s t d e q. fixed fp s d ∙ ap spareCount q ∙ sym (fixed fp2 t e);
-  between = λ fp C v e. count-mode C v ∙ between-is (headerAt C);
+  between = λ fp C v e. count-mode fp C v ∙ between-is (headerAt fp C);
   whole = whole;
-  solid = λ fp s. by-answer fp s (λ r. r .block .mark ≡ 1 → r .spare ≡ noSpare) (λ m. solid-none (numberOf s) (readBlock (numberOf s)) m) (λ a n m. refl);
+  solid = λ fp s. by-answer fp s (λ r. r .block .mark ≡ 1 → r .spare ≡ noSpare) (λ m. solid-none (numberOf s) (readBlock fp (numberOf s)) m) (λ a n m. refl);
   not-read = λ fp s. by-answer fp s (λ r. (r .answer ≡ Done → ⊥) → r .spare ≡ noSpare) (λ h. absurd (h refl)) (λ a n h. refl);
   written-clear = written-clear;
 }

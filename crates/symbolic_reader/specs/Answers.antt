@@ -18,9 +18,9 @@ use Rattle.symbolic_reader.specs.declared.SymbolicReading.{SymbolicReadi
 use Rattle.spare_bits.specs.declared.Spare.{Spare}
 use Rattle.spare_bits.specs.Spare.{noSpare, spareOf}
 
--- "The reader of sheets refuses 1 and 4"; 0 where it does not
+-- "The reader of sheets refuses 1 and 4", 1 being a footprint above 23 (02, h); 0 where it does not
 unfoldable pub readRefusal : ℕ → ℕ → ℕ
-readRefusal fp bytes = firstOf (when (ltb 13 fp) 1 ∷ when (not (eqb bytes 16)) 4 ∷ [])
+readRefusal fp bytes = firstOf (when (ltb 23 fp) 1 ∷ when (not (eqb bytes 16)) 4 ∷ [])
 
 -- an answer with "a sheet of zeros"; 02, g: its spare bits are "0 and clear for faults and refusals"
 abbrev pub nothing : Answer → SymbolicReading
@@ -36,7 +36,7 @@ done B s = doneWith s (spareOf B s)
 -- of 128 bits: "else tells the block's fault, with a sheet of zeros in both events", else the symbolic block
 unfoldable pub readingIn : ℕ → ℕ → SymbolicReading
 unfolding answerFor readBlock zeroBlock
-readingIn fp B = pick (eqb (faultOf true fp B) 0) (done B (readBlock B)) (nothing (Faulty (faultOf true fp B)))
+readingIn fp B = pick (eqb (faultOf true fp B) 0) (done B (readBlock fp B)) (nothing (Faulty (faultOf true fp B)))
 
 -- what the reader answers for the bytes s
 unfoldable pub readingOf : ℕ → List ℕ → SymbolicReading

@@ -28,7 +28,7 @@ plainAnswer fp s = pick (eqb (readRefusal fp (length s)) 0) (answerFor (faultOf 
 
 unfoldable pub plainBlock : ℕ → List ℕ → SymbolicBlock
 unfolding readTold readBlock zeroBlock
-plainBlock fp s = pick (eqb (readTold fp s) 0) (readBlock (numberOf s)) zeroBlock
+plainBlock fp s = pick (eqb (readTold fp s) 0) (readBlock fp (numberOf s)) zeroBlock
 
 pub record SpareTold : Type 0 where
   -- "Sheets, faults and texels don't change": the old answer is a part of the new one (no definition of a texel knows of spare bits)
@@ -40,11 +40,11 @@ pub record SpareTold : Type 0 where
   pub same-count : (fp fp2 : ℕ) (s t : List ℕ) → readingOf fp s .answer ≡ Done → readingOf fp2 t .answer ≡ Done
       → readingOf fp s .block ≡ readingOf fp2 t .block → readingOf fp s .spare .count ≡ readingOf fp2 t .spare .count
   -- these bits lie between the endpoint numbers and what is above them, and with the named fields they are all 128
-  pub between : (fp B : ℕ) → isVoid (modeAt B) ≡ false → faultOf true fp B ≡ 0
-      → spareCount (readBlock B) ≡ componentFrom (headerAt B) - endpointsEnd (headerAt B)
-  pub whole : (fp B : ℕ) → isVoid (modeAt B) ≡ false → faultOf true fp B ≡ 0 → namedBits (headerAt B) + spareCount (readBlock B) ≡ 128
+  pub between : (fp B : ℕ) → isVoid (modeAt fp B) ≡ false → faultOf true fp B ≡ 0
+      → spareCount (readBlock fp B) ≡ componentFrom (headerAt fp B) - endpointsEnd (headerAt fp B)
+  pub whole : (fp B : ℕ) → isVoid (modeAt fp B) ≡ false → faultOf true fp B ≡ 0 → namedBits (headerAt fp B) + spareCount (readBlock fp B) ≡ 128
   -- "0 and clear for solid blocks, faults and refusals"
   pub solid : (fp : ℕ) (s : List ℕ) → readingOf fp s .block .mark ≡ 1 → readingOf fp s .spare ≡ noSpare
   pub not-read : (fp : ℕ) (s : List ℕ) → (readingOf fp s .answer ≡ Done → ⊥) → readingOf fp s .spare ≡ noSpare
   -- the writer sets none
-  pub written-clear : (fp : ℕ) (s : SymbolicBlock) → Sized s → Acceptable fp s → spareOf (blockOf s) s .set ≡ false
+  pub written-clear : (fp : ℕ) (s : SymbolicBlock) → Sized s → Acceptable fp s → spareOf (blockOf fp s) s .set ≡ false

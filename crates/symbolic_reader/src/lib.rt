@@ -17,7 +17,8 @@ ghost use Rattle.integer_sequence.specs.Reading.{stored};
 ghost use Rattle.block_header.specs.Counts.{weightCount, endpointCount, endpointRangeOf};
 ghost use Rattle.block_header.specs.Stages.{stageOf};
 ghost use Rattle.block_answer.specs.Told.{numberTold};
-ghost use Rattle.block_fault.specs.Bits.{endpointAt, weightAt, colourAt, extentAt, endpointsFrom};
+ghost use Rattle.block_fault.specs.Bits.{endpointAt, weightAt, endpointsFrom};
+ghost use Rattle.void_extent.specs.Layout.{colourAt, extentAt};
 ghost use Rattle.symbolic_block.specs.Reading.{markOf, modeBlock, voidBlock, zeroBlock};
 ghost use Rattle.symbolic_reader.specs.Answers.{readRefusal, readingOf, readTold, nothing, doneWith};
 ghost use Rattle.symbolic_reader.specs.inner.Stages.{refusedAt, faultyAt};
@@ -36,9 +37,10 @@ fn zero_block() -> SymbolicBlock
         mark: 0,
         hdr: 0,
         colours: [0u16; 4],
-        extents: [0u16; 4],
+        extents: [0u16; 6],
         width: 0,
         height: 0,
+        depth: 0,
         range: 0,
         planes: 0,
         component: 0,
@@ -75,7 +77,7 @@ fn read(block: SymbolicBlock, spare: Spare) -> SymbolicReading
 fn check(fp: u8, bytes: usize) -> Stage
     ensures { λ r. ⌜ r ≡ stageOf (readRefusal fp bytes) ⌝ }
 {
-    if 13 < fp {
+    if 23 < fp {
         return Stage::Stopped(1);
     }
     if bytes != 16 {
@@ -109,11 +111,23 @@ fn colour(b: PhysicalBlock, i: u32) -> u16
     bits::field_at(b, 64 + 16 * i, 16) as u16
 }
 
-fn extent(b: PhysicalBlock, i: u32) -> u16
-    requires { ⌜ i < 4 ⌝ }
-    ensures { λ r. ⌜ r ≡ extentAt (blockNumber b) i ⌝ }
+fn extent(volume: bool, b: PhysicalBlock, i: u32) -> u16
+    requires { ⌜ i < 6 ⌝ }
+    ensures { λ r. ⌜ r ≡ extentAt volume (blockNumber b) i ⌝ }
 {
-    bits::field_at(b, 12 + 13 * i, 13) as u16
+    void_extent::extent(volume, b, i) as u16
+}
+
+fn extents(volume: bool, b: PhysicalBlock) -> [u16; 6]
+    ensures { λ r. ⌜ r ≡ tab (extentAt volume (blockNumber b)) 6 ⌝ }
+{
+    let s0 = extent(volume, b, 0);
+    let s1 = extent(volume, b, 1);
+    let t0 = extent(volume, b, 2);
+    let t1 = extent(volume, b, 3);
+    let r0 = extent(volume, b, 4);
+    let r1 = extent(volume, b, 5);
+    [s0, s1, t0, t1, r0, r1]
 }
 
 // The HDR mark of a void extent.
@@ -123,16 +137,18 @@ fn hdr_bit(b: PhysicalBlock) -> u8
     bits::field_at(b, 9, 1) as u8
 }
 
-fn void_block(b: PhysicalBlock) -> SymbolicBlock
-    ensures { λ r. ⌜ r ≡ voidBlock (field (blockNumber b) 9 1) (colourAt (blockNumber b)) (extentAt (blockNumber b)) ⌝ }
+fn void_block(volume: bool, b: PhysicalBlock) -> SymbolicBlock
+    ensures { λ r. ⌜ r ≡ voidBlock (field (blockNumber b) 9 1) (colourAt (blockNumber b)) (extentAt volume (blockNumber b)) ⌝ }
 {
+    let extents = extents(volume, b);
     SymbolicBlock {
         mark: 1,
         hdr: hdr_bit(b),
         colours: [colour(b, 0), colour(b, 1), colour(b, 2), colour(b, 3)],
-        extents: [extent(b, 0), extent(b, 1), extent(b, 2), extent(b, 3)],
+        extents,
         width: 0,
         height: 0,
+        depth: 0,
         range: 0,
         planes: 0,
         component: 0,
@@ -198,9 +214,10 @@ pub fn mode_block(b: PhysicalBlock, h: Header, numbers: u8, range: u8) -> Symbol
         mark: 0,
         hdr,
         colours: [0u16; 4],
-        extents: [0u16; 4],
+        extents: [0u16; 6],
         width: g.width,
         height: g.height,
+        depth: g.depth,
         range: g.range,
         planes: g.planes,
         component: h.component,
@@ -223,14 +240,15 @@ pub fn read_symbolic(fp: u8, block: &[u8]) -> SymbolicReading
         return told(refused(stage));
     };
     let b = bits::load(block);
-    let s = block_fault::read_settings(true, b, fp);
+    let volume = footprint::is_volume(fp);
+    let s = block_fault::read_settings(true, volume, b, fp);
     let v = s.verdict;
     let sound = block_fault::stage_in(v);
     let Stage::Passed = sound else {
         return told(faulty(sound));
     };
     if let Verdict::VoidExtent = v {
-        return read(void_block(b), spare_bits::no_spare());
+        return read(void_block(volume, b), spare_bits::no_spare());
     }
     let spare = spare_bits::spare_in(b, s.header, s.numbers, s.range);
     read(mode_block(b, s.header, s.numbers, s.range), spare)

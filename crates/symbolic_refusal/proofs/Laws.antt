@@ -14,7 +14,7 @@ use Rattle.block_header.specs.Reasons.{gridFault, endpointFault, gridReasons, e
 use Rattle.laws.specs.Reasons.{Reason, when, firstOf}
 use Rattle.symbolic_block.specs.declared.SymbolicBlock.{SymbolicBlock}
 use Rattle.symbolic_block.specs.Fields.{gridOf, headerOf, isMarked, colourIn, extentIn}
-use Rattle.symbolic_block.specs.Refusals.{unknownFootprint, badMark, badHdr, badWidth, badHeight, badRange, badPlanes, badComponent, badPartitions, badIndex, badSelector, badModes, someInUse, noBlockMode, modesMisfit, badEndpoints, badWeights, markedWithout, modeRefusals, voidRefusals}
+use Rattle.symbolic_block.specs.Refusals.{unknownFootprint, badMark, badHdr, badWidth, badHeight, badDepth, badRange, badPlanes, badComponent, badPartitions, badIndex, badSelector, badModes, someInUse, noBlockMode, modesMisfit, badEndpoints, badWeights, markedWithout, modeRefusals, voidRefusals}
 use Rattle.laws.proofs.Reasons.{numbered}
 use Rattle.symbolic_refusal.specs.inner.Stages.{orElse, badGrid, badPartitioning, badLists, badFields, badShown, gridInUse, partitioningInUse, numbersInUse, badVoidFields, fieldReasons, numberReasons, voidStages}
 
@@ -58,6 +58,7 @@ eachField fp s =
     ∷ when (badHdr s) 31
     ∷ when (badWidth s) 31
     ∷ when (badHeight s) 31
+    ∷ when (badDepth fp s) 31
     ∷ when (badRange s) 31
     ∷ when (badPlanes s) 31
     ∷ when (badComponent s) 31
@@ -66,7 +67,7 @@ eachField fp s =
     ∷ when (badSelector s) 31
     ∷ when (badModes s) 31
     ∷ when (someInUse 4 (colourIn s)) 31
-    ∷ when (someInUse 4 (extentIn s)) 31
+    ∷ when (someInUse 6 (extentIn s)) 31
     ∷ when (noBlockMode (gridOf s)) 32
     ∷ []
 

@@ -10,9 +10,10 @@ ghost use lib.ListN.{getD};
 ghost use Rattle.laws.specs.Choice.{pick, both, either};
 ghost use Rattle.block_header.specs.Reasons.{gridReasons};
 ghost use Rattle.laws.specs.Reasons.{firstOf};
-ghost use Rattle.block_fault.specs.Faults.{badExtents};
+ghost use Rattle.footprint.specs.Footprint.{isVolume};
+ghost use Rattle.void_extent.specs.Layout.{badExtents};
 ghost use Rattle.symbolic_block.specs.Fields.{gridOf, headerOf, numberIn};
-ghost use Rattle.symbolic_block.specs.Refusals.{unknownFootprint, outside, within, noBlockMode, misfit, modesMisfit, badComponent, badIndex, badSelector, badEndpoints, badWeights, markedWithout, modeRefusals, voidRefusals, refusalOf};
+ghost use Rattle.symbolic_block.specs.Refusals.{unknownFootprint, outside, within, noBlockMode, misfit, modesMisfit, badDepth, badExtentFields, badComponent, badIndex, badSelector, badEndpoints, badWeights, markedWithout, modeRefusals, voidRefusals, refusalOf};
 ghost use Rattle.symbolic_refusal.specs.inner.Stages.{orElse, badGrid, badPartitioning, badLists, badFields, badShown, gridInUse, partitioningInUse, numbersInUse, badVoidFields, fieldReasons, numberReasons};
 
 fn both(a: bool, b: bool) -> bool
@@ -47,11 +48,17 @@ fn wide(x: u8) -> u16
     x as u16
 }
 
+fn long(x: u16) -> u64
+    ensures { λ r. ⌜ r ≡ x ⌝ }
+{
+    x as u64
+}
+
 // 1
 fn unknown_footprint(fp: u8) -> bool
     ensures { λ r. ⌜ r ≡ unknownFootprint fp ⌝ }
 {
-    13 < fp
+    23 < fp
 }
 
 fn outside(low: u8, high: u8, x: u8) -> bool
@@ -75,6 +82,18 @@ fn four_within(xs: [u16; 4], n: usize, most: u16) -> bool
     let mut ok = true;
     let mut i: usize = 0;
     while i < 4 {
+        ok = both(xs[i] <= most_by(i < n, most, 0), ok);
+        i += 1;
+    }
+    ok
+}
+
+fn six_within(xs: [u16; 6], n: usize, most: u16) -> bool
+    ensures { λ r. ⌜ r ≡ within 6 n most (λ k. getD xs k 0) ⌝ }
+{
+    let mut ok = true;
+    let mut i: usize = 0;
+    while i < 6 {
         ok = both(xs[i] <= most_by(i < n, most, 0), ok);
         i += 1;
     }
@@ -119,13 +138,26 @@ fn weights_within(xs: [Stored; 64], n: usize, most: u16) -> bool
 
 // ---- 31 of a mode sheet
 
-fn bad_grid(s: SymbolicBlock) -> bool
-    ensures { λ r. ⌜ r ≡ badGrid s ⌝ }
+fn bad_depth(fp: u8, s: SymbolicBlock) -> bool
+    ensures { λ r. ⌜ r ≡ badDepth fp s ⌝ }
+{
+    if footprint::is_volume(fp) {
+        return outside(2, 6, s.depth);
+    }
+    outside(1, 1, s.depth)
+}
+
+fn bad_grid(fp: u8, s: SymbolicBlock) -> bool
+    ensures { λ r. ⌜ r ≡ badGrid fp s ⌝ }
 {
     let width = outside(2, 12, s.width);
     let height = outside(2, 12, s.height);
+    let depth = bad_depth(fp, s);
     let planes = outside(1, 2, s.planes);
-    either(width, either(height, either(11 < s.range, planes)))
+    either(
+        width,
+        either(height, either(depth, either(11 < s.range, planes))),
+    )
 }
 
 fn bad_component(s: SymbolicBlock) -> bool
@@ -166,14 +198,14 @@ fn bad_lists(s: SymbolicBlock) -> bool
     let e = s.extents;
     let modes = modes_within(m, s.partitions as usize, 15);
     let colours = four_within(c, 0, 0);
-    let extents = four_within(e, 0, 0);
+    let extents = six_within(e, 0, 0);
     either(!modes, either(!colours, !extents))
 }
 
-fn bad_fields(s: SymbolicBlock) -> bool
-    ensures { λ r. ⌜ r ≡ badFields s ⌝ }
+fn bad_fields(fp: u8, s: SymbolicBlock) -> bool
+    ensures { λ r. ⌜ r ≡ badFields fp s ⌝ }
 {
-    let grid = bad_grid(s);
+    let grid = bad_grid(fp, s);
     let partitioning = bad_partitioning(s);
     let lists = bad_lists(s);
     either(
@@ -190,6 +222,7 @@ fn grid_of(s: SymbolicBlock) -> WeightGrid
     WeightGrid {
         width: s.width,
         height: s.height,
+        depth: s.depth,
         range: s.range,
         planes: s.planes,
     }
@@ -214,7 +247,7 @@ fn header_of(s: SymbolicBlock) -> Header
 fn no_block_mode(g: WeightGrid) -> bool
     ensures { λ r. ⌜ r ≡ noBlockMode g ⌝ }
 {
-    let bits = block_mode::mode_bits(g);
+    let bits = volume_mode::mode_bits_of(g);
     match bits {
         ModeBits::Mode(_) => false,
         ModeBits::NoMode => true,
@@ -226,7 +259,7 @@ fn field_refusal(fp: u8, s: SymbolicBlock) -> u8
     ensures { λ r. ⌜ r ≡ firstOf (fieldReasons fp s) ⌝ }
 {
     let footprint = told(unknown_footprint(fp), 1);
-    let fields = told(bad_fields(s), 31);
+    let fields = told(bad_fields(fp, s), 31);
     let mode = told(no_block_mode(grid_of(s)), 32);
     first(footprint, first(fields, mode))
 }
@@ -331,14 +364,23 @@ fn mode_refusal(fp: u8, s: SymbolicBlock) -> u8
 
 // ---- void extents
 
-fn bad_shown(s: SymbolicBlock) -> bool
-    ensures { λ r. ⌜ r ≡ badShown s ⌝ }
+fn bad_extent_fields(fp: u8, s: SymbolicBlock) -> bool
+    ensures { λ r. ⌜ r ≡ badExtentFields fp s ⌝ }
+{
+    let e = s.extents;
+    if footprint::is_volume(fp) {
+        return !six_within(e, 6, 511);
+    }
+    !six_within(e, 4, 8191)
+}
+
+fn bad_shown(fp: u8, s: SymbolicBlock) -> bool
+    ensures { λ r. ⌜ r ≡ badShown fp s ⌝ }
 {
     let c = s.colours;
-    let e = s.extents;
     let colours = four_within(c, 4, 65535);
-    let extents = four_within(e, 4, 8191);
-    either(1 < s.hdr, either(!colours, !extents))
+    let extents = bad_extent_fields(fp, s);
+    either(1 < s.hdr, either(!colours, extents))
 }
 
 fn grid_in_use(s: SymbolicBlock) -> bool
@@ -346,7 +388,10 @@ fn grid_in_use(s: SymbolicBlock) -> bool
 {
     either(
         0 < s.width,
-        either(0 < s.height, either(0 < s.range, 0 < s.planes)),
+        either(
+            0 < s.height,
+            either(0 < s.depth, either(0 < s.range, 0 < s.planes)),
+        ),
     )
 }
 
@@ -371,10 +416,10 @@ fn numbers_in_use(s: SymbolicBlock) -> bool
     either(!modes, either(!endpoints, !weights))
 }
 
-fn bad_void_fields(s: SymbolicBlock) -> bool
-    ensures { λ r. ⌜ r ≡ badVoidFields s ⌝ }
+fn bad_void_fields(fp: u8, s: SymbolicBlock) -> bool
+    ensures { λ r. ⌜ r ≡ badVoidFields fp s ⌝ }
 {
-    let shown = bad_shown(s);
+    let shown = bad_shown(fp, s);
     let grid = grid_in_use(s);
     let partitioning = partitioning_in_use(s);
     let numbers = numbers_in_use(s);
@@ -382,18 +427,16 @@ fn bad_void_fields(s: SymbolicBlock) -> bool
 }
 
 // 12
-fn bad_extents(e: [u16; 4]) -> bool
-    ensures { λ r. ⌜ r ≡ badExtents (λ k. getD e k 0) ⌝ }
+fn bad_extents(fp: u8, e: [u16; 6]) -> bool
+    ensures { λ r. ⌜ r ≡ badExtents (isVolume fp) (λ k. getD e k 0) ⌝ }
 {
-    let s0 = e[0];
-    let s1 = e[1];
-    let t0 = e[2];
-    let t1 = e[3];
-    let ones = both(
-        t1 == 8191,
-        both(t0 == 8191, both(s1 == 8191, both(s0 == 8191, true))),
-    );
-    !either(ones, both(s0 < s1, t0 < t1))
+    let s0 = long(e[0]);
+    let s1 = long(e[1]);
+    let t0 = long(e[2]);
+    let t1 = long(e[3]);
+    let r0 = long(e[4]);
+    let r1 = long(e[5]);
+    void_extent::bad_extents(footprint::is_volume(fp), s0, s1, t0, t1, r0, r1)
 }
 
 // "A solid sheet is refused by 1, 31, 12 only, 31 also for any unused number."
@@ -401,9 +444,9 @@ fn void_refusal(fp: u8, s: SymbolicBlock) -> u8
     ensures { λ r. ⌜ r ≡ firstOf (voidRefusals fp s) ⌝ }
 {
     let footprint = told(unknown_footprint(fp), 1);
-    let fields = told(bad_void_fields(s), 31);
+    let fields = told(bad_void_fields(fp, s), 31);
     let e = s.extents;
-    let extents = told(bad_extents(e), 12);
+    let extents = told(bad_extents(fp, e), 12);
     first(footprint, first(fields, extents))
 }
 

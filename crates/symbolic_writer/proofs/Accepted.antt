@@ -3,9 +3,11 @@
 use mathlib.Core.Path.{_≡_, sym, _∙_}
 use Prim.Native.Nat.{ℕ}
 use Rattle.symbolic_block.specs.declared.SymbolicBlock.{SymbolicBlock}
-use Rattle.symbolic_block.specs.Fields.{Sized}
+use Rattle.symbolic_block.specs.Fields.{colourIn, extentIn, Sized}
 use Rattle.symbolic_block.specs.Refusals.{Acceptable}
-use Rattle.symbolic_block.specs.Writing.{modeCells, voidCells, blockOf}
+use Rattle.symbolic_block.specs.Writing.{modeCells, blockOf}
+use Rattle.footprint.specs.Footprint.{isVolume}
+use Rattle.void_extent.specs.Writing.{voidCells}
 use Rattle.symbolic_block.proofs.Opened.{block-void, block-mode}
 use Rattle.symbolic_block.proofs.Fine.{Fine, fine}
 use Rattle.symbolic_block.proofs.Written as written
@@ -29,9 +31,9 @@ module _ (fp : ℕ) (s : SymbolicBlock) (a : Acceptable fp s) where
       endpoints-most = is-fine .numbers-most;
     }
 
-    pub mode-piled : Sized s → piled 0 (modeCells s) ≡ blockOf s
-    mode-piled z = piled-laid (modeCells s) (written.apart fp s is-fine z) ∙ sym (block-mode s m)
+    pub mode-piled : Sized s → piled 0 (modeCells s) ≡ blockOf fp s
+    mode-piled z = piled-laid (modeCells s) (written.apart fp s is-fine z) ∙ sym (block-mode s m fp)
 
   -- a void extent
-  pub void-piled : s .mark ≡ 1 → Sized s → piled 0 (voidCells s) ≡ blockOf s
-  void-piled m z = piled-laid (voidCells s) (void.apart fp s m (void-none fp s a m) z) ∙ sym (block-void s m)
+  pub void-piled : s .mark ≡ 1 → Sized s → piled 0 (voidCells (isVolume fp) (s .hdr) (extentIn s) (colourIn s)) ≡ blockOf fp s
+  void-piled m z = piled-laid (voidCells (isVolume fp) (s .hdr) (extentIn s) (colourIn s)) (void.apart fp s m (void-none fp s a m) z) ∙ sym (block-void s m fp)

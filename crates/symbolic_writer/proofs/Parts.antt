@@ -2,7 +2,7 @@
 -- Assumes nothing.
 use mathlib.Core.Path.{_≡_, sym, ap, _∙_}
 use mathlib.Core.List.{List}
-use Prim.Native.Nat.{ℕ, _+_, _-_, _*_, _%_, _^_, _≤_, _<_}
+use Prim.Native.Nat.{ℕ, _+_, _-_, _*_, _%_, _^_, _≤_, _<_, min}
 use native.Mathlib.Nat.{mod-eq-of-lt, lt-of-lt-of-le}
 use native.Mathlib.Omega.{arith}
 use lib.ListN.{length, getD, take}
@@ -81,11 +81,11 @@ module _ (s : SymbolicBlock) (p : Packable s) where
 
   pub weight-steps : length (s .weights) ≡ 64 → (B : ℕ) {g : WeightGrid} {n from w b t r : ℕ} → g ≡ gridOf s → n ≡ weightCount g
       → b ≡ withSequence (encodingAt (s .range)) (bitsAt (s .range)) B 0 (take n (values (s .weights))) → t ≡ reverse 128 b
-      → from ≡ 128 - weightBits g → w ≡ weightBits g → r ≡ field t from w → r ≡ reverse (weightBits (gridOf s)) (weightStream s)
+      → from ≡ 128 - weightBits g → w ≡ min (weightBits g) 1000 → r ≡ field t from w → r ≡ reverse (weightBits (gridOf s)) (weightStream s)
   unfolding weightStream weightBits
   weight-steps z B {g} {n} {from} {w} {b} {t} {r} eg en eb et ef ew er =
       let n-is : n ≡ weightCount (gridOf s) = en ∙ ap weightCount eg in
-      let w-is : w ≡ weightBits (gridOf s) = ew ∙ ap weightBits eg in
+      let w-is : w ≡ weightBits (gridOf s) = ew ∙ ap (λ (x : WeightGrid). min (weightBits x) 1000) eg ∙ omega (arith, p .bits-most) in
       let from-is : from ≡ 128 - weightBits (gridOf s) = ef ∙ ap (λ (x : WeightGrid). 128 - weightBits x) eg in
       let b-is : b ≡ weightStream s = eb ∙ rw n-is (sequence-first (s .range) (weightCount (gridOf s)) B (s .weights) z (p .weights-most) (omega (arith, p .bits-most))) in
       er ∙ rw (et, b-is, from-is, w-is) (reversed-top (weightBits (gridOf s)) (weightStream s) (omega (arith, p .bits-most))

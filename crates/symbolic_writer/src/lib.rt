@@ -6,19 +6,22 @@ use block_mode::WeightGrid;
 use encoding::Stored;
 use symbolic_block::SymbolicBlock;
 ghost use mathlib.Core.Path.{_≡_};
-ghost use Prim.Native.Nat.{_-_, _^_, _≤_};
+ghost use Prim.Native.Nat.{_-_, _^_, _≤_, _<_};
 ghost use lib.ListN.{getD, take};
 ghost use Rattle.laws.specs.Table.{tab, padded};
 ghost use Rattle.bits.specs.Field.{reverse};
 ghost use Rattle.bits.specs.Block.{blockNumber};
 ghost use Rattle.integer_sequence.specs.Reading.{stored};
-ghost use Rattle.block_mode.specs.Back2D.{modeBits};
+ghost use Rattle.footprint.specs.Footprint.{isVolume};
+ghost use Rattle.volume_mode.specs.Either.{modeBitsOf};
+ghost use Rattle.void_extent.specs.Layout.{extentPlace};
+ghost use Rattle.void_extent.specs.Writing.{fixedBits, voidCells};
 ghost use Rattle.block_header.specs.Counts.{weightBits, extraBits, endpointCount, endpointRangeOf};
 ghost use Rattle.block_fault.specs.Bits.{endpointsFrom};
-ghost use Rattle.symbolic_block.specs.Fields.{gridOf, headerOf};
+ghost use Rattle.symbolic_block.specs.Fields.{gridOf, headerOf, colourIn, extentIn};
 ghost use Rattle.symbolic_block.specs.Refusals.{refusalOf};
-ghost use Rattle.symbolic_block.specs.Writing.{modeNumber, classBit, modesCode, endpointStream, weightStream, endpointsEnd, componentFrom, modeCells, voidCells, blockOf};
-ghost use Rattle.symbolic_writer.specs.inner.Piled.{withValue, piled, Packable};
+ghost use Rattle.symbolic_block.specs.Writing.{modeNumber, classBit, modesCode, endpointStream, weightStream, endpointsEnd, componentFrom, modeCells, blockOf};
+ghost use Rattle.symbolic_writer.specs.inner.Piled.{withValue, piled, extentCells, Packable};
 
 fn wide(x: u8) -> u64
     ensures { λ r. ⌜ (r ≡ x) × (r ≤ 255) ⌝ }
@@ -44,6 +47,7 @@ fn grid_of(s: SymbolicBlock) -> WeightGrid
     WeightGrid {
         width: s.width,
         height: s.height,
+        depth: s.depth,
         range: s.range,
         planes: s.planes,
     }
@@ -67,9 +71,9 @@ fn header_of(s: SymbolicBlock) -> Header
 
 // The bits of the block mode; 0 where there is none.
 fn mode_number(g: WeightGrid) -> u64
-    ensures { λ r. ⌜ r ≡ modeNumber (modeBits g) ⌝ }
+    ensures { λ r. ⌜ r ≡ modeNumber (modeBitsOf g) ⌝ }
 {
-    let m = block_mode::mode_bits(g);
+    let m = volume_mode::mode_bits_of(g);
     match m {
         ModeBits::Mode(bits) => wide16(bits),
         ModeBits::NoMode => 0,
@@ -127,7 +131,7 @@ fn endpoints_end(h: Header, n: u32, range: u8) -> u32
 fn weights_from(g: WeightGrid) -> u32
     ensures { λ r. ⌜ (r ≡ 128 - weightBits g) × (r ≤ 128) ⌝ }
 {
-    quantization::bits_left(128, block_header::weight_bits(g))
+    quantization::bits_left(128, block_header::clipped_weight_bits(g))
 }
 
 // The bit where the extra mode bits begin.
@@ -218,7 +222,7 @@ fn weights_of(s: SymbolicBlock) -> PhysicalBlock
     bits::part(
         bits::reversed(b),
         weights_from(g),
-        block_header::weight_bits(g),
+        block_header::clipped_weight_bits(g),
     )
 }
 
@@ -239,13 +243,30 @@ fn mode_block(s: SymbolicBlock) -> PhysicalBlock
     with_block(b, weights_from(g), weights_of(s))
 }
 
-fn with_extents(b: PhysicalBlock, e: [u16; 4]) -> PhysicalBlock
-    ensures { λ r. ⌜ blockNumber r ≡ withValue (withValue (withValue (withValue (blockNumber b) 12 (getD e 0 0)) 25 (getD e 1 0)) 38 (getD e 2 0)) 51 (getD e 3 0) ⌝ }
+// Bits 11..10 of a flat void extent, both 1; a volume has none.
+fn fixed_bits(volume: bool) -> u64
+    ensures { λ r. ⌜ r ≡ fixedBits volume ⌝ }
 {
-    let b = bits::append(b, 12, wide16(e[0]));
-    let b = bits::append(b, 25, wide16(e[1]));
-    let b = bits::append(b, 38, wide16(e[2]));
-    bits::append(b, 51, wide16(e[3]))
+    if volume { 0 } else { 3 }
+}
+
+// One extent more.
+fn with_extent(b: PhysicalBlock, volume: bool, i: u32, x: u16) -> PhysicalBlock
+    requires { ⌜ i < 6 ⌝ }
+    ensures { λ r. ⌜ blockNumber r ≡ withValue (blockNumber b) (extentPlace volume i) x ⌝ }
+{
+    bits::append(b, void_extent::extent_place(volume, i), wide16(x))
+}
+
+fn with_extents(b: PhysicalBlock, volume: bool, e: [u16; 6]) -> PhysicalBlock
+    ensures { λ r. ⌜ blockNumber r ≡ piled (blockNumber b) (extentCells volume (λ i. getD e i 0)) ⌝ }
+{
+    let b = with_extent(b, volume, 0, e[0]);
+    let b = with_extent(b, volume, 1, e[1]);
+    let b = with_extent(b, volume, 2, e[2]);
+    let b = with_extent(b, volume, 3, e[3]);
+    let b = with_extent(b, volume, 4, e[4]);
+    with_extent(b, volume, 5, e[5])
 }
 
 fn with_colours(b: PhysicalBlock, c: [u16; 4]) -> PhysicalBlock
@@ -257,25 +278,25 @@ fn with_colours(b: PhysicalBlock, c: [u16; 4]) -> PhysicalBlock
     bits::append(b, 112, wide16(c[3]))
 }
 
-// A void extent (01: solid sheet): bits 8..0 are 111111100, bit 9 is the HDR mark, bits 11..10 are both 1.
-fn void_block(s: SymbolicBlock) -> PhysicalBlock
-    ensures { λ r. ⌜ blockNumber r ≡ piled 0 (voidCells s) ⌝ }
+// A void extent (01: solid sheet): bits 8..0 are 111111100, bit 9 is the HDR mark.
+fn void_block(volume: bool, s: SymbolicBlock) -> PhysicalBlock
+    ensures { λ r. ⌜ blockNumber r ≡ piled 0 (voidCells volume (s .hdr) (extentIn s) (colourIn s)) ⌝ }
 {
     let extents = s.extents;
     let colours = s.colours;
     let b = bits::append(no_bits(), 0, 0b111111100);
     let b = bits::append(b, 9, wide(s.hdr));
-    let b = bits::append(b, 10, 3);
-    with_colours(with_extents(b, extents), colours)
+    let b = bits::append(b, 10, fixed_bits(volume));
+    with_colours(with_extents(b, volume, extents), colours)
 }
 
 // The block of a symbolic block that is acceptable at the footprint fp.
 pub fn block_of(fp: u8, s: SymbolicBlock) -> PhysicalBlock
     requires { ⌜ refusalOf fp s ≡ 0 ⌝ }
-    ensures { λ r. ⌜ blockNumber r ≡ blockOf s ⌝ }
+    ensures { λ r. ⌜ blockNumber r ≡ blockOf fp s ⌝ }
 {
     if s.mark == 1 {
-        return void_block(s);
+        return void_block(footprint::is_volume(fp), s);
     }
     mode_block(s)
 }

@@ -5,33 +5,39 @@ use mathlib.Core.List.{List}
 use lib.Dec.{eqb}
 use Rattle.laws.specs.Choice.{pick}
 use Rattle.laws.specs.Table.{tab, replaced}
-use Rattle.footprint.specs.Footprint.{widthOf, texelsOf}
+use Rattle.footprint.specs.Footprint.{widthOf, heightOf, texelsOf}
 use Rattle.interpolation.specs.declared.Kind.{Kind}
 use Rattle.interpolation.specs.declared.Texel.{Texel}
 use Rattle.interpolation.specs.Expansion.{shownOf, takesHdr}
-use Rattle.block_fault.specs.Bits.{modeAt, isVoid, headerAt, endpointAt, weightAt, colourAt}
-use Rattle.block_fault.specs.Faults.{hdrVoidExtent, faultOf}
+use Rattle.block_fault.specs.Bits.{modeAt, isVoid, headerAt, endpointAt, weightAt}
+use Rattle.block_fault.specs.Faults.{faultOf}
+use Rattle.void_extent.specs.Layout.{colourAt, hdrVoidExtent}
 use Rattle.texel.specs.Meaning.{texelFrom, solidTexel, errorTexel, channel, shownChannel}
 
 -- the texel of a block without fault
-unfoldable pub soundTexel : ℕ → Kind → ℕ → ℕ → ℕ → Texel
-soundTexel fp kind B x y =
-    pick (isVoid (modeAt B)) (solidTexel kind (hdrVoidExtent B) (colourAt B)) (texelFrom fp kind (headerAt B) (endpointAt B (headerAt B)) (weightAt B (headerAt B)) x y)
+unfoldable pub soundTexel : ℕ → Kind → ℕ → ℕ → ℕ → ℕ → Texel
+soundTexel fp kind B x y z =
+    pick (isVoid (modeAt fp B)) (solidTexel kind (hdrVoidExtent B) (colourAt B))
+    (texelFrom fp kind (headerAt fp B) (endpointAt B (headerAt fp B)) (weightAt B (headerAt fp B)) x y z)
 
--- the texel at x, y of a block, in 16 bits
-unfoldable pub blockTexel : ℕ → Kind → ℕ → ℕ → ℕ → Texel
+-- the texel at x, y, z of a block, in 16 bits; z is 0 in a flat one
+unfoldable pub blockTexel : ℕ → Kind → ℕ → ℕ → ℕ → ℕ → Texel
 unfolding soundTexel
-blockTexel fp kind B x y = pick (eqb (faultOf (takesHdr kind) fp B) 0) (soundTexel fp kind B x y) (errorTexel kind)
+blockTexel fp kind B x y z = pick (eqb (faultOf (takesHdr kind) fp B) 0) (soundTexel fp kind B x y z) (errorTexel kind)
 
 -- the number that a call writes for channel c of that texel
-unfoldable pub blockNumberAt : ℕ → Kind → ℕ → ℕ → ℕ → ℕ → ℕ
+unfoldable pub blockNumberAt : ℕ → Kind → ℕ → ℕ → ℕ → ℕ → ℕ → ℕ
 unfolding blockTexel
-blockNumberAt fp kind B x y c = shownChannel kind (blockTexel fp kind B x y) c
+blockNumberAt fp kind B x y z c = shownChannel kind (blockTexel fp kind B x y z) c
+
+-- 02, h: "x fastest, then y, then z". A block is a list of rows, those of its first layer first: what column x of row q is, of what has a place
+abbrev pub inRow : {A : Type 0} → ℕ → (ℕ → ℕ → ℕ → A) → ℕ → ℕ → A
+inRow fp f x q = f x (q % heightOf fp) (q / heightOf fp)
 
 -- "Channels are R, G, B, A, rows first": number k of a block, in 16 bits, is channel k % 4 of texel k / 4
 unfoldable pub blockChannel : ℕ → Kind → ℕ → ℕ → ℕ
 unfolding blockTexel
-blockChannel fp kind B k = channel (blockTexel fp kind B (k / 4 % widthOf fp) (k / 4 / widthOf fp)) (k % 4)
+blockChannel fp kind B k = channel (inRow fp (blockTexel fp kind B) (k / 4 % widthOf fp) (k / 4 / widthOf fp)) (k % 4)
 
 -- all numbers that a one-block call writes
 unfoldable pub blockNumbers : ℕ → Kind → ℕ → List ℕ

@@ -9,11 +9,12 @@ use Rattle.laws.specs.Choice.{pick, both}
 use Rattle.laws.specs.Table.{tab}
 use Rattle.encoding.specs.declared.Level.{Level}
 use Rattle.quantization.specs.Unquantise.{unquantEndpoint, unquantWeight}
-use Rattle.footprint.specs.Footprint.{widthOf, heightOf, isSmall}
+use Rattle.footprint.specs.Footprint.{widthOf, heightOf, depthOf, isVolume, isSmall}
 use Rattle.partition.specs.Select.{partitionOf}
 use Rattle.weight_grid.specs.Place.{scaleOf, gridPlace}
 use Rattle.weight_grid.specs.Cell.{level}
 use Rattle.weight_grid.specs.Bilinear.{infillOf}
+use Rattle.volume_infill.specs.Simplex.{volumeInfill}
 use Rattle.color_endpoint.specs.Table.{tableOf}
 use Rattle.interpolation.specs.declared.Kind.{Kind}
 use Rattle.interpolation.specs.declared.Texel.{Texel}
@@ -42,12 +43,16 @@ partitionTexel Unorm16 modes count ends p first second component = texelOf (expa
 partitionTexel Srgb8 modes count ends p first second component = texelOf (expandedPair Srgb8 (getD (tableOf modes count ends) p noPair)) first second component
 partitionTexel Float16 modes count ends p first second component = halfTexel (getD (halfTableOf modes count ends) p noHalf) first second component
 
-module _ (fp : ℕ) (kind : Kind) (h : Header) (ends weights : List Level) (x y : ℕ) where
-  -- "Infill gives one weight at the place for each grid"
+module _ (fp : ℕ) (kind : Kind) (h : Header) (ends weights : List Level) (x y z : ℕ) where
+  -- "Infill gives one weight at the place for each grid"; 02, h: in a volume simplex infill, on three axes
   unfoldable pub planeWeight : ℕ → ℕ
   planeWeight plane =
-      infillOf weights (h .grid .width) (h .grid .height) (h .grid .planes) plane
-      (gridPlace (scaleOf (widthOf fp)) x (h .grid .width)) (gridPlace (scaleOf (heightOf fp)) y (h .grid .height))
+      let g = h .grid in
+      let gs = gridPlace (scaleOf (widthOf fp)) x (g .width) in
+      let gt = gridPlace (scaleOf (heightOf fp)) y (g .height) in
+      let gr = gridPlace (scaleOf (depthOf fp)) z (g .depth) in
+      pick (isVolume fp) (volumeInfill weights (g .width) (g .height) (g .depth) (g .planes) plane gs gt gr)
+      (infillOf weights (g .width) (g .height) (g .planes) plane gs gt)
 
   -- "With two planes the named channel takes the second grid's"; with one there is no second
   unfoldable pub secondWeight : ℕ
@@ -59,14 +64,14 @@ module _ (fp : ℕ) (kind : Kind) (h : Header) (ends weights : List Level) (x y 
   -- "that partition's pair, widened for the kind and mixed by the first grid's weight", in 16 bits
   unfoldable pub mixedTexel : Texel
   mixedTexel =
-      partitionTexel kind (h .modes) (h .partitions) ends (partitionOf (h .index) (h .partitions) (isSmall fp) x y 0)
+      partitionTexel kind (h .modes) (h .partitions) ends (partitionOf (h .index) (h .partitions) (isSmall fp) x y z)
       (level (planeWeight 0)) (level secondWeight) secondComponent
 
 -- the texel from the stored numbers
-unfoldable pub texelFrom : ℕ → Kind → Header → (ℕ → ℕ) → (ℕ → ℕ) → ℕ → ℕ → Texel
+unfoldable pub texelFrom : ℕ → Kind → Header → (ℕ → ℕ) → (ℕ → ℕ) → ℕ → ℕ → ℕ → Texel
 unfolding mixedTexel endpointLevels weightLevels
-texelFrom fp kind h endpoint weight x y =
-    mixedTexel fp kind h (endpointLevels (endpointRangeOf h) endpoint) (weightLevels (h .grid .range) weight) x y
+texelFrom fp kind h endpoint weight x y z =
+    mixedTexel fp kind h (endpointLevels (endpointRangeOf h) endpoint) (weightLevels (h .grid .range) weight) x y z
 
 -- channel c of a texel, R, G, B, A
 unfoldable pub channel : Texel → ℕ → ℕ

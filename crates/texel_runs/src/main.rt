@@ -1,6 +1,6 @@
 // Texels of blocks as Arm's astcenc shows them: 17 bytes for each block, its footprint and its sixteen bytes. For four texels of each a line
-// "k R G B A r g b a h h h h": the top eleven significant bits of kind 0's numbers, which is what a half float keeps of them, kind 1's bytes, and
-// kind 2's half floats.
+// "k R G B A r g b a h h h h", for nine texels of a volume's block "x y z" in place of k: the top eleven significant bits of kind 0's numbers,
+// which is what a half float keeps of them, kind 1's bytes, and kind 2's half floats.
 use libc::STDIN_FILENO;
 use libc::STDOUT_FILENO;
 
@@ -36,13 +36,11 @@ fn kept(n: u16) -> u16 {
     n / 32 * 32
 }
 
-// Texel k, rows first.
-fn texel(k: usize, numbers: &[u16; 576], bytes: &[u8; 576], halves: &[u16; 576]) {
-    if 144 <= k {
+// The numbers from place i on, in each kind.
+fn channels(i: usize, numbers: &[u16; 864], bytes: &[u8; 864], halves: &[u16; 864]) {
+    if 860 < i {
         return;
     }
-    io::print_decimal(STDOUT_FILENO, k as u64);
-    let i = 4 * k;
     number(kept(numbers[i]));
     number(kept(numbers[i + 1]));
     number(kept(numbers[i + 2]));
@@ -58,8 +56,17 @@ fn texel(k: usize, numbers: &[u16; 576], bytes: &[u8; 576], halves: &[u16; 576])
     io::write_all(STDOUT_FILENO, b"\n");
 }
 
+// Texel k of a flat block, rows first.
+fn texel(k: usize, numbers: &[u16; 864], bytes: &[u8; 864], halves: &[u16; 864]) {
+    if 144 <= k {
+        return;
+    }
+    io::print_decimal(STDOUT_FILENO, k as u64);
+    channels(4 * k, numbers, bytes, halves);
+}
+
 // The first texel, the last one of its row, one between, and the last.
-fn texels(fp: u8, numbers: &[u16; 576], bytes: &[u8; 576], halves: &[u16; 576]) {
+fn texels(fp: u8, numbers: &[u16; 864], bytes: &[u8; 864], halves: &[u16; 864]) {
     let width = footprint::width(fp) as usize;
     let count = footprint::texels(fp) as usize;
     if width == 0 {
@@ -74,10 +81,51 @@ fn texels(fp: u8, numbers: &[u16; 576], bytes: &[u8; 576], halves: &[u16; 576]) 
     texel(count - 1, numbers, bytes, halves);
 }
 
+// Texel x, y, z of a volume's block, layers first.
+fn place(
+    fp: u8,
+    x: u8,
+    y: u8,
+    z: u8,
+    numbers: &[u16; 864],
+    bytes: &[u8; 864],
+    halves: &[u16; 864],
+) {
+    let width = footprint::width(fp) as usize;
+    let height = footprint::height(fp) as usize;
+    let row = (z as usize) * height + (y as usize);
+    let k = row * width + (x as usize);
+    if 216 <= k {
+        return;
+    }
+    io::print_decimal(STDOUT_FILENO, x as u64);
+    byte(y);
+    byte(z);
+    channels(4 * k, numbers, bytes, halves);
+}
+
+// The first texel, the turns of 0, 1 and 2, the one at 1, 1, 1, and the last.
+fn places(fp: u8, numbers: &[u16; 864], bytes: &[u8; 864], halves: &[u16; 864]) {
+    place(fp, 0, 0, 0, numbers, bytes, halves);
+    place(fp, 0, 1, 2, numbers, bytes, halves);
+    place(fp, 0, 2, 1, numbers, bytes, halves);
+    place(fp, 1, 0, 2, numbers, bytes, halves);
+    place(fp, 1, 2, 0, numbers, bytes, halves);
+    place(fp, 2, 0, 1, numbers, bytes, halves);
+    place(fp, 2, 1, 0, numbers, bytes, halves);
+    place(fp, 1, 1, 1, numbers, bytes, halves);
+    let width = footprint::width(fp);
+    let height = footprint::height(fp);
+    let depth = footprint::depth(fp);
+    if 0 < width && 0 < height && 0 < depth {
+        place(fp, width - 1, height - 1, depth - 1, numbers, bytes, halves);
+    }
+}
+
 fn record(fp: u8, block: &[u8]) {
-    let mut numbers = [0u16; 576];
-    let mut bytes = [0u8; 576];
-    let mut halves = [0u16; 576];
+    let mut numbers = [0u16; 864];
+    let mut bytes = [0u8; 864];
+    let mut halves = [0u16; 864];
     let n = 4 * (footprint::texels(fp) as usize);
     let a = one_block::decode_unorm16(fp, block, &mut numbers[..n]);
     let b = one_block::decode_srgb8(fp, block, &mut bytes[..n]);
@@ -89,7 +137,11 @@ fn record(fp: u8, block: &[u8]) {
     byte(block_answer::number_told(b));
     byte(block_answer::number_told(c));
     io::write_all(STDOUT_FILENO, b"\n");
-    texels(fp, &numbers, &bytes, &halves);
+    if footprint::is_volume(fp) {
+        places(fp, &numbers, &bytes, &halves);
+    } else {
+        texels(fp, &numbers, &bytes, &halves);
+    }
 }
 
 // The record at a place of the input.

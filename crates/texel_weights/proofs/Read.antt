@@ -58,14 +58,14 @@ module _ (B : ℕ) (h : Header) (l : Limits (h .grid)) (room : weightCount (h .g
       ap (λ (x : Level). x .0) (getD-tab (λ j. level (unquantWeight range (weightAt B h j))) 64 i (level 0) (omega arith))
       ∙ rw (lt-ltb i (weightCount (h .grid)) k)
 
-  module _ (k : ℕ) (inside : k < h .grid .width * h .grid .height) where
+  module _ (k : ℕ) (inside : k < h .grid .width * h .grid .height * h .grid .depth) where
     last : k * planes + planes ≤ weightCount (h .grid)
     unfolding weightCount
     last = omega (arith, mul-le-mul-right planes inside, suc-mul k planes)
 
     listed : getD (pointsAt B h) k noPoint ≡ pointOf (weightLevels range (weightAt B h)) planes k
     unfolding pointsOf
-    listed = padded-here (pointOf (weightLevels range (weightAt B h)) planes) noPoint 64 (h .grid .width * h .grid .height) k noPoint (omega (arith, points-le (h .grid) l room)) inside
+    listed = padded-here (pointOf (weightLevels range (weightAt B h)) planes) noPoint 64 (h .grid .width * h .grid .height * h .grid .depth) k noPoint (omega (arith, points-le (h .grid) l room)) inside
 
     both : (t : Bool) → eqb planes 2 ≡ t → {a b : Stored} → a ≡ stored (number (encodingAt range) (bitsAt range) sequence (k * planes))
         → (planes ≡ 2 → b ≡ stored (number (encodingAt range) (bitsAt range) sequence (k * planes + 1)))
@@ -90,14 +90,14 @@ module _ (B : ℕ) (h : Header) (l : Limits (h .grid)) (room : weightCount (h .g
     read j i h e = ap stored (ex .at j h ∙ ap₂ (λ (q k : ℕ). number (encodingAt range) (bitsAt range) q k) es e)
 
     -- point j of the four
-    point : (j k : ℕ) {r : LevelPair} → j < 4 → k < h .grid .width * h .grid .height → placeAt (n * planes) (right * planes) (below * planes) 1 j ≡ k * planes
+    point : (j k : ℕ) {r : LevelPair} → j < 4 → k < h .grid .width * h .grid .height * h .grid .depth → placeAt (n * planes) (right * planes) (below * planes) 1 j ≡ k * planes
         → placeAt (n * planes) (right * planes) (below * planes) 1 (4 + j) ≡ k * planes + 1
         → r ≡ levelPair (unquantWeight range (xs .0 / 2 ^ (8 * j) % 256)) (pick (eqb planes 2) (unquantWeight range (xs .0 / 2 ^ (8 * (4 + j)) % 256)) 0) → r ≡ getD (pointsAt B h) k noPoint
     point j k hj inside e1 e2 er =
         point-told k inside (read j (k * planes) (omega (arith, l .planes-low)) e1) (λ two. read (4 + j) (k * planes + 1) (omega (arith, two)) e2) er
 
     -- the four points
-    pub points-told : {r0 r1 r2 r3 : LevelPair} → n + below + right < h .grid .width * h .grid .height
+    pub points-told : {r0 r1 r2 r3 : LevelPair} → n + below + right < h .grid .width * h .grid .height * h .grid .depth
         → r0 ≡ levelPair (unquantWeight range (xs .0 / 2 ^ (8 * 0) % 256)) (pick (eqb planes 2) (unquantWeight range (xs .0 / 2 ^ (8 * (4 + 0)) % 256)) 0)
         → r1 ≡ levelPair (unquantWeight range (xs .0 / 2 ^ (8 * 1) % 256)) (pick (eqb planes 2) (unquantWeight range (xs .0 / 2 ^ (8 * (4 + 1)) % 256)) 0)
         → r2 ≡ levelPair (unquantWeight range (xs .0 / 2 ^ (8 * 2) % 256)) (pick (eqb planes 2) (unquantWeight range (xs .0 / 2 ^ (8 * (4 + 2)) % 256)) 0)

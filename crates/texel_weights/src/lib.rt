@@ -23,9 +23,10 @@ ghost use Rattle.texel_weights.specs.inner.Points.{pointsAt};
 
 // A block's weights as a sequence by itself.
 fn weight_sequence(block: PhysicalBlock, g: WeightGrid) -> PhysicalBlock
+    requires { ⌜ weightCount g ≤ 64 ⌝ }
     ensures { λ r. ⌜ blockNumber r ≡ sequenceAt (encodingAt (g .range)) (bitsAt (g .range)) (reverse 128 (blockNumber block)) 0 (weightCount g) ⌝ }
 {
-    let w = block_header::weight_bits(g);
+    let w = block_header::weight_bits(g) as u32;
     bits::part(bits::reversed(block), 0, w)
 }
 
@@ -48,7 +49,7 @@ fn points_at(
     below: usize,
 ) -> [LevelPair; 4]
     requires { ⌜ Limits (h .grid) × (weightCount (h .grid) ≤ 64) ⌝ }
-    requires { ⌜ n + below + right < h .grid .width * h .grid .height ⌝ }
+    requires { ⌜ n + below + right < h .grid .width * h .grid .height * h .grid .depth ⌝ }
     ensures { λ r. ⌜ r ≡ getD (pointsAt (blockNumber block) h) n noPoint ∷ getD (pointsAt (blockNumber block) h) (n + right) noPoint ∷ getD (pointsAt (blockNumber block) h) (n + below) noPoint ∷ getD (pointsAt (blockNumber block) h) (n + below + right) noPoint ∷ [] ⌝ }
 {
     let g = h.grid;

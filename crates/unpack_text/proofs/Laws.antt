@@ -1,17 +1,16 @@
 -- The text of a block and of the program.
 -- Assumes nothing.
-use mathlib.Core.Bool.{false}
+use mathlib.Core.Bool.{Bool, true, false, not}
 use mathlib.Core.Path.{_≡_, refl, sym, ap, ap₂, _∙_, subst}
 use mathlib.Core.List.{List, [], _∷_, _++_}
-use Prim.Native.Nat.{ℕ, zero, suc, _+_, _*_, _/_, _%_, _≤_, _<_}
-use native.Mathlib.Nat.{le-of-suc-le-suc, not-suc-le-zero, suc-add, zero-mul}
-use native.Mathlib.Numerals.{add-one}
+use Prim.Native.Nat.{ℕ, _+_, _*_, _≤_, _<_}
 use native.Mathlib.Omega.{arith}
-use lib.Dec.{eqb}
+use lib.Dec.{eqb, ltb}
 use lib.ListN.{length, getD, set, take, drop, length-set, length-drop}
 use lib.Seq.{length-take-le}
-use borrow.Author.Tests.{eq-eqb, ne-eqb}
+use borrow.Author.Tests.{eq-eqb, ne-eqb, ltb-false}
 use Rattle.laws.specs.Choice.{pick}
+use Rattle.laws.specs.Reasons.{when, firstOf}
 use Rattle.laws.proofs.Filling.{getD-tab}
 use Rattle.bits.specs.Block.{numberOf}
 use Rattle.footprint.specs.Footprint.{widthOf, texelsOf}
@@ -25,11 +24,6 @@ use Rattle.line_text.specs.inner.Written.{Puts}
 use Rattle.line_text.proofs.Laws.{length-append, puts-front, lines-same, line-same}
 use Rattle.kind_number.specs.Kinds.{kindOf}
 use Rattle.unpack_text.specs.Text.{faultLine, refusedLine, blockText, programRefusal, programText}
-
--- a block with a texel has a column
-pub some-wide : (a b k : ℕ) → k < a * b → 0 < a
-some-wide zero b k h = absurd (let z : 0 * b ≡ 0 = zero-mul b in omega arith)
-some-wide (suc a) b k h = omega arith
 
 -- the lines of a buffer that holds a block are the block's
 block-lines : (fp : ℕ) (kind : Kind) (B : ℕ) (numbers : List ℕ) → Held fp kind B numbers
@@ -55,6 +49,15 @@ pub shown-text : (s : List ℕ) → programRefusal (length s) (getD s 0 0) (getD
     → blockText (getD s 0 0) (kindOf (getD s 1 0)) (numberOf (take 16 (drop 2 s))) ≡ programText s
 unfolding programText
 shown-text s q = rw q
+
+-- what is not refused has a flat footprint
+pub flat-text : (s : List ℕ) → programRefusal (length s) (getD s 0 0) (getD s 1 0) ≡ 0 → getD s 0 0 < 14
+unfolding programRefusal
+flat-text s = go (eqb (length s) 18) (ltb 13 (getD s 0 0)) refl (ltb 2 (getD s 1 0)) where
+  go : (a b : Bool) → ltb 13 (getD s 0 0) ≡ b → (c : Bool) → firstOf (when (not a) 4 ∷ when b 1 ∷ when c 2 ∷ []) ≡ 0 → getD s 0 0 < 14
+  go true false e c q = omega (arith, ltb-false 13 (getD s 0 0) e)
+  go true true e c q = absurd (omega (arith, q))
+  go false b e c q = absurd (omega (arith, q))
 
 -- what a call promises, from what it put into a buffer of the right length
 pub promised : (s old new : List ℕ) (r : ℕ) → length old ≡ 5200 → Puts old 0 (programText s) new r

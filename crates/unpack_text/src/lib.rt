@@ -29,7 +29,8 @@ pub fn refusal(bytes: usize, fp: u8, kind: u8) -> u8
 }
 
 // The texels' lines, behind a text that ends at `from`.
-fn put_texels(out: &mut [u8], from: usize, fp: u8, kind: Kind, numbers: &[u16; 576]) -> usize
+fn put_texels(out: &mut [u8], from: usize, fp: u8, kind: Kind, numbers: &[u16; 864]) -> usize
+    requires { ⌜ fp < 14 ⌝ }
     requires { ⌜ (from ≤ 12) × (length (now out) ≡ 5200) ⌝ }
     ensures { λ r. ⌜ Puts (now (out .entry)) from (linesOf (texelLine (widthOf fp) (λ i. shownOf kind (getD (now (numbers .entry)) i 0))) (texelsOf fp)) (now (out .exit)) r ⌝ }
 {
@@ -44,13 +45,14 @@ fn put_texels(out: &mut [u8], from: usize, fp: u8, kind: Kind, numbers: &[u16; 5
     at
 }
 
-// The text of a block.
+// The text of a flat block.
 fn put_block(out: &mut [u8], fp: u8, kind: Kind, block: &[u8]) -> usize
+    requires { ⌜ fp < 14 ⌝ }
     requires { ⌜ (length (now out) ≡ 5200) × (length (now block) ≡ 16) ⌝ }
     ensures { λ r. ⌜ Puts (now (out .entry)) 0 (blockText fp kind (numberOf (now (block .entry)))) (now (out .exit)) r ⌝ }
 {
-    let mut numbers = [0u16; 576];
-    let fault = block_core::decode_into(bits::load(block), fp, kind, &mut numbers);
+    let mut numbers = [0u16; 864];
+    let fault = block_core::decode_into(bits::load(block), fp, false, kind, &mut numbers);
     let end = line_text::put_told(out, b"fault", fault);
     put_texels(out, end, fp, kind, &numbers)
 }

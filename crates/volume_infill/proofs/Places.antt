@@ -13,7 +13,7 @@ fits : T (all (λ side. leb (scaleOf side * (side - 1)) 1026) 13)
 unfolding scaleOf
 fits = tt
 
-on-axis : (side i points : ℕ) → side ≤ 12 → i < side → points ≤ 12 → gridPlace (scaleOf side) i points ≤ 16 * (points - 1)
+pub on-axis : (side i points : ℕ) → side ≤ 12 → i < side → points ≤ 12 → gridPlace (scaleOf side) i points ≤ 16 * (points - 1)
 on-axis side i points s l p =
     place-le (scaleOf side) side i points (leb→le _ _ (each (λ side. leb (scaleOf side * (side - 1)) 1026) 13 fits side (omega arith))) l p
 

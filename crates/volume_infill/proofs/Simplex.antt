@@ -12,6 +12,7 @@ use Rattle.laws.specs.Choice.{pick}
 use Rattle.volume_infill.specs.declared.Walk.{Walk}
 use Rattle.volume_infill.specs.Simplex.{fourOf, simplexRow, simplexOf}
 use Rattle.volume_infill.specs.inner.Way.{walkRow, walkOf}
+use Rattle.volume_infill.proofs.Sixteenths.{four-le}
 
 -- ---- a weight whose factor is 0 does not count
 
@@ -74,6 +75,18 @@ module _ (fs ft fr : ℕ) (p q : ℕ → ℕ → ℕ → ℕ)
         (λ h. here 0 0 1 (omega arith) (omega arith) (omega arith) (omega arith) (omega arith) (omega arith))
         (λ h. here 0 1 1 (omega arith) (omega arith) (omega arith) (omega arith) (omega arith) (omega arith))
         (λ h. here 1 1 1 (omega arith) (omega arith) (omega arith) (omega arith) (omega arith) (omega arith))
+
+-- it is no more than any of its weights may be
+pub simplex-le : (m fs ft fr : ℕ) (p : ℕ → ℕ → ℕ → ℕ) → fs ≤ 16 → ft ≤ 16 → fr ≤ 16 → ((i j k : ℕ) → p i j k ≤ m) → simplexOf fs ft fr p ≤ m
+unfolding simplexOf
+simplex-le m fs ft fr p hs ht hr h = go (ltb ft fs) (ltb fr ft) (ltb fr fs) refl refl refl where
+  go : (a b c : Bool) → ltb ft fs ≡ a → ltb fr ft ≡ b → ltb fr fs ≡ c → simplexRow a b c fs ft fr p ≤ m
+  go true true c u v w = four-le _ _ _ _ (omega (arith, ltb-true ft fs u, ltb-true fr ft v)) m _ _ _ _ (h _ _ _) (h _ _ _) (h _ _ _) (h _ _ _)
+  go true false true u v w = four-le _ _ _ _ (omega (arith, ltb-false fr ft v, ltb-true fr fs w)) m _ _ _ _ (h _ _ _) (h _ _ _) (h _ _ _) (h _ _ _)
+  go true false false u v w = four-le _ _ _ _ (omega (arith, ltb-true ft fs u, ltb-false fr fs w)) m _ _ _ _ (h _ _ _) (h _ _ _) (h _ _ _) (h _ _ _)
+  go false b true u v w = four-le _ _ _ _ (omega (arith, ltb-false ft fs u, ltb-true fr fs w)) m _ _ _ _ (h _ _ _) (h _ _ _) (h _ _ _) (h _ _ _)
+  go false true false u v w = four-le _ _ _ _ (omega (arith, ltb-true fr ft v, ltb-false fr fs w)) m _ _ _ _ (h _ _ _) (h _ _ _) (h _ _ _) (h _ _ _)
+  go false false false u v w = four-le _ _ _ _ (omega (arith, ltb-false ft fs u, ltb-false fr ft v)) m _ _ _ _ (h _ _ _) (h _ _ _) (h _ _ _) (h _ _ _)
 
 -- ---- the walk
 

@@ -1,5 +1,7 @@
-pub mod Covering
-pub mod Regions
-pub mod Volumes
 pub mod Sizes
+pub mod Volumes
+pub mod Blocks
+pub mod Parts
+pub mod Calls
+pub mod Independence
 pub mod Samples

@@ -4,9 +4,11 @@ use mathlib.Core.Path.{_≡_, refl}
 use mathlib.Core.List.{List, [], _∷_}
 use Prim.Native.Nat.{ℕ, _*_}
 use Rattle.image_size.specs.Sides.{sideLimit, badSide, blocksAcross}
-use Rattle.volume_footprint.specs.Footprints.{footprints, widthOf, heightOf, depthOf}
-use Rattle.volume_layout.specs.Rows.{rowOf, place, blockAt}
-use Rattle.volume_layout.specs.Call.{depthLimit, badDepth, badSizes, blocksOf, texelsIn, volumeRefusal}
+use Rattle.footprint.specs.Footprint.{footprints, widthOf, heightOf, depthOf}
+use Rattle.picture_regions.specs.Picture.{place}
+use Rattle.volume_layout.specs.Rows.{rowOf, blockAt}
+use Rattle.volume_layout.specs.Numbers.{texelsIn}
+use Rattle.volume_layout.specs.Call.{depthLimit, badDepth, badSizes, blocksOf, volumeRefusal}
 
 -- a texel's number or block, at ten texels of a volume whose last is at x, y, z
 abbrev ten : (ℕ → ℕ → ℕ → ℕ) → ℕ → ℕ → ℕ → List ℕ

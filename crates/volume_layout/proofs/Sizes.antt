@@ -1,6 +1,6 @@
 -- The refusals of a volume picture call one by one, and what holds once none does: no count wraps.
 -- Assumes nothing.
-use mathlib.Core.Path.{_≡_, refl, sym, ap, _∙_}
+use mathlib.Core.Path.{_≡_, refl, sym, _∙_, subst}
 use mathlib.Core.Bool.{Bool, true, false, true≢false}
 use Prim.Native.Nat.{ℕ, _+_, _-_, _*_, _/_, _≤_, _<_}
 use native.Mathlib.Nat.{mul-le-mul, div-lt-iff-lt-mul, add-mul}
@@ -8,15 +8,16 @@ use native.Mathlib.Decide.{decLe, decLt, ℕ-discrete}
 use native.Mathlib.Omega.{arith}
 use borrow.Author.Tests.{eq-eqb, ne-eqb, lt-ltb, le-ltb}
 use Rattle.laws.specs.Choice.{either}
-use Rattle.footprint.proofs.Laws as flat
-use Rattle.volume_footprint.specs.Footprints.{footprints, widthOf, heightOf, depthOf}
-use Rattle.volume_footprint.proofs.Laws.{bounds, flat-sides, flat-depth, volume-depth}
-use Rattle.image_size.specs.Sides.{sideLimit, badSide, blocksAcross}
-use Rattle.image_size.proofs.Laws.{limit-le, side-fine, across-le}
+use Rattle.footprint.specs.Footprint.{footprints, widthOf, heightOf, depthOf}
+use Rattle.footprint.proofs.Laws.{bounds, flat-bounds, flat-depth, volume-depth, texels-le}
+use Rattle.block_core.proofs.Frames.{texels-by-layers}
+use Rattle.image_size.specs.Sides.{badSide, blocksAcross}
+use Rattle.image_size.proofs.Laws.{limit-le, side-fine, across-le, across-pos}
 use Rattle.volume_layout.specs.declared.VolumeGrid.{VolumeGrid}
 use Rattle.volume_layout.specs.declared.CheckedVolume.{CheckedVolume}
 use Rattle.volume_layout.specs.declared.CheckedVolume.the-variants.{Rejected, Accepted}
-use Rattle.volume_layout.specs.Call.{depthLimit, badDepth, badSizes, blocksOf, texelsIn, volumeRefusal, gridOf, checkedOf}
+use Rattle.volume_layout.specs.Numbers.{texelsIn}
+use Rattle.volume_layout.specs.Call.{depthLimit, badDepth, badSizes, blocksOf, volumeRefusal, gridOf, checkedOf}
 
 -- ---- sizes that are not refused
 
@@ -102,14 +103,30 @@ module _ (fp w h d bytes places : ℕ) where
 
 -- the layout of an accepted volume
 pub record Sound (g : VolumeGrid) : Type 0 where
-  pub columns-least : 0 < g .columns
-  pub rows-least : 0 < g .rows
-  pub layers-least : 0 < g .layers
+  pub footprint : g .footprint < 24
+  pub width-least : 0 < g .width
   pub width-most : g .width ≤ 16384
+  pub height-least : 0 < g .height
   pub height-most : g .height ≤ 16384
+  pub depth-least : 0 < g .depth
   pub depth-most : g .depth ≤ 2048
+  pub columns : g .columns ≡ widthOf (g .footprint)
+  pub columns-least : 0 < g .columns
+  pub columns-most : g .columns ≤ 12
+  pub rows : g .rows ≡ heightOf (g .footprint)
+  pub rows-least : 0 < g .rows
+  pub rows-most : g .rows ≤ 12
+  pub layers : g .layers ≡ depthOf (g .footprint)
+  pub layers-least : 0 < g .layers
+  pub layers-most : g .layers ≤ 6
+  pub room : g .layers * g .rows * g .columns ≤ 216
+  pub across : g .across ≡ blocksAcross (g .width) (g .columns)
+  pub across-least : 0 < g .across
   pub across-most : g .across ≤ 16384
+  pub down : g .down ≡ blocksAcross (g .height) (g .rows)
+  pub down-least : 0 < g .down
   pub down-most : g .down ≤ 16384
+  pub deep : g .deep ≡ blocksAcross (g .depth) (g .layers)
   pub deep-most : g .deep ≤ 2048
 
 pub sound : (fp w h d : ℕ) → fp < 24 → badSizes w h d ≡ false → Sound (gridOf fp w h d)
@@ -121,14 +138,30 @@ sound fp w h d f e =
     let q : 0 < heightOf fp = let z = b .height-least in omega arith in
     let r : 0 < depthOf fp = let z = b .depth-least in omega arith in
     record {
-      columns-least = p;
-      rows-least = q;
-      layers-least = r;
+      footprint = f;
+      width-least = s .width-least;
       width-most = s .width-most;
+      height-least = s .height-least;
       height-most = s .height-most;
+      depth-least = s .depth-least;
       depth-most = s .depth-most;
+      columns = refl;
+      columns-least = p;
+      columns-most = b .width-most;
+      rows = refl;
+      rows-least = q;
+      rows-most = b .height-most;
+      layers = refl;
+      layers-least = r;
+      layers-most = b .depth-most;
+      room = subst (λ (n : ℕ). n ≤ 216) (texels-by-layers fp) (texels-le fp);
+      across = refl;
+      across-least = across-pos w (widthOf fp) p (s .width-least);
       across-most = omega (arith, across-le w (widthOf fp) p, s .width-most);
+      down = refl;
+      down-least = across-pos h (heightOf fp) q (s .height-least);
       down-most = omega (arith, across-le h (heightOf fp) q, s .height-most);
+      deep = refl;
       deep-most = omega (arith, across-le d (depthOf fp) r, s .depth-most);
     }
 
@@ -142,6 +175,17 @@ across-most side n k p l =
 
 pub three : (a b c k m n : ℕ) → a ≤ k → b ≤ m → c ≤ n → a * b * c ≤ k * m * n
 three a b c k m n p q r = mul-le-mul (mul-le-mul p q) r
+
+-- products of a layout, as the code makes them
+pub record Products (g : VolumeGrid) : Type 0 where
+  pub rows : g .deep * g .down ≤ 2048 * 16384
+  pub blocks : g .deep * g .down * g .across ≤ 2048 * 16384 * 16384
+
+pub products : (g : VolumeGrid) → Sound g → Products g
+products g s = record {
+  rows = mul-le-mul (s .deep-most) (s .down-most);
+  blocks = three (g .deep) (g .down) (g .across) 2048 16384 16384 (s .deep-most) (s .down-most) (s .across-most);
+}
 
 -- 2^35 blocks, 2^39 texels, and so 2^39 bytes of blocks and 2^41 numbers
 pub record Counts (fp w h d : ℕ) : Type 0 where
@@ -161,13 +205,12 @@ counts fp w h d f e =
     record {
       blocks = elim (decLt fp 14) [
         | yes p ↦
-            let k = flat-sides fp p in
-            let m = flat.bounds fp p in
+            let m = flat-bounds fp p in
             let i = m .width-least in
             let j = m .height-least in
             let t = flat-depth fp p in
             let r = three (blocksAcross d (depthOf fp)) (blocksAcross h (heightOf fp)) (blocksAcross w (widthOf fp)) 2048 4096 4096 (across-most d (depthOf fp) 2048 (omega arith) (omega arith))
-            (across-most h (heightOf fp) 4096 (omega (arith, k .1)) (omega (arith, k .1))) (across-most w (widthOf fp) 4096 (omega (arith, k .0)) (omega (arith, k .0))) in
+            (across-most h (heightOf fp) 4096 (omega arith) (omega arith)) (across-most w (widthOf fp) 4096 (omega arith) (omega arith)) in
             omega arith
         | no p ↦
             let t = volume-depth fp (omega arith) f in
@@ -192,3 +235,77 @@ module _ (fp w h d : ℕ) {g : VolumeGrid} (e : g ≡ gridOf fp w h d) where
   pub texel-count : {r : ℕ} → r ≡ g .depth * g .height * g .width → r ≡ texelsIn w h d
   unfolding texelsIn gridOf
   texel-count k = rw (k, e)
+
+-- ---- the first stage by its two cases
+
+by-bool : {X : Type 0} (b : Bool) → (b ≡ true → X) → (b ≡ false → X) → X
+by-bool true f g = f refl
+by-bool false f g = g refl
+
+-- an accepted call
+pub record Accept (fp w h d bytes places : ℕ) : Type 0 where
+  pub footprint : fp < 24
+  pub sizes : badSizes w h d ≡ false
+  pub exact-bytes : bytes ≡ 16 * blocksOf fp w h d
+  pub exact-places : places ≡ 4 * texelsIn w h d
+
+pub accept : (fp w h d bytes places : ℕ) → volumeRefusal fp w h d bytes places ≡ 0 → Accept fp w h d bytes places
+accept fp w h d n m z =
+    elim (decLe fp 23) [
+      | no p ↦ absurd (let k : _≡_ {A = ℕ} 1 0 = sym (refused-1 fp w h d n m (omega arith)) ∙ z in omega arith)
+      | yes a ↦
+          by-bool (badSizes w h d) (λ p. absurd (let k : _≡_ {A = ℕ} 3 0 = sym (refused-3 fp w h d n m a p) ∙ z in omega arith))
+          (λ b. elim (ℕ-discrete n (16 * blocksOf fp w h d)) [
+            | no p ↦ absurd (let k : _≡_ {A = ℕ} 4 0 = sym (refused-4 fp w h d n m a b p) ∙ z in omega arith)
+            | yes c ↦ elim (ℕ-discrete m (4 * texelsIn w h d)) [
+              | no p ↦ absurd (let k : _≡_ {A = ℕ} 5 0 = sym (refused-5 fp w h d n m a b c p) ∙ z in omega arith)
+              | yes e ↦ record { footprint = omega arith; sizes = b; exact-bytes = c; exact-places = e }
+            ]
+          ])
+    ]
+
+module _ (fp w h d bytes places : ℕ) where
+  pub record Stopped (e : ℕ) : Type 0 where
+    pub told : volumeRefusal fp w h d bytes places ≡ e
+    pub some : e ≡ 0 → ⊥
+
+  pub was-rejected : (e : ℕ) → checkedOf fp w h d bytes places ≡ Rejected e → Stopped e
+  was-rejected e q =
+      elim (ℕ-discrete (volumeRefusal fp w h d bytes places) 0) [
+        | yes z ↦
+            let k : _≡_ {A = CheckedVolume} (Accepted (gridOf fp w h d)) (Rejected e) = sym (accepted fp w h d bytes places z) ∙ q in
+            let z2 : _≡_ {A = ℕ} 0 1 = cc in
+            absurd (omega arith)
+        | no z ↦
+            let k : _≡_ {A = CheckedVolume} (Rejected (volumeRefusal fp w h d bytes places)) (Rejected e) = sym (rejected fp w h d bytes places _ refl z) ∙ q in
+            let r : volumeRefusal fp w h d bytes places ≡ e = cc in
+            record { told = r; some = λ s. z (r ∙ s) }
+      ]
+
+  pub record Passed (g : VolumeGrid) : Type 0 where
+    pub none : volumeRefusal fp w h d bytes places ≡ 0
+    pub layout : g ≡ gridOf fp w h d
+    pub is-sound : Sound g
+    pub exact-bytes : bytes ≡ 16 * (g .deep * g .down * g .across)
+    pub exact-places : places ≡ 4 * (g .depth * g .height * g .width)
+
+  pub was-accepted : (g : VolumeGrid) → checkedOf fp w h d bytes places ≡ Accepted g → Passed g
+  unfolding gridOf blocksOf texelsIn
+  was-accepted g q =
+      elim (ℕ-discrete (volumeRefusal fp w h d bytes places) 0) [
+        | yes z ↦
+            let k : _≡_ {A = CheckedVolume} (Accepted (gridOf fp w h d)) (Accepted g) = sym (accepted fp w h d bytes places z) ∙ q in
+            let r : g ≡ gridOf fp w h d = cc in
+            let a = accept fp w h d bytes places z in
+            record {
+              none = z;
+              layout = r;
+              is-sound = rw r (sound fp w h d (a .footprint) (a .sizes));
+              exact-bytes = rw r (a .exact-bytes);
+              exact-places = rw r (a .exact-places);
+            }
+        | no z ↦
+            let k : _≡_ {A = CheckedVolume} (Rejected (volumeRefusal fp w h d bytes places)) (Accepted g) = sym (rejected fp w h d bytes places _ refl z) ∙ q in
+            let z2 : _≡_ {A = ℕ} 0 1 = cc in
+            absurd (omega arith)
+      ]

@@ -1,29 +1,30 @@
 -- The rows of a volume: those of a block, and those of its blocks.
 -- Assumes nothing.
-use mathlib.Core.Path.{_≡_, refl, sym, ap, ap₂, _∙_, subst}
-use mathlib.Core.List.{List}
-use Prim.Native.Nat.{ℕ, _+_, _-_, _*_, _/_, _%_, _≤_, _<_}
+use mathlib.Core.Path.{_≡_, sym, ap, ap₂, _∙_}
+use Prim.Native.Nat.{ℕ, _+_, _*_, _/_, _%_, _≤_, _<_}
 use native.Mathlib.Nat.{div-add-mod', mod-lt, div-lt-iff-lt-mul, div-eq-of-lt, mod-eq-of-lt, zero-div, zero-mul, zero-add}
-use native.Mathlib.Decide.{decLt}
 use native.Mathlib.Omega.{arith}
-use lib.ListN.{getD}
 use Rattle.image_size.specs.Sides.{blocksAcross}
 use Rattle.image_size.proofs.Laws.{across-covers}
-use Rattle.volume_layout.specs.Rows.{rowOf, place, blockAt, volumeRow, flatRow, blockIndex}
-use Rattle.volume_layout.proofs.Covering.{below-row, in-piece, quotient, remainder}
-use Rattle.volume_layout.proofs.Regions.{Placed, Cropped, Tile}
+use Rattle.picture_regions.specs.Picture.{blockIn}
+use Rattle.picture_regions.proofs.Covering.{below-row, quotient, remainder}
+use Rattle.picture_regions.proofs.Blocks.{Covered, Cropped, Reached}
+use Rattle.volume_layout.specs.declared.VolumeGrid.{VolumeGrid}
+use Rattle.volume_layout.specs.Rows.{rowOf, blockAt, volumeRow, volumePicture}
+use Rattle.volume_layout.proofs.Sizes.{Sound}
 
 -- the block by rows is the block of the texel's place
-pub block-at : (h nx ny bw bh bd x y z : ℕ) → y < h → blockIndex (volumeRow h ny bh bd) nx bw x (rowOf h y z) ≡ blockAt nx ny bw bh bd x y z
-unfolding blockIndex volumeRow blockAt
-block-at h nx ny bw bh bd x y z l = rw (quotient z h y l, remainder z h y l)
+pub block-at : (g : VolumeGrid) (x y z : ℕ) → y < g .height
+    → blockIn (volumePicture g) x (rowOf (g .height) y z) ≡ blockAt (g .across) (g .down) (g .columns) (g .rows) (g .layers) x y z
+unfolding blockIn volumeRow blockAt
+block-at g x y z l = rw (quotient z (g .height) y l, remainder z (g .height) y l)
 
 -- of one layer it is a flat picture's
-pub one-layer : (h ny bh bd q : ℕ) → q < h → volumeRow h ny bh bd q ≡ flatRow bh q
-unfolding volumeRow flatRow
+pub one-layer : (h ny bh bd q : ℕ) → q < h → volumeRow h ny bh bd q ≡ q / bh
+unfolding volumeRow
 one-layer h ny bh bd q l = rw (div-eq-of-lt l, mod-eq-of-lt l, zero-div bd, zero-mul ny, zero-add (q / bh))
 
--- every row of a volume lies in one of its ny * nz rows of blocks
+-- every row of a volume lies in one of its rows of blocks
 pub row-lt : (h d bh bd q : ℕ) → 0 < h → 0 < bh → 0 < bd → q < d * h → volumeRow h (blocksAcross h bh) bh bd q < blocksAcross d bd * blocksAcross h bh
 unfolding volumeRow
 row-lt h d bh bd q ph pbh pbd l =
@@ -32,7 +33,17 @@ row-lt h d bh bd q ph pbh pbd l =
     let b : q % h / bh < blocksAcross h bh = across-covers h bh (q % h) pbh (mod-lt q ph) in
     omega (arith, below-row (blocksAcross h bh) (q / h / bd) (blocksAcross d bd) a)
 
--- row i of the part of a block that begins in row y0 of layer z0 and has `rows` rows in each layer: where it lies in the volume, and in the block
+pub covered : (g : VolumeGrid) → Sound g → Covered (volumePicture g)
+covered g s = record {
+  width-least = s .width-least;
+  columns-least = s .columns-least;
+  across = s .across;
+  row-lt = λ q h. rw (s .deep, s .down) (row-lt (g .height) (g .depth) (g .rows) (g .layers) q (s .height-least) (s .rows-least) (s .layers-least) h);
+}
+
+-- ---- the rows of a block's part
+
+-- row i of a part that begins in row y0 of layer z0 and has `rows` rows in each layer: where it lies in the volume, and in the block
 abbrev pub toRow : ℕ → ℕ → ℕ → ℕ → ℕ → ℕ
 toRow h y0 z0 rows i = (z0 + i / rows) * h + (y0 + i % rows)
 
@@ -51,54 +62,46 @@ rows-apart h y0 z0 rows p fits i j l e =
     let s : i / rows * rows ≡ j / rows * rows = ap (λ (m : ℕ). m * rows) (let t : i / rows ≡ j / rows = omega arith in t) in
     omega (arith, div-add-mod' i rows, div-add-mod' j rows)
 
--- a block's numbers, copied row by row as far as they are within the volume
-pub tile-of : (show : ℕ → ℕ) (w h d bw bh bd ny bx by bz cols rows layers : ℕ) (f : ℕ → ℕ → ℕ → ℕ) (buf old new : List ℕ)
-    → 0 < bw → 0 < bh → 0 < bd → 0 < h → ny ≡ blocksAcross h bh → by < ny → 0 < rows
-    → Cropped w (bx * bw) bw cols → Cropped h (by * bh) bh rows → Cropped d (bz * bd) bd layers
-    → Placed show w (bx * bw) cols bw (toRow h (by * bh) (bz * bd) rows) (fromRow bh rows) (layers * rows) buf old new
-    → ((dx dy dz c : ℕ) → dx < bw → dy < bh → dz < bd → c < 4
-    → show (getD buf (place bw dx (dz * bh + dy) c) 0) ≡ f (bx * bw + dx) ((bz * bd + dz) * h + (by * bh + dy)) c)
-    → Tile w (d * h) bw bx (bz * ny + by) (volumeRow h ny bh bd) f old new
-unfolding volumeRow
-tile-of show w h d bw bh bd ny bx by bz cols rows layers f buf old new pw ph pd pos en hby prow cc cr cl p g = record {
-  inside = λ x q c hx hq hc ex eq.
-      let z : q / h < d = div-lt-iff-lt-mul pos .1 hq in
-      let y : q % h < h = mod-lt q pos in
-      let ly : q % h / bh < ny = rw en (across-covers h bh (q % h) ph y) in
-      let ez : q / h / bd ≡ bz = sym (quotient (q / h / bd) ny (q % h / bh) ly) ∙ ap (λ (m : ℕ). m / ny) eq ∙ quotient bz ny by hby in
-      let ey : q % h / bh ≡ by = sym (remainder (q / h / bd) ny (q % h / bh) ly) ∙ ap (λ (m : ℕ). m % ny) eq ∙ remainder bz ny by hby in
-      let ax : bx * bw + x % bw ≡ x = ap (λ (m : ℕ). m * bw + x % bw) (sym ex) ∙ div-add-mod' x bw in
+-- block by of the rows of blocks in the layer bz of blocks
+module _ (g : VolumeGrid) (sound : Sound g) (by bz rows layers : ℕ) (hby : by < g .down) (some : 0 < rows)
+    (cr : Cropped (g .height) (by * g .rows) (g .rows) rows) (cl : Cropped (g .depth) (bz * g .layers) (g .layers) layers) where
+  abbrev to : ℕ → ℕ
+  to = toRow (g .height) (by * g .rows) (bz * g .layers) rows
+
+  -- its rows are those that are copied
+  pub row-in : (q : ℕ) → q < g .depth * g .height → volumeRow (g .height) (g .down) (g .rows) (g .layers) q ≡ bz * g .down + by → Reached to (layers * rows) q
+  unfolding volumeRow
+  row-in q hq e =
+      let h = g .height in
+      let bh = g .rows in
+      let bd = g .layers in
+      let ny = g .down in
+      let y : q % h < h = mod-lt q (sound .height-least) in
+      let z : q / h < g .depth = div-lt-iff-lt-mul (sound .height-least) .1 hq in
+      let ly : q % h / bh < ny = rw (sound .down) (across-covers h bh (q % h) (sound .rows-least) y) in
+      let ez : q / h / bd ≡ bz = sym (quotient (q / h / bd) ny (q % h / bh) ly) ∙ ap (λ (m : ℕ). m / ny) e ∙ quotient bz ny by hby in
+      let ey : q % h / bh ≡ by = sym (remainder (q / h / bd) ny (q % h / bh) ly) ∙ ap (λ (m : ℕ). m % ny) e ∙ remainder bz ny by hby in
       let ay : by * bh + q % h % bh ≡ q % h = ap (λ (m : ℕ). m * bh + q % h % bh) (sym ey) ∙ div-add-mod' (q % h) bh in
       let az : bz * bd + q / h % bd ≡ q / h = ap (λ (m : ℕ). m * bd + q / h % bd) (sym ez) ∙ div-add-mod' (q / h) bd in
-      let mx : x % bw < bw = mod-lt x pw in
-      let my : q % h % bh < bh = mod-lt (q % h) ph in
-      let mz : q / h % bd < bd = mod-lt (q / h) pd in
-      let ry : q % h % bh < rows = cr .all (q % h % bh) my (omega arith) in
-      let rz : q / h % bd < layers = cl .all (q / h % bd) mz (omega arith) in
-      let i = q / h % bd * rows + q % h % bh in
+      let ry : q % h % bh < rows = cr .all (q % h % bh) (mod-lt (q % h) (sound .rows-least)) (omega arith) in
+      let rz : q / h % bd < layers = cl .all (q / h % bd) (mod-lt (q / h) (sound .layers-least)) (omega arith) in
+      let i : ℕ = q / h % bd * rows + q % h % bh in
       let iq : i / rows ≡ q / h % bd = quotient (q / h % bd) rows (q % h % bh) ry in
       let ir : i % rows ≡ q % h % bh = remainder (q / h % bd) rows (q % h % bh) ry in
-      let li : i < layers * rows = omega (arith, below-row rows (q / h % bd) layers rz) in
-      let eq2 : (bz * bd + q / h % bd) * h + (by * bh + q % h % bh) ≡ q = ap₂ (λ (a b : ℕ). a * h + b) az ay ∙ div-add-mod' q h in
-      let to : toRow h (by * bh) (bz * bd) rows i ≡ q = ap₂ (λ (a b : ℕ). (bz * bd + a) * h + (by * bh + b)) iq ir ∙ eq2 in
-      let from : fromRow bh rows i ≡ q / h % bd * bh + q % h % bh = ap₂ (λ (a b : ℕ). a * bh + b) iq ir in
-      ap₂ (λ (a b : ℕ). getD new (place w a b c) 0) (sym ax) (sym to)
-      ∙ p .inside (x % bw) i c (cc .all (x % bw) mx (omega arith)) li hc
-      ∙ ap (λ (m : ℕ). show (getD buf (place bw (x % bw) m c) 0)) from
-      ∙ g (x % bw) (q % h % bh) (q / h % bd) c mx my mz hc
-      ∙ ap₂ (λ (a b : ℕ). f a b c) ax eq2;
-  outside = λ x q c hx hq hc n.
-      let lc = cc .in-block in
+      record {
+        index = i;
+        below = omega (arith, below-row rows (q / h % bd) layers rz);
+        is = ap₂ (λ (a b : ℕ). (bz * bd + a) * h + (by * bh + b)) iq ir ∙ ap₂ (λ (a b : ℕ). a * h + b) az ay ∙ div-add-mod' q h;
+      }
+
+  pub row-of : (i : ℕ) → i < layers * rows → volumeRow (g .height) (g .down) (g .rows) (g .layers) (to i) ≡ bz * g .down + by
+  unfolding volumeRow
+  row-of i li =
       let lr = cr .in-block in
       let sr = cr .in-side in
       let ll = cl .in-block in
-      p .outside x q c hx hc
-      (λ a b i li e.
-      let mr : i % rows < rows = mod-lt i prow in
-      let ml : i / rows < layers = div-lt-iff-lt-mul prow .1 li in
-      let ez : q / h ≡ bz * bd + i / rows = ap (λ (m : ℕ). m / h) e ∙ quotient (bz * bd + i / rows) h (by * bh + i % rows) (omega arith) in
-      let ey : q % h ≡ by * bh + i % rows = ap (λ (m : ℕ). m % h) e ∙ remainder (bz * bd + i / rows) h (by * bh + i % rows) (omega arith) in
-      let bq : q / h / bd ≡ bz = in-piece (q / h) bd bz (omega (arith, ez)) (omega (arith, ez)) in
-      let br : q % h / bh ≡ by = in-piece (q % h) bh by (omega (arith, ey)) (omega (arith, ey)) in
-      n (in-piece x bw bx a (omega arith)) (ap₂ (λ (u v : ℕ). u * ny + v) bq br));
-}
+      let mr : i % rows < rows = mod-lt i some in
+      let ml : i / rows < layers = div-lt-iff-lt-mul some .1 li in
+      let ez = quotient (bz * g .layers + i / rows) (g .height) (by * g .rows + i % rows) (omega arith) in
+      let ey = remainder (bz * g .layers + i / rows) (g .height) (by * g .rows + i % rows) (omega arith) in
+      rw (ez, ey, quotient bz (g .layers) (i / rows) (omega arith), quotient by (g .rows) (i % rows) (omega arith))

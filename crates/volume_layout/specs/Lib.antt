@@ -1,2 +1,4 @@
 pub mod Rows
+pub mod Numbers
 pub mod Call
+pub mod OwnBlock

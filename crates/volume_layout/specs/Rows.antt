@@ -2,14 +2,12 @@
 -- each row of texels lies in one row of blocks.
 -- Assumes nothing.
 use Prim.Native.Nat.{ℕ, _+_, _*_, _/_, _%_}
+use Rattle.picture_regions.specs.Picture.{Picture}
+use Rattle.volume_layout.specs.declared.VolumeGrid.{VolumeGrid}
 
 -- the row of texels that is row y of layer z, in layers of h rows
 abbrev pub rowOf : ℕ → ℕ → ℕ → ℕ
 rowOf h y z = z * h + y
-
--- where channel c of the texel in column x of row q stands, in rows of w texels
-abbrev pub place : ℕ → ℕ → ℕ → ℕ → ℕ
-place w x q c = 4 * (q * w + x) + c
 
 -- the block that shows the texel at x, y, z, with nx blocks in a row and ny rows of blocks in a layer
 unfoldable pub blockAt : ℕ → ℕ → ℕ → ℕ → ℕ → ℕ → ℕ → ℕ → ℕ
@@ -21,10 +19,13 @@ blockAt nx ny bw bh bd x y z = (z / bd * ny + y / bh) * nx + x / bw
 unfoldable pub volumeRow : ℕ → ℕ → ℕ → ℕ → ℕ → ℕ
 volumeRow h ny bh bd q = q / h / bd * ny + q % h / bh
 
--- and of a flat picture
-unfoldable pub flatRow : ℕ → ℕ → ℕ
-flatRow bh y = y / bh
-
--- the block that shows column x of row q, in rows of nx blocks
-unfoldable pub blockIndex : (ℕ → ℕ) → ℕ → ℕ → ℕ → ℕ → ℕ
-blockIndex row nx bw x q = row q * nx + x / bw
+-- a volume by rows
+abbrev pub volumePicture : VolumeGrid → Picture
+volumePicture g = record {
+  width = g .width;
+  rows = g .depth * g .height;
+  columns = g .columns;
+  across = g .across;
+  down = g .deep * g .down;
+  row = volumeRow (g .height) (g .down) (g .rows) (g .layers);
+}

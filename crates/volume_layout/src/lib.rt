@@ -1,8 +1,8 @@
-// Volume pictures: where their blocks and texels lie, and the refusals of a call. Prepared for request h; no call reaches it yet.
+// Volume pictures (02, h): where their blocks and texels lie, their numbers, and the refusals of a call: types, definitions and laws.
 ghost use mathlib.Core.Path.{_≡_};
 ghost use mathlib.Core.Bool.{false};
 ghost use Prim.Native.Nat.{_*_, _≤_, _<_};
-ghost use Rattle.volume_layout.specs.Call.{badDepth, badSizes, gridOf, checkedOf};
+ghost use Rattle.volume_layout.specs.Call.{badDepth, badSizes, gridOf, checkedOf, volumeBlocks, volumePlaces};
 
 // The layout of a volume: its footprint, its sides in texels, a block's sides in texels, and how many blocks lie across, down and deep.
 pub struct VolumeGrid {
@@ -16,6 +16,16 @@ pub struct VolumeGrid {
     pub across: usize,
     pub down: usize,
     pub deep: usize,
+}
+
+// The part of a volume that a block covers, cropped at the volume's edges: the place of its first texel, and its sides.
+pub struct VolumePart {
+    pub x: usize,
+    pub y: usize,
+    pub z: usize,
+    pub columns: usize,
+    pub rows: usize,
+    pub layers: usize,
 }
 
 // The first stage of a volume picture call: its refusal, or the volume's layout.
@@ -54,9 +64,9 @@ fn grid_of(footprint: u8, width: u32, height: u32, depth: u32) -> VolumeGrid
     let w = width as usize;
     let h = height as usize;
     let d = depth as usize;
-    let columns = volume_footprint::width(footprint);
-    let rows = volume_footprint::height(footprint);
-    let layers = volume_footprint::depth(footprint);
+    let columns = footprint::width(footprint);
+    let rows = footprint::height(footprint);
+    let layers = footprint::depth(footprint);
     let across = image_size::blocks_across(width, columns);
     let down = image_size::blocks_across(height, rows);
     let deep = image_size::blocks_across(depth, layers);
@@ -109,4 +119,28 @@ pub fn check_volume(
         return CheckedVolume::Rejected(5);
     }
     CheckedVolume::Accepted(g)
+}
+
+// How many blocks a volume has: 0 where its footprint or a size is refused.
+pub fn volume_blocks(footprint: u8, width: u32, height: u32, depth: u32) -> usize
+    ensures { λ r. ⌜ r ≡ volumeBlocks footprint width height depth ⌝ }
+{
+    if footprint > 23 {
+        return 0;
+    }
+    if bad_sizes(width, height, depth) {
+        return 0;
+    }
+    let g = grid_of(footprint, width, height, depth);
+    product(g.deep, g.down, g.across)
+}
+
+// How many numbers a volume's result buffer takes: 0 where a size is refused.
+pub fn volume_places(width: u32, height: u32, depth: u32) -> usize
+    ensures { λ r. ⌜ r ≡ volumePlaces width height depth ⌝ }
+{
+    if bad_sizes(width, height, depth) {
+        return 0;
+    }
+    4 * product(depth as usize, height as usize, width as usize)
 }

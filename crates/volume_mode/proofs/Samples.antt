@@ -4,8 +4,8 @@ use mathlib.Core.Path.{_≡_, refl}
 use Prim.Native.Nat.{ℕ, zero, suc, _+_, _*_, _/_, _%_}
 use Rattle.block_mode.specs.declared.ModeBits.{ModeBits}
 use Rattle.block_mode.specs.declared.ModeBits.the-variants.{Mode, NoMode}
-use Rattle.volume_mode.specs.declared.VolumeMode.{VolumeMode}
-use Rattle.volume_mode.specs.declared.VolumeMode.the-variants.{VoidExtent, Reserved, Grid}
+use Rattle.block_mode.specs.declared.BlockMode.{BlockMode}
+use Rattle.block_mode.specs.declared.BlockMode.the-variants.{VoidExtent, Reserved, Grid}
 use Rattle.volume_mode.specs.Mode3D.{volumeMode}
 use Rattle.volume_mode.specs.Back3D.{volumeBits}
 
@@ -13,7 +13,7 @@ unfoldable pub digest : (ℕ → ℕ) → ℕ → ℕ
 digest f zero = 0
 digest f (suc n) = (31 * digest f n + f n) % 1000003
 
-unfoldable pub said : VolumeMode → ℕ
+unfoldable pub said : BlockMode → ℕ
 said VoidExtent = 1
 said Reserved = 2
 said (Grid g) = 3 + g .width + 7 * (g .height + 7 * (g .depth + 7 * (g .range + 12 * g .planes)))

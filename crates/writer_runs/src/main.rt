@@ -1,5 +1,6 @@
 // Runs of the writer. Each record of standard input is a footprint and a symbolic block: 01's fields in order, two bytes (the low one
-// first) for a colour, an extent and the partition index, one byte for any other, and the HDR mark of 02, i, as the last. For each a line
+// first) for a colour, an extent and the partition index, one byte for any other, then the HDR mark of 02, i, and of 02, h, the grid's depth
+// and the last two extents. For each a line
 // "refused N", or "block" and the sixteen bytes.
 use block_answer::Answer;
 use encoding::Stored;
@@ -14,13 +15,13 @@ fn wide(x: u8) -> u16
     x as u16
 }
 
-fn word_at(r: &[u8; 114], i: usize) -> u16
-    requires { ⌜ i < 113 ⌝ }
+fn word_at(r: &[u8; 119], i: usize) -> u16
+    requires { ⌜ i < 118 ⌝ }
 {
     wide(r[i + 1]) * 256 + wide(r[i])
 }
 
-fn endpoints_at(r: &[u8; 114]) -> [Stored; 18] {
+fn endpoints_at(r: &[u8; 119]) -> [Stored; 18] {
     let mut out = [Stored(0); 18];
     let mut i: usize = 0;
     while i < 18 {
@@ -30,7 +31,7 @@ fn endpoints_at(r: &[u8; 114]) -> [Stored; 18] {
     out
 }
 
-fn weights_at(r: &[u8; 114]) -> [Stored; 64] {
+fn weights_at(r: &[u8; 119]) -> [Stored; 64] {
     let mut out = [Stored(0); 64];
     let mut i: usize = 0;
     while i < 64 {
@@ -40,7 +41,7 @@ fn weights_at(r: &[u8; 114]) -> [Stored; 64] {
     out
 }
 
-fn block_at(r: &[u8; 114]) -> SymbolicBlock {
+fn block_at(r: &[u8; 119]) -> SymbolicBlock {
     let endpoints = endpoints_at(r);
     let weights = weights_at(r);
     let colours = [word_at(r, 2), word_at(r, 4), word_at(r, 6), word_at(r, 8)];
@@ -49,6 +50,8 @@ fn block_at(r: &[u8; 114]) -> SymbolicBlock {
         word_at(r, 12),
         word_at(r, 14),
         word_at(r, 16),
+        word_at(r, 115),
+        word_at(r, 117),
     ];
     let modes = [r[27], r[28], r[29], r[30]];
     SymbolicBlock {
@@ -58,6 +61,7 @@ fn block_at(r: &[u8; 114]) -> SymbolicBlock {
         extents,
         width: r[18],
         height: r[19],
+        depth: r[114],
         range: r[20],
         planes: r[21],
         component: r[22],
@@ -108,9 +112,9 @@ fn write(fp: u8, s: SymbolicBlock) {
 
 // One record, and whether there was one.
 fn record() -> bool {
-    let mut r = [0u8; 114];
+    let mut r = [0u8; 119];
     let n = io::read_full(STDIN_FILENO, &mut r);
-    if n != 114 {
+    if n != 119 {
         return false;
     }
     write(r[0], block_at(&r));

@@ -15,7 +15,7 @@ pub fn measure(rounds: usize) {
     let (mut ours, mut written) = (vec![1u8; 16 * BLOCKS], vec![2u8; 16 * BLOCKS]);
     let call = |out: &mut [u8]| library::caption::raw::caption_image(0, 255, WIDTH as u32, HEIGHT as u32, &wanted, out);
     assert_eq!(call(&mut ours), 0);
-    let sheets: Vec<[u16; 104]> = ours
+    let sheets: Vec<[u16; library::NUMBERS]> = ours
         .chunks(16)
         .map(|block| library::read_symbolic(library::Footprint::F4x4, block).expect("no fault").to_numbers())
         .collect();

@@ -7,35 +7,42 @@ use reference::{FOOTPRINTS, Kind, SymbolicBlock, Tally, decode_image_f16, decode
 use crate::astcenc::Library;
 use crate::{SEED, SIDE, in_turns, largest, median};
 
+/// Blocks of the image.
+fn count(footprint: usize) -> usize {
+    let (w, h) = FOOTPRINTS[footprint];
+    SIDE.div_ceil(w) * SIDE.div_ceil(h)
+}
+
 /// Sixteen bytes for each block of the image, by the block's index.
 fn blocks_by(footprint: usize, block: impl FnMut(usize) -> [u8; 16]) -> Vec<u8> {
-    let (w, h) = FOOTPRINTS[footprint];
-    (0..SIDE.div_ceil(w) * SIDE.div_ceil(h)).flat_map(block).collect()
+    (0..count(footprint)).flat_map(block).collect()
 }
 
 /// Blocks that the library wrote.
-fn written(footprint: usize, draw: impl Fn(&mut Random, usize) -> SymbolicBlock) -> Vec<u8> {
+pub fn written(footprint: usize, count: usize, draw: impl Fn(&mut Random, usize) -> SymbolicBlock) -> Vec<u8> {
     let mut r = Random(SEED);
-    blocks_by(footprint, |index| {
+    let block = |index| {
         let mut block = [0; 16];
         let numbers = draw(&mut r, index).to_numbers();
         assert_eq!(library::raw::write_symbolic(footprint as u8, &numbers, &mut block), 0);
         block
-    })
+    };
+    (0..count).flat_map(block).collect()
 }
 
 /// LDR mode blocks of all sorts.
 pub fn mode_blocks(footprint: usize) -> Vec<u8> {
-    written(footprint, |r, _| mode_block(r, footprint))
+    written(footprint, count(footprint), |r, _| mode_block(r, footprint))
 }
 
 /// LDR and HDR mode blocks in turn.
 fn mixed_blocks(footprint: usize) -> Vec<u8> {
-    written(footprint, |r, i| if i % 2 == 0 { mode_block(r, footprint) } else { hdr_mode_block(r, footprint) })
+    let draw = |r: &mut Random, i| if i % 2 == 0 { mode_block(r, footprint) } else { hdr_mode_block(r, footprint) };
+    written(footprint, count(footprint), draw)
 }
 
 fn solid_blocks(footprint: usize) -> Vec<u8> {
-    written(footprint, |r, _| void_extent(r))
+    written(footprint, count(footprint), |r, _| void_extent(r, footprint))
 }
 
 /// Blocks with a fault in kinds 0 and 1, random but for an even choice of block modes.

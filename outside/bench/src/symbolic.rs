@@ -1,4 +1,4 @@
-//! Symbolic blocks: writing and reading them as lists of 104 numbers, against the reference's writer and reader over the same lists.
+//! Symbolic blocks: writing and reading them as lists of 107 numbers, against the reference's writer and reader over the same lists.
 //!
 //! Mixed LDR mode blocks at 6x6 and 12x12, and the worst case of the packed numbers: trit weights and eighteen trit endpoint numbers, all
 //! groups with the digits 2, 1, 2, 1, 2.
@@ -23,9 +23,8 @@ fn mixed() -> Vec<Case> {
 
 /// Three partitions of six endpoint numbers in 0..5, and 32 weights in 0..2.
 fn worst() -> Vec<Case> {
-    let mut s =
-        SymbolicBlock { width: 8, height: 4, range: 1, planes: 1, partitions: 3, index: 77, ..SymbolicBlock::ZERO };
-    s.modes = [8, 8, 8, 0];
+    let mut s = SymbolicBlock { partitions: 3, index: 77, modes: [8, 8, 8, 0], ..SymbolicBlock::ZERO };
+    (s.width, s.height, s.depth, s.range, s.planes) = (8, 4, 1, 1, 1);
     let digit = |i: usize| [2, 1, 2, 1, 2][i % 5];
     s.endpoints = std::array::from_fn(|i| 2 * digit(i) + i as u16 % 2);
     s.weights = std::array::from_fn(|i| if i < 32 { digit(i) } else { 0 });

@@ -3,8 +3,9 @@
 use std::fmt;
 
 use reference::{
-    FOOTPRINTS, Kind, NUMBERS, SymbolicBlock, Tally, block_refusal, decode_f16, decode_image_f16, decode_image_u8,
-    decode_image_u16, decode_u8, decode_u16, image_refusal, read, read_refusal, read_spare, write,
+    ALL_FOOTPRINTS, FOOTPRINTS, Kind, NUMBERS, SymbolicBlock, Tally, block_refusal, decode_f16, decode_image_f16,
+    decode_image_u8, decode_image_u16, decode_u8, decode_u16, image_refusal, is_volume, read, read_refusal, read_spare,
+    sides, texels, write,
 };
 
 /// A case that can be run, printed and made smaller.
@@ -64,7 +65,7 @@ const GUARD: usize = 8;
 
 /// Lends a buffer and tells where it differs from what is expected afterwards. Where something
 /// is expected (`Some`) the buffer starts with other numbers everywhere, else it must stay as it was.
-/// `row` is the texels in a row, where the buffer holds texels.
+/// `row` is the texels in a row, where the buffer holds texels; y then counts the rows of all layers.
 pub fn lend<T: Number>(
     len: usize, expected: Option<&[T]>, row: Option<usize>, what: &str, expected_answer: u8,
     call: impl FnOnce(&mut [T]) -> u8,
@@ -104,14 +105,20 @@ pub fn lend<T: Number>(
     guards.into_iter().any(|&g| g != T::MARK).then(|| format!("{what} writes outside the buffer"))
 }
 
-fn hex(bytes: &[u8]) -> String {
+pub fn hex(bytes: &[u8]) -> String {
     bytes.iter().map(|b| format!("{b:02X}")).collect::<Vec<_>>().join(" ")
 }
 
-fn size_name(footprint: u8) -> String {
-    match FOOTPRINTS.get(footprint as usize) {
-        Some((w, h)) => format!("footprint {footprint} ({w}x{h})"),
-        None => format!("footprint {footprint}"),
+pub fn size_name(footprint: u8) -> String {
+    let f = footprint as usize;
+    if f >= ALL_FOOTPRINTS {
+        return format!("footprint {footprint}");
+    }
+    let [w, h, d] = sides(f);
+    if is_volume(f) {
+        format!("footprint {footprint} ({w}x{h}x{d})")
+    } else {
+        format!("footprint {footprint} ({w}x{h})")
     }
 }
 
@@ -128,11 +135,10 @@ pub struct BlockCase {
 
 impl BlockCase {
     pub fn new(footprint: usize, block: [u8; 16]) -> BlockCase {
-        let (w, h) = FOOTPRINTS[footprint];
         BlockCase {
             footprint: footprint as u8,
             block: block.to_vec(),
-            out_len: 4 * w * h,
+            out_len: 4 * texels(footprint),
             numbers_len: NUMBERS,
             spare_len: 2,
         }
@@ -162,7 +168,7 @@ impl BlockCase {
                 })
             });
         };
-        let row = Some(FOOTPRINTS[f].0);
+        let row = Some(sides(f)[0]);
         let mut numbers = vec![0; self.out_len];
         let fault = decode_u16(f, block, &mut numbers);
         let mut bytes = vec![0; self.out_len];
@@ -189,7 +195,7 @@ impl BlockCase {
         self.numbers_len == NUMBERS && self.spare_len == 2
     }
 
-    /// The reader's refusal: 1, 4, and 5 where its lists are not of 104 and of two numbers.
+    /// The reader's refusal: 1, 4, and 5 where its lists are not of 107 and of two numbers.
     pub fn read_refusal(&self) -> u8 {
         match read_refusal(self.footprint as usize, self.block.len()) {
             0 if !self.has_lists() => 5,
@@ -230,11 +236,10 @@ impl Case for BlockCase {
     fn smaller(&self) -> Vec<BlockCase> {
         let mut cases = Vec::new();
         let exact = self.whole().is_some();
-        for footprint in 0..self.footprint.min(14) {
+        for footprint in 0..self.footprint.min(ALL_FOOTPRINTS as u8) {
             let mut case = BlockCase { footprint, ..self.clone() };
             if exact {
-                let (w, h) = FOOTPRINTS[footprint as usize];
-                case.out_len = 4 * w * h;
+                case.out_len = 4 * texels(footprint as usize);
             }
             cases.push(case);
         }
@@ -308,7 +313,7 @@ impl SymbolicCase {
     pub fn written(&self) -> Result<[u8; 16], u8> {
         match self.whole() {
             Some(s) => write(self.footprint as usize, &s),
-            None if self.footprint > 13 => Err(1),
+            None if self.footprint as usize >= ALL_FOOTPRINTS => Err(1),
             None if self.block_len != 16 => Err(4),
             None => Err(5),
         }
@@ -332,7 +337,7 @@ impl Case for SymbolicCase {
 
     fn smaller(&self) -> Vec<SymbolicCase> {
         let mut cases = Vec::new();
-        for footprint in 0..self.footprint.min(14) {
+        for footprint in 0..self.footprint.min(ALL_FOOTPRINTS as u8) {
             cases.push(SymbolicCase { footprint, ..self.clone() });
         }
         for (i, &n) in self.numbers.iter().enumerate().rev() {
@@ -369,8 +374,8 @@ pub struct ImageCase {
     pub tally_len: usize,
 }
 
-/// A void extent, all channels 0.
-const PLAIN: [u8; 16] = [0xFC, 0xFD, 0xFF, 0xFF, 0xFF, 0xFF, 0xFF, 0xFF, 0, 0, 0, 0, 0, 0, 0, 0];
+/// A void extent, flat or of a volume, all channels 0.
+pub const PLAIN: [u8; 16] = [0xFC, 0xFD, 0xFF, 0xFF, 0xFF, 0xFF, 0xFF, 0xFF, 0, 0, 0, 0, 0, 0, 0, 0];
 
 impl ImageCase {
     /// 1, 3, 4, 5; 5 also where the tally is not of 3 numbers.

@@ -4,7 +4,7 @@ use std::fmt;
 
 use library::raw;
 use reference::random::Random;
-use reference::{FOOTPRINTS, Kind, fault, view_refusal};
+use reference::{ALL_FOOTPRINTS, Kind, fault, texels, view_refusal};
 
 use crate::Run;
 use crate::cases::{Case, lend};
@@ -86,7 +86,8 @@ impl Case for FaultsCase {
         }
         let sides = [width, height].iter().all(|side| (1..=16384).contains(side));
         let numbers = if sides { 4 * width as u64 * height as u64 } else { 0 };
-        let texels = FOOTPRINTS.get(footprint as usize).map_or(0, |(w, h)| 4 * w * h);
+        let known = (footprint as usize) < ALL_FOOTPRINTS;
+        let texels = if known { 4 * texels(footprint as usize) } else { 0 };
         let told = (raw::image_numbers(width, height), raw::block_numbers(footprint) as usize);
         (told != (numbers, texels)).then(|| format!("sizes {told:?}, expected {:?}", (numbers, texels)))
     }

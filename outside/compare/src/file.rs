@@ -4,7 +4,8 @@ use std::fmt;
 
 use reference::random::Random;
 use reference::{
-    FOOTPRINTS, FileHeader, Kind, Tally, decode_image_f16, decode_image_u8, decode_image_u16, file_header, read_file,
+    FOOTPRINTS, FileHeader, Kind, Tally, VOLUMES, decode_image_f16, decode_image_u8, decode_image_u16, file_header,
+    read_file,
 };
 
 use crate::Run;
@@ -13,6 +14,7 @@ use crate::cases::{Case, lend};
 /// What must occur.
 pub const SORTS: &[(&str, &[u32])] = &[
     ("file, refusal", &[0, 3, 4, 41, 42, 43]),
+    ("file of a volume", &[43]),
     ("file, footprint", &[0, 1, 2, 3, 4, 5, 6, 7, 8, 9, 10, 11, 12, 13]),
     ("file, header byte changed", &[0, 1, 2, 3, 4, 5, 6, 7, 8, 9, 10, 11, 12, 13, 14, 15]),
     ("file, header byte changed, taken", &[4, 5, 7, 10]),
@@ -340,6 +342,16 @@ pub fn cases(run: &mut Run, r: &mut Random, count: u64) {
         run.file(FileCase::new(bytes));
     }
     run.file(FileCase::new(file(r, 0, 16384, 1)));
+    // the file of a volume of one block
+    for sides in VOLUMES {
+        let mut bytes = file(r, 0, 1, 1);
+        for (axis, side) in sides.into_iter().enumerate() {
+            (bytes[4 + axis], bytes[7 + 3 * axis]) = (side as u8, side as u8);
+        }
+        let case = FileCase::new(bytes);
+        run.seen.count("file of a volume", case.refusal() as u32);
+        run.file(case);
+    }
     for footprint in 0..=255u8 {
         for (width, height) in [(1, 1), (16384, 1), (1, 16384), (16385, 1), (1, 16385), (0, 1), (1, 0), (65536, 4)] {
             run.header(HeaderCase { footprint, width, height, len: 16 });

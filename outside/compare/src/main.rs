@@ -11,6 +11,7 @@ mod pvrtc;
 mod seen;
 mod strict;
 mod view;
+mod volume;
 
 use std::time::{SystemTime, UNIX_EPOCH};
 
@@ -92,22 +93,22 @@ impl Run {
 
 /// The stored vectors against the library.
 fn vectors(run: &mut Run) {
-    let outcome = vectors::check(
-        &vectors::Decoder {
-            unorm16: &|footprint, block, out| library::raw::decode_block_unorm16(footprint as u8, block, out),
-            srgb8: &|footprint, block, out| library::raw::decode_block_srgb8(footprint as u8, block, out),
-            float16: &|footprint, block, out| library::raw::decode_block_float16(footprint as u8, block, out),
-        },
-        &vectors::STORED,
-    );
-    let [texels, digests, illegal, hdr, float16, float16_digests] = outcome.passed;
-    println!("vectors agree: texels {texels}, digests {digests}, illegal {illegal}, HDR {hdr}");
-    println!("vectors agree in kind 2, HDR blocks: texels {float16}, digests {float16_digests}");
-    for line in outcome.failed.iter().take(PRINTED as usize) {
-        println!("FAILED: vector, {line}");
+    let decoder = vectors::Decoder {
+        unorm16: &|footprint, block, out| library::raw::decode_block_unorm16(footprint as u8, block, out),
+        srgb8: &|footprint, block, out| library::raw::decode_block_srgb8(footprint as u8, block, out),
+        float16: &|footprint, block, out| library::raw::decode_block_float16(footprint as u8, block, out),
+    };
+    for (name, files) in [("vectors", vectors::STORED), ("vectors of volumes", vectors::STORED_VOLUMES)] {
+        let outcome = vectors::check(&decoder, &files);
+        let [texels, digests, illegal, hdr, float16, float16_digests] = outcome.passed;
+        println!("{name} agree: texels {texels}, digests {digests}, illegal {illegal}, HDR {hdr}");
+        println!("{name} agree in kind 2, HDR blocks: texels {float16}, digests {float16_digests}");
+        for line in outcome.failed.iter().take(PRINTED as usize) {
+            println!("FAILED: vector, {line}");
+        }
+        run.passed += outcome.passed.iter().sum::<u64>();
+        run.failed += outcome.failed.len() as u64;
     }
-    run.passed += outcome.passed.iter().sum::<u64>();
-    run.failed += outcome.failed.len() as u64;
 }
 
 const HELP: &str = "compare [--seed N] [--blocks N]
@@ -155,7 +156,7 @@ fn main() {
     for case in make::spare_bits(&mut r) {
         run.block(case);
     }
-    for case in make::hdr_marks(&mut r) {
+    for case in make::hdr_marks(&mut r).into_iter().chain(make::volume_limits(&mut r)) {
         run.symbolic(case);
     }
     for case in make::edges(&mut r) {
@@ -179,6 +180,7 @@ fn main() {
         }
         run.image(make::image(&mut r));
     }
+    volume::run(&mut run, &mut r, blocks / 100);
     pvrtc::run(&mut run, &mut r);
     caption::run(&mut run, &mut r);
     clip::cases(&mut run, &mut r, blocks / 50);

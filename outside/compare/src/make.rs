@@ -2,16 +2,17 @@
 
 use reference::random::*;
 use reference::tables::WEIGHT_RANGES;
-use reference::{FOOTPRINTS, NUMBERS, SymbolicBlock, refusal, write};
+use reference::{ALL_FOOTPRINTS, FOOTPRINTS, NUMBERS, SymbolicBlock, is_volume, refusal, sides, write};
 
 use crate::cases::{BlockCase, ImageCase, SymbolicCase};
+use crate::volume::VolumeCase;
 
 /// A block for any footprint: random, written, loosely written, mutated.
 fn any_block(r: &mut Random, footprint: usize) -> [u8; 16] {
     match r.below(20) {
         0..4 => r.bytes(),
         4..7 => block_of_any_mode(r),
-        7 => void_extent_block(r),
+        7 => void_extent_block(r, footprint),
         8..13 => write(footprint, &any_symbolic_block(r, footprint)).unwrap(),
         13..16 => {
             let s = any_symbolic_block(r, footprint);
@@ -24,22 +25,28 @@ fn any_block(r: &mut Random, footprint: usize) -> [u8; 16] {
     }
 }
 
+/// Any footprint, one in four a volume.
+fn footprint(r: &mut Random) -> usize {
+    if r.once_in(4) { volume_footprint(r) } else { flat_footprint(r) }
+}
+
 pub fn block(r: &mut Random) -> BlockCase {
     let footprint = footprint(r);
     let block = any_block(r, footprint);
     BlockCase::new(footprint, block)
 }
 
-/// Blocks of every block mode at every footprint that has some, written and loosely written.
+/// Blocks of every block mode at every footprint that has some, written and loosely written; of two modes that say the same, both.
 pub fn every_mode(r: &mut Random) -> Vec<BlockCase> {
     let mut cases = Vec::new();
-    for f in 0..FOOTPRINTS.len() {
+    for f in 0..ALL_FOOTPRINTS {
         for mode in 0..2048 {
             for _ in 0..2 {
                 let Some(s) = block_of_mode(r, f, mode) else { continue };
-                cases.push(BlockCase::new(f, write(f, &s).unwrap()));
                 let loose = loose_block(r, f, &s);
-                cases.push(BlockCase::new(f, loose));
+                for block in [write(f, &s).unwrap(), loose] {
+                    cases.push(BlockCase::new(f, with_mode(block, mode)));
+                }
             }
         }
     }
@@ -48,9 +55,8 @@ pub fn every_mode(r: &mut Random) -> Vec<BlockCase> {
 
 /// 02, g: blocks of every block mode with only the lowest spare bit set, only the highest, and all, with any fitting codes in their groups.
 pub fn spare_bits(r: &mut Random) -> Vec<BlockCase> {
-    let f = FOOTPRINTS.len() - 1;
     let mut cases = Vec::new();
-    for mode in 0..2048 {
+    for (f, mode) in (0..2048).flat_map(|mode| [(FOOTPRINTS.len() - 1, mode), (ALL_FOOTPRINTS - 1, mode)]) {
         for _ in 0..8 {
             let Some(s) = block_of_mode(r, f, mode) else { continue };
             let loose = loose_block(r, f, &s);
@@ -64,20 +70,21 @@ pub fn spare_bits(r: &mut Random) -> Vec<BlockCase> {
 /// extents with infinities and NaN, and LDR ones with the least and greatest colours.
 pub fn hdr_edges(r: &mut Random) -> Vec<BlockCase> {
     let mut cases = Vec::new();
-    for f in 0..FOOTPRINTS.len() {
-        for s in every_submode(r) {
+    for f in 0..ALL_FOOTPRINTS {
+        for s in every_submode(r, f) {
             cases.push(BlockCase::new(f, write(f, &s).unwrap()));
         }
         for mode in 0..2048 {
             let Some(s) = hdr_block_of_mode(r, f, mode) else { continue };
             let loose = loose_block(r, f, &s);
-            cases.push(BlockCase::new(f, loose));
+            cases.push(BlockCase::new(f, with_mode(loose, mode)));
         }
         for mode in HDR_MODES {
             for (n, weight) in [(0, 0), (0, 3), (255, 0), (255, 3), (127, 1), (128, 2)] {
-                let mut s = block_of_submode(r, mode, 0);
+                let mut s = block_of_submode(r, f, mode, 0);
                 s.endpoints[..2 * (mode as usize / 4 + 1)].fill(n);
-                s.weights[..16].fill(weight);
+                let count = s.weight_count();
+                s.weights[..count].fill(weight);
                 cases.push(BlockCase::new(f, write(f, &s).unwrap()));
             }
         }
@@ -89,7 +96,7 @@ pub fn hdr_edges(r: &mut Random) -> Vec<BlockCase> {
             (1, [0x7C00, 0xFC00, 0x7C01, 0xFC01]),
             (1, [0x7DFF, 0x7E00, 0x7FFF, 0xFFFF]),
         ] {
-            let s = SymbolicBlock { hdr, colours, ..void_extent(r) };
+            let s = SymbolicBlock { hdr, colours, ..void_extent(r, f) };
             cases.push(BlockCase::new(f, write(f, &s).unwrap()));
         }
     }
@@ -99,9 +106,9 @@ pub fn hdr_edges(r: &mut Random) -> Vec<BlockCase> {
 /// The HDR mark against the modes, at every footprint: each mode with marks 0 to 3, alone, and with a number besides that 34 refuses.
 pub fn hdr_marks(r: &mut Random) -> Vec<SymbolicCase> {
     let mut cases = Vec::new();
-    for f in 0..FOOTPRINTS.len() {
+    for f in 0..ALL_FOOTPRINTS {
         for mode in 0..16 {
-            let mut s = block_of_submode(r, 2, 0);
+            let mut s = block_of_submode(r, f, 2, 0);
             s.modes[0] = mode;
             s.endpoints = [0; 18];
             for hdr in [0, 1, 2, 3, 255, 256, 257, 65535] {
@@ -112,18 +119,29 @@ pub fn hdr_marks(r: &mut Random) -> Vec<SymbolicCase> {
             }
         }
         for hdr in [0, 1, 2, 3, 255, 256, 257, 65535] {
-            cases.push(SymbolicCase::new(f as u8, &SymbolicBlock { hdr, ..void_extent(r) }.to_numbers()));
+            cases.push(SymbolicCase::new(f as u8, &SymbolicBlock { hdr, ..void_extent(r, f) }.to_numbers()));
             // 31 comes before 12
-            let s = SymbolicBlock { hdr, extents: [1, 1, 0, 1], ..void_extent(r) };
+            let extents = if is_volume(f) { [1, 1, 0, 1, 0, 1] } else { [1, 1, 0, 1, 0, 0] };
+            let s = SymbolicBlock { hdr, extents, ..void_extent(r, f) };
             cases.push(SymbolicCase::new(f as u8, &s.to_numbers()));
         }
     }
     cases
 }
 
+/// A footprint from this one on, often itself.
+fn footprint_from(r: &mut Random, first: usize) -> u8 {
+    (if r.once_in(2) { first } else { first + r.below(256 - first) }) as u8
+}
+
 /// A footprint that is refused.
 fn bad_footprint(r: &mut Random) -> u8 {
-    if r.once_in(2) { 14 } else { 14 + r.below(242) as u8 }
+    footprint_from(r, ALL_FOOTPRINTS)
+}
+
+/// A footprint that is refused where flat ones only are taken.
+fn bad_flat_footprint(r: &mut Random) -> u8 {
+    footprint_from(r, FOOTPRINTS.len())
 }
 
 /// A length near the right one, or 0, or any.
@@ -162,9 +180,9 @@ pub fn refused_block(r: &mut Random) -> BlockCase {
 }
 
 /// Values at the fields' limits.
-const LIMITS: [u16; 28] = [
-    0, 1, 2, 3, 4, 5, 6, 7, 8, 11, 12, 13, 15, 16, 31, 32, 63, 64, 191, 255, 256, 1023, 1024, 8190, 8191, 8192, 32768,
-    65535,
+const LIMITS: [u16; 31] = [
+    0, 1, 2, 3, 4, 5, 6, 7, 8, 11, 12, 13, 15, 16, 31, 32, 63, 64, 191, 255, 256, 510, 511, 512, 1023, 1024, 8190,
+    8191, 8192, 32768, 65535,
 ];
 
 /// Numbers of a symbolic block: acceptable, nearly so, or anything.
@@ -183,7 +201,7 @@ pub fn symbolic(r: &mut Random) -> SymbolicCase {
         }
         11..13 => {
             // Settings that no block of this footprint may have; numbers where they are acceptable.
-            let mut s = SymbolicBlock { hdr: r.below(2) as u16, ..settings(r, true) };
+            let mut s = SymbolicBlock { hdr: r.below(2) as u16, ..settings(r, f, true) };
             if refusal(f, &s) == 0 {
                 fill_numbers(r, &mut s);
             }
@@ -199,12 +217,12 @@ pub fn symbolic(r: &mut Random) -> SymbolicCase {
             SymbolicBlock::from_numbers(&numbers)
         }
         _ => {
-            let mut s = void_extent(r);
+            let mut s = void_extent(r, f);
+            let axis = r.below(if is_volume(f) { 3 } else { 2 });
             match r.below(4) {
-                0 => s.extents.swap(0, 1),
-                1 => s.extents.swap(2, 3),
-                2 => s.extents[r.below(4)] = r.pick(&LIMITS),
-                _ => s.extents[1] = s.extents[0],
+                0 | 1 => s.extents.swap(2 * axis, 2 * axis + 1),
+                2 => s.extents[r.below(6)] = r.pick(&LIMITS),
+                _ => s.extents[2 * axis + 1] = s.extents[2 * axis],
             }
             s
         }
@@ -213,12 +231,53 @@ pub fn symbolic(r: &mut Random) -> SymbolicCase {
     SymbolicCase::new(footprint, &s.to_numbers())
 }
 
+/// Limits of the depth and of the extents (02, h), each at every footprint and nothing else wrong: every depth of the grid, its sides from 6 on,
+/// a grid larger than the footprint on one axis alone, every extent around its largest, and extents that are bad on one axis alone.
+pub fn volume_limits(r: &mut Random) -> Vec<SymbolicCase> {
+    let mut cases = Vec::new();
+    for f in 0..ALL_FOOTPRINTS {
+        let mut put = |s: SymbolicBlock| cases.push(SymbolicCase::new(f as u8, &s.to_numbers()));
+        for _ in 0..8 {
+            let s = mode_block(r, f);
+            for depth in [0, 1, 2, 3, 4, 5, 6, 7, 8, 255, 256, 65535] {
+                put(SymbolicBlock { depth, ..s });
+            }
+            for side in 5..14 {
+                put(SymbolicBlock { width: side, ..s });
+                put(SymbolicBlock { height: side, ..s });
+            }
+            for axis in 0..3 {
+                let mut grid = [2; 3];
+                grid[axis] = sides(f)[axis] as u16 + 1;
+                let [width, height, depth] = grid;
+                put(SymbolicBlock { width, height, depth, range: 0, planes: 1, plane_channel: 0, ..s });
+            }
+            let solid = void_extent(r, f);
+            put(SymbolicBlock { depth: 1, ..solid });
+            for place in 0..6 {
+                for extent in [0, 1, 510, 511, 512, 8190, 8191, 8192, 65535] {
+                    let mut s = solid;
+                    s.extents[place] = extent;
+                    put(s);
+                }
+            }
+            for axis in 0..3 {
+                let mut equal = solid;
+                equal.extents = std::array::from_fn(|i| if i < 4 || is_volume(f) { 7 + i as u16 } else { 0 });
+                equal.extents[2 * axis + 1] = equal.extents[2 * axis];
+                put(equal);
+            }
+        }
+    }
+    cases
+}
+
 /// At every footprint and each place of the list one number above 255: an acceptable one with other high bits, or any.
 pub fn above_255(r: &mut Random) -> Vec<SymbolicCase> {
     let mut cases = Vec::new();
-    for f in 0..FOOTPRINTS.len() {
+    for f in 0..ALL_FOOTPRINTS {
         for place in 0..NUMBERS {
-            for s in [mode_block(r, f), mode_block(r, f), hdr_mode_block(r, f), void_extent(r)] {
+            for s in [mode_block(r, f), mode_block(r, f), hdr_mode_block(r, f), void_extent(r, f)] {
                 for above in [256 * (1 + r.below(255)), 256, 1024, 8192, 256 + r.below(65280), 65535] {
                     let mut numbers = s.to_numbers();
                     numbers[place] = if above % 256 == 0 { numbers[place] % 256 + above as u16 } else { above as u16 };
@@ -250,7 +309,7 @@ pub fn refused_lists(r: &mut Random) -> SymbolicCase {
 /// A symbolic block that is refused by 20 alone: HDR, without its mark.
 fn unmarked_block(r: &mut Random, footprint: usize) -> SymbolicBlock {
     loop {
-        let s = settings(r, true);
+        let s = settings(r, footprint, true);
         if refusal(footprint, &s) == 20 {
             return s;
         }
@@ -274,7 +333,7 @@ impl Used {
         Used {
             endpoints: s.modes[..s.partitions as usize].iter().map(|&m| 2 * (m as usize / 4 + 1)).sum(),
             endpoint_most: s.endpoint_most(),
-            weights: (s.width * s.height * s.planes) as usize,
+            weights: s.weight_count(),
             weight_most: WEIGHT_RANGES[s.range as usize].most,
         }
     }
@@ -283,10 +342,10 @@ impl Used {
 /// Changes one field or number.
 fn spoil(r: &mut Random, s: &mut SymbolicBlock, used: &Used) {
     let limit = r.pick(&LIMITS);
-    match r.below(25) {
+    match r.below(27) {
         0 => s.mark = limit,
         1 => s.colours[r.below(4)] = limit,
-        2 => s.extents[r.below(4)] = limit,
+        2 => s.extents[r.below(6)] = limit,
         3 => s.width = r.below(14) as u16,
         4 => s.height = r.below(14) as u16,
         5 => (s.width, s.height) = (2 + r.below(11) as u16, 2 + r.below(11) as u16),
@@ -309,6 +368,8 @@ fn spoil(r: &mut Random, s: &mut SymbolicBlock, used: &Used) {
         20 => s.endpoints[r.below(used.endpoints.max(1))] = used.endpoint_most + 1,
         21 => s.weights[r.below(used.weights.max(1))] = used.weight_most + 1,
         22 => s.hdr = r.pick(&[0, 1, 1 - s.hdr.min(1), limit]),
+        23 => s.depth = r.below(8) as u16,
+        24 => (s.width, s.height, s.depth) = (2 + r.below(6) as u16, 2 + r.below(6) as u16, 2 + r.below(6) as u16),
         _ => {
             let mut numbers = s.to_numbers();
             numbers[r.below(NUMBERS)] = limit;
@@ -319,7 +380,7 @@ fn spoil(r: &mut Random, s: &mut SymbolicBlock, used: &Used) {
 
 /// An image of small sides, some of its blocks faulty.
 pub fn image(r: &mut Random) -> ImageCase {
-    let f = footprint(r);
+    let f = flat_footprint(r);
     let side = |r: &mut Random| 1 + if r.once_in(3) { r.below(13) } else { r.below(40) } as u32;
     let (width, height) = (side(r), side(r));
     // From no faulty block to many; mostly few, so that every fault comes first now and then.
@@ -327,20 +388,90 @@ pub fn image(r: &mut Random) -> ImageCase {
     image_of(r, f, width, height, many)
 }
 
-/// One block in `many` is of any sort (0: none), the others are without fault; in every other image these may be HDR.
-fn image_of(r: &mut Random, f: usize, width: u32, height: u32, many: usize) -> ImageCase {
+/// The blocks of a picture. One in `many` is of any sort (0: none), the others are without fault; in every other picture these may be HDR.
+fn blocks_of(r: &mut Random, f: usize, size: [u32; 3], many: usize) -> Vec<u8> {
     let hdr = r.once_in(2);
-    let (w, h) = FOOTPRINTS[f];
-    let count = (width as usize).div_ceil(w) * (height as usize).div_ceil(h);
     let mut blocks = Vec::new();
-    for _ in 0..count {
+    for _ in 0..size.iter().zip(sides(f)).map(|(&side, block)| (side as usize).div_ceil(block)).product() {
         blocks.extend(if many > 0 && r.once_in(many) {
             any_block(r, f)
         } else {
             write(f, &if hdr { any_symbolic_block(r, f) } else { symbolic_block(r, f) }).unwrap()
         });
     }
+    blocks
+}
+
+fn image_of(r: &mut Random, f: usize, width: u32, height: u32, many: usize) -> ImageCase {
+    let blocks = blocks_of(r, f, [width, height, 1], many);
     ImageCase { footprint: f as u8, width, height, blocks, out_len: 4 * (width * height) as usize, tally_len: 3 }
+}
+
+fn volume_of(r: &mut Random, f: usize, size: [u32; 3], many: usize) -> VolumeCase {
+    let blocks = blocks_of(r, f, size, many);
+    let out_len = 4 * size.iter().map(|&side| side as usize).product::<usize>();
+    VolumeCase { footprint: f as u8, size, blocks, out_len, tally_len: 3 }
+}
+
+/// A volume of small sides, some of its blocks faulty; one in four of a flat footprint.
+pub fn volume(r: &mut Random) -> VolumeCase {
+    let f = if r.once_in(4) { flat_footprint(r) } else { volume_footprint(r) };
+    let size = [0; 3].map(|_| 1 + if r.once_in(3) { r.below(7) } else { r.below(14) } as u32);
+    let many = r.pick(&[0, 20, 5, 1]);
+    volume_of(r, f, size, many)
+}
+
+/// At every footprint volumes of one texel, of one block, with an edge block on each axis alone and on all, and with the largest side on each.
+pub fn volume_edges(r: &mut Random) -> Vec<VolumeCase> {
+    let mut cases = Vec::new();
+    for f in 0..ALL_FOOTPRINTS {
+        let block = sides(f).map(|side| side as u32);
+        let mut sizes = vec![[1; 3], block, block.map(|side| side + 1), block.map(|side| 2 * side)];
+        for (axis, largest) in [16384, 16384, 2048].into_iter().enumerate() {
+            for (side, others) in [(block[axis] + 1, block), (largest, [1, 2, 1])] {
+                let mut size = others;
+                size[axis] = side;
+                sizes.push(size);
+            }
+        }
+        for size in sizes {
+            cases.push(volume_of(r, f, size, 5));
+        }
+    }
+    cases
+}
+
+/// A volume call that is refused; several reasons may hold at once.
+pub fn refused_volume(r: &mut Random) -> VolumeCase {
+    let mut case = volume(r);
+    let reason = 1 + r.below(31);
+    if reason & 1 != 0 {
+        case.footprint = bad_footprint(r);
+    }
+    if reason & 2 != 0 {
+        let axis = r.below(3);
+        let above = if axis == 2 { 2049 } else { 16385 };
+        case.size[axis] = r.pick(&[0, above, above + 1, 65536, 1 << 31, u32::MAX]);
+        // Lengths that such a volume would have, where they are small enough to lend.
+        let f = case.footprint as usize;
+        let [w, h, d] = case.size.map(|side| side as usize);
+        if f < ALL_FOOTPRINTS && w.saturating_mul(h).saturating_mul(d) < 1_000_000 && r.once_in(2) {
+            let count: usize = [w, h, d].iter().zip(sides(f)).map(|(side, block)| side.div_ceil(block)).product();
+            case.blocks.resize(16 * count, 0x42);
+            case.out_len = 4 * w * h * d;
+        }
+    }
+    if reason & 4 != 0 {
+        let len = other_length(r, case.blocks.len());
+        case.blocks.resize(len, 0x42);
+    }
+    if reason & 8 != 0 {
+        case.out_len = other_length(r, case.out_len);
+    }
+    if reason & 16 != 0 {
+        case.tally_len = other_length(r, 3);
+    }
+    case
 }
 
 /// Images with a side of 16,384, at every footprint.
@@ -365,7 +496,7 @@ pub fn refused_image(r: &mut Random) -> ImageCase {
     let mut case = image(r);
     let reason = 1 + r.below(31);
     if reason & 1 != 0 {
-        case.footprint = bad_footprint(r);
+        case.footprint = bad_flat_footprint(r);
     }
     if reason & 2 != 0 {
         let side = r.pick(&[0, 16385, 16386, 65536, 1 << 31, u32::MAX]);

@@ -4,10 +4,12 @@ use std::collections::BTreeSet;
 use std::fmt;
 
 use library::raw;
-use reference::random::{Random, loose_block, spare_edges};
+use reference::random::{Random, fill_numbers, loose_block, one_partition, spare_edges, twin, with_mode};
+use reference::tables::Grid;
 use reference::{
-    FOOTPRINTS, Kind, NUMBERS, block_refusal, canonical, decode_f16, decode_image_f16, decode_image_u8,
-    decode_image_u16, decode_u8, decode_u16, fault, image_refusal, read, read_refusal, read_spare, strict_fault, write,
+    ALL_FOOTPRINTS, Kind, NUMBERS, block_refusal, canonical, decode_f16, decode_image_f16, decode_image_u8,
+    decode_image_u16, decode_u8, decode_u16, fault, image_refusal, is_volume, read, read_refusal, read_spare, refusal,
+    strict_fault, texels, write,
 };
 
 use crate::Run;
@@ -28,7 +30,7 @@ struct StrictBlock {
 
 impl StrictBlock {
     fn whole(&self) -> Option<&[u8; 16]> {
-        (self.footprint < 14).then(|| self.block.as_slice().try_into().ok()).flatten()
+        ((self.footprint as usize) < ALL_FOOTPRINTS).then(|| self.block.as_slice().try_into().ok()).flatten()
     }
 
     /// The texels of a kind in 16 bits, and what is told.
@@ -107,7 +109,7 @@ impl StrictBlock {
         difference.or_else(|| (told_spare != wanted).then(|| format!("spare bits {told_spare:?}, expected {wanted:?}")))
     }
 
-    /// Its canonical form, in a buffer of `numbers_len` bytes, 104 standing for sixteen.
+    /// Its canonical form, in a buffer of `numbers_len` bytes, 107 standing for sixteen.
     fn rewrites(&self) -> Option<String> {
         let f = self.footprint as usize;
         let len = if self.numbers_len == NUMBERS { 16 } else { self.numbers_len };
@@ -267,25 +269,46 @@ pub fn require(seen: &mut Seen) {
     seen.require("strict image call, refusal", [0, 1, 3, 4, 5]);
     seen.require("strict image, first fault in kind 2", [0, 11, 12, 14, 15, 16, 17, 18, 19, 21]);
     seen.require("a family of blocks with one sheet, HDR mark", 0..2);
-    seen.require("not canonical: 0 by a spare bit alone, 1 by a code alone, 2 by both", 0..3);
+    seen.require(NOT_CANONICAL, 0..5);
+    seen.require(
+        "strict reading of a volume's block, fault in kinds 0 and 1",
+        [0, 11, 12, 13, 14, 15, 16, 17, 18, 19, 20, 21],
+    );
+    seen.require("strict reading of a volume's block, fault in kind 2", [0, 11, 12, 14, 15, 16, 17, 18, 19, 21]);
+    seen.require("a family of blocks with one sheet, footprint", 0..ALL_FOOTPRINTS as u32);
+    seen.require("a family of blocks with two block modes, range", 0..6);
 }
 
+const NOT_CANONICAL: &str = "not canonical: 0 by a spare bit alone, 1 by a code alone, 2 by both, 3 by the block mode alone, 4 by it and others";
+
 fn block(run: &mut Run, footprint: usize, block: [u8; 16]) {
-    for (kind, sort) in
-        [(Kind::Srgb8, "strict reading, fault in kinds 0 and 1"), (Kind::Float16, "strict reading, fault in kind 2")]
-    {
+    for (kind, flat, volume) in [
+        (
+            Kind::Srgb8,
+            "strict reading, fault in kinds 0 and 1",
+            "strict reading of a volume's block, fault in kinds 0 and 1",
+        ),
+        (Kind::Float16, "strict reading, fault in kind 2", "strict reading of a volume's block, fault in kind 2"),
+    ] {
+        let sort = if is_volume(footprint) { volume } else { flat };
         run.seen.count(sort, strict_fault(footprint, kind, &block) as u32);
     }
     if let Some(own) = canonical(footprint, &block).filter(|own| *own != block) {
         let (_, spare) = read_spare(footprint, &block).expect("a block without fault");
         let clear = spare_cleared(footprint, &block);
-        let sort = if !spare.set { 1 } else { 2 * (clear != own) as u32 };
-        run.seen.count("not canonical: 0 by a spare bit alone, 1 by a code alone, 2 by both", sort);
+        let mode = |block: [u8; 16]| (u128::from_le_bytes(block) & 2047) as usize;
+        let sort = if mode(block) != mode(own) {
+            3 + (with_mode(block, mode(own)) != own) as u32
+        } else if !spare.set {
+            1
+        } else {
+            2 * (clear != own) as u32
+        };
+        run.seen.count(NOT_CANONICAL, sort);
     }
-    let (w, h) = FOOTPRINTS[footprint];
     run.seen.count("strict block call, refusal", 0);
-    let (footprint, block) = (footprint as u8, block.to_vec());
-    run.case(StrictBlock { footprint, block, out_len: 4 * w * h, numbers_len: NUMBERS });
+    let out_len = 4 * texels(footprint);
+    run.case(StrictBlock { footprint: footprint as u8, block: block.to_vec(), out_len, numbers_len: NUMBERS });
 }
 
 /// The block with its spare bits clear.
@@ -296,8 +319,8 @@ fn spare_cleared(footprint: usize, block: &[u8; 16]) -> [u8; 16] {
     (u128::from_le_bytes(*block) & !(all & !none)).to_le_bytes()
 }
 
-/// Blocks that read as one symbolic block: the writer's, others with larger codes in whole and cut groups, and spare bits set. Exactly one
-/// of them passes the strict reading, and it is the writer's.
+/// Blocks that read as one symbolic block: the writer's, others with larger codes in whole and cut groups, spare bits set, and the larger of two
+/// block modes. Exactly one of them passes the strict reading, and it is the writer's.
 fn family(run: &mut Run, r: &mut Random, footprint: usize, own: [u8; 16]) {
     let s = read(footprint, &own).expect("what was written");
     let mut blocks = BTreeSet::from([own]);
@@ -308,7 +331,13 @@ fn family(run: &mut Run, r: &mut Random, footprint: usize, own: [u8; 16]) {
         blocks.insert(spare_cleared(footprint, &loose));
     }
     blocks.extend(spare_edges(footprint, own));
+    let twins: Vec<[u8; 16]> = blocks.iter().filter_map(|&block| twin(footprint, block)).collect();
+    blocks.extend(&twins);
     run.seen.count("a family of blocks with one sheet, HDR mark", s.hdr as u32);
+    run.seen.count("a family of blocks with one sheet, footprint", footprint as u32);
+    if !twins.is_empty() {
+        run.seen.count("a family of blocks with two block modes, range", s.range as u32);
+    }
     let mut passing = Vec::new();
     for member in &blocks {
         assert_eq!(read(footprint, member), Ok(s.clone()), "a family reads as one sheet");
@@ -328,14 +357,29 @@ fn family(run: &mut Run, r: &mut Random, footprint: usize, own: [u8; 16]) {
     }
 }
 
+/// A family of each setting that has two block modes, at each footprint that has it.
+fn two_modes(run: &mut Run, r: &mut Random) {
+    for (f, range, turn) in (21..ALL_FOOTPRINTS).flat_map(|f| (0..18).map(move |n| (f, n / 3, n as usize % 3))) {
+        let mut sides = [2; 3];
+        sides[turn] = 6;
+        let [width, height, depth] = sides;
+        let mut s = one_partition(Grid { width, height, depth, range, planes: 1 });
+        if refusal(f, &s) == 0 {
+            fill_numbers(r, &mut s);
+            family(run, r, f, write(f, &s).expect("acceptable"));
+        }
+    }
+}
+
 pub fn run(run: &mut Run, r: &mut Random, count: u64) {
+    two_modes(run, r);
     for i in 0..count {
         let case = make::block(r);
         if let Some(whole) = case.whole() {
             block(run, case.footprint as usize, *whole);
         }
         let case = make::symbolic(r);
-        if let (Some(s), true) = (case.whole(), case.footprint < 14)
+        if let (Some(s), true) = (case.whole(), (case.footprint as usize) < ALL_FOOTPRINTS)
             && i % 20 == 0
             && let Ok(own) = write(case.footprint as usize, &s)
         {

@@ -6,7 +6,7 @@ use std::path::Path;
 use reference::random::*;
 use reference::tables::{ENDPOINT_RANGES, Encoding, WEIGHT_RANGES};
 use reference::{
-    FOOTPRINTS, Kind, NUMBERS, SymbolicBlock, bit_count, ending, fault, read_spare, refusal, unpack, write,
+    ALL_FOOTPRINTS, Kind, NUMBERS, SymbolicBlock, bit_count, ending, fault, read_spare, refusal, unpack, write,
 };
 
 /// 01's numbers of a writer's refusals.
@@ -19,7 +19,8 @@ fn main() {
     let mut r = Random(2026);
     writer_runs(&mut r, Path::new(&dir));
     reader_runs(&mut r, Path::new(&dir));
-    sequence_runs(&mut r, Path::new(&dir));
+    // its own seed, so that it does not change with the others
+    sequence_runs(&mut Random(0x27af_941b_6e2c_cb94), Path::new(&dir));
 }
 
 fn writer_runs(r: &mut Random, dir: &Path) {
@@ -31,21 +32,21 @@ fn writer_runs(r: &mut Random, dir: &Path) {
             Err(number) => format!("refused {number}\n"),
         };
     };
-    for footprint in 0..FOOTPRINTS.len() {
+    for footprint in 0..ALL_FOOTPRINTS {
         for _ in 0..EACH {
             put(footprint, &mode_block(r, footprint));
         }
-        put(footprint, &void_extent(r));
+        put(footprint, &void_extent(r, footprint));
         for _ in 0..2 {
             put(footprint, &hdr_mode_block(r, footprint));
         }
-        put(footprint, &hdr_void_extent(r));
+        put(footprint, &hdr_void_extent(r, footprint));
     }
     for wanted in REFUSALS {
         let mut found = 0;
         while found < EACH {
-            let footprint = if wanted == 1 { 14 + r.below(242) } else { reference::random::footprint(r) };
-            let s = candidate(r, footprint.min(13));
+            let footprint = if wanted == 1 { ALL_FOOTPRINTS + r.below(256 - ALL_FOOTPRINTS) } else { any_footprint(r) };
+            let s = candidate(r, footprint.min(ALL_FOOTPRINTS - 1));
             if in_bytes(&s) && refusal(footprint, &s) == wanted {
                 put(footprint, &s);
                 found += 1;
@@ -59,8 +60,8 @@ fn writer_runs(r: &mut Random, dir: &Path) {
 /// Acceptable, with a number changed, or with any settings.
 fn candidate(r: &mut Random, footprint: usize) -> SymbolicBlock {
     let mut s = match r.below(6) {
-        0 => settings(r, true),
-        1 => void_extent(r),
+        0 => settings(r, footprint, true),
+        1 => void_extent(r, footprint),
         2 => hdr_symbolic_block(r, footprint),
         3 => SymbolicBlock { hdr: 1, ..mode_block(r, footprint) },
         _ => mode_block(r, footprint),
@@ -74,23 +75,24 @@ fn candidate(r: &mut Random, footprint: usize) -> SymbolicBlock {
 }
 
 /// Only colours, extents and the partition index are more than a byte.
-fn in_bytes(s: &SymbolicBlock) -> bool {
-    let numbers = s.to_numbers();
-    (0..NUMBERS).all(|i| (1..9).contains(&i) || i == 15 || numbers[i] < 256)
+fn is_wide(place: usize) -> bool {
+    matches!(place, 1..9 | 15 | 105..107)
 }
 
+fn in_bytes(s: &SymbolicBlock) -> bool {
+    s.to_numbers().into_iter().enumerate().all(|(i, n)| is_wide(i) || n < 256)
+}
+
+/// The footprint, then the list of numbers: a byte each, the wide ones two, low byte first.
 fn record(footprint: usize, s: &SymbolicBlock) -> Vec<u8> {
     let mut bytes = vec![footprint as u8];
     for (i, n) in s.to_numbers().into_iter().enumerate() {
-        bytes.push(n as u8);
-        if (1..9).contains(&i) || i == 15 {
-            bytes.push((n >> 8) as u8);
-        }
+        bytes.extend(&n.to_le_bytes()[..1 + is_wide(i) as usize]);
     }
     bytes
 }
 
-/// Blocks with any fitting codes and any spare bits, blocks of any mode, void extents, and a footprint that is refused.
+/// Blocks with any fitting codes, any spare bits and either of two block modes, blocks of any mode, void extents, and a footprint that is refused.
 fn reader_runs(r: &mut Random, dir: &Path) {
     let (mut input, mut output) = (Vec::new(), String::new());
     let mut put = |footprint: usize, block: [u8; 16]| {
@@ -98,40 +100,40 @@ fn reader_runs(r: &mut Random, dir: &Path) {
         input.extend(block);
         output += &told(footprint, &block);
     };
-    for footprint in 0..FOOTPRINTS.len() {
+    for footprint in 0..ALL_FOOTPRINTS {
         for _ in 0..EACH {
             let s = mode_block(r, footprint);
             put(footprint, loose_block(r, footprint, &s));
             put(footprint, block_of_any_mode(r));
-            put(footprint, void_extent_block(r));
+            put(footprint, void_extent_block(r, footprint));
         }
         for _ in 0..2 {
             let s = hdr_mode_block(r, footprint);
             put(footprint, loose_block(r, footprint, &s));
         }
-        put(footprint, write(footprint, &hdr_void_extent(r)).expect("an acceptable symbolic block"));
+        put(footprint, write(footprint, &hdr_void_extent(r, footprint)).expect("an acceptable symbolic block"));
     }
     // 13 and 20 are of kinds 0 and 1: the reader takes these blocks
     for wanted in 11..=20 {
         let mut found = 0;
         while found < EACH {
-            let footprint = reference::random::footprint(r);
+            let footprint = any_footprint(r);
             let block = block_of_any_mode(r);
-            let block = if r.once_in(2) { void_extent_block(r) } else { block };
+            let block = if r.once_in(2) { void_extent_block(r, footprint) } else { block };
             if fault(footprint, Kind::Unorm16, &block) == wanted {
                 put(footprint, block);
                 found += 1;
             }
         }
     }
-    put(14, r.bytes());
+    put(ALL_FOOTPRINTS, r.bytes());
     put(255, r.bytes());
     store(dir.join("reader.in"), input).expect("reader.in");
     store(dir.join("reader.out"), output).expect("reader.out");
 }
 
 fn told(footprint: usize, block: &[u8; 16]) -> String {
-    if footprint > 13 {
+    if footprint >= ALL_FOOTPRINTS {
         return "refused 1\n".into();
     }
     match read_spare(footprint, block) {

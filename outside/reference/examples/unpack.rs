@@ -10,7 +10,9 @@ use std::fs::write as store;
 use std::io::Read;
 use std::path::Path;
 
-use reference::random::{Random, block_of_any_mode, fault20_block, footprint, hdr_mode_block, mode_block};
+use reference::random::{
+    Random, all_ones, block_of_any_mode, fault20_block, flat_footprint, hdr_mode_block, mode_block,
+};
 use reference::{FOOTPRINTS, Kind, SymbolicBlock, decode, fault, write};
 
 fn main() {
@@ -61,7 +63,7 @@ fn make(dir: &Path) {
         put(dir, &format!("coded_{w}x{h}_kind_2"), f, 2, &block);
     }
     put(dir, "ldr_kind_2", 4, 2, &write(4, &mode_block(&mut r, 4)).expect("an acceptable symbolic block"));
-    let solid = SymbolicBlock { mark: 1, extents: [8191; 4], ..SymbolicBlock::ZERO };
+    let solid = SymbolicBlock { mark: 1, extents: all_ones(0), ..SymbolicBlock::ZERO };
     // infinity, a signalling NaN, a negative number, 65535
     for (name, hdr, colours) in [("ldr", 0, [3, 0x5400, 0xFFFE, 0xFFFF]), ("hdr", 1, [0x7C00, 0xFD01, 0x9234, 0xFFFF])]
     {
@@ -73,7 +75,7 @@ fn make(dir: &Path) {
 /// A block that has the fault, at a random footprint.
 fn faulty(r: &mut Random, wanted: u8) -> (usize, [u8; 16]) {
     loop {
-        let f = footprint(r);
+        let f = flat_footprint(r);
         let block = if wanted == 20 { fault20_block(r, f).0 } else { block_of_any_mode(r) };
         if fault(f, Kind::Unorm16, &block) == wanted {
             return (f, block);

@@ -2,11 +2,11 @@
 
 use crate::sequence::bit_count;
 use crate::tables::{BLOCK_MODES, BlockMode, ENDPOINT_RANGES, Grid, WEIGHT_RANGES};
-use crate::{FOOTPRINTS, Kind};
+use crate::{Kind, is_volume, sides_as};
 
 /// A block without fault, its fields found.
 pub enum Settings {
-    VoidExtent { hdr: bool, colours: [u16; 4], extents: [u16; 4] },
+    VoidExtent { hdr: bool, colours: [u16; 4], extents: [u16; 6] },
     Mode(ModeSettings),
 }
 
@@ -47,19 +47,55 @@ pub fn endpoint_range(n: usize, left: i32) -> Option<usize> {
     (0..ENDPOINT_RANGES.len()).rev().find(|&r| bit_count(ENDPOINT_RANGES[r], n as u32) as i32 <= left)
 }
 
-/// Extents neither all ones nor low < high on both axes (part of fault 12).
-pub fn bad_extents(extents: [u16; 4]) -> bool {
-    let [low_s, high_s, low_t, high_t] = extents;
-    extents != [8191; 4] && !(low_s < high_s && low_t < high_t)
+/// How the extents of a void extent lie: low s, high s, low t, high t, and of a volume low r, high r.
+pub struct Extents {
+    /// Bit of the first.
+    pub start: u32,
+    /// Bits of each.
+    pub bits: u32,
+    pub count: usize,
+}
+
+impl Extents {
+    pub const fn of(volume: bool) -> Extents {
+        if volume { Extents { start: 10, bits: 9, count: 6 } } else { Extents { start: 12, bits: 13, count: 4 } }
+    }
+
+    /// The largest, all ones.
+    pub const fn most(&self) -> u16 {
+        (1 << self.bits) - 1
+    }
+
+    /// Neither all ones nor low < high on every axis (part of fault 12).
+    #[inline]
+    pub fn are_bad(&self, extents: [u16; 6]) -> bool {
+        let used = &extents[..self.count];
+        used.iter().any(|&e| e != self.most()) && used.chunks(2).any(|axis| axis[0] >= axis[1])
+    }
 }
 
 /// The first fault of a block, or its settings; 13 and 20 only where HDR is not taken.
+#[inline]
 pub fn parse(footprint: usize, takes_hdr: bool, block: u128) -> Result<Settings, u8> {
-    let grid = match BLOCK_MODES[bits(block, 0, 11) as usize] {
+    if is_volume(footprint) {
+        parse_as::<true>(footprint, takes_hdr, block)
+    } else {
+        parse_as::<false>(footprint, takes_hdr, block)
+    }
+}
+
+/// The same where it is known whether the footprint is a volume.
+pub fn parse_as<const VOLUME: bool>(footprint: usize, takes_hdr: bool, block: u128) -> Result<Settings, u8> {
+    let grid = match BLOCK_MODES[VOLUME as usize][bits(block, 0, 11) as usize] {
         BlockMode::Reserved => return Err(11),
         BlockMode::VoidExtent => {
-            let extents = [0, 1, 2, 3].map(|i| bits(block, 12 + 13 * i, 13) as u16);
-            if bits(block, 10, 2) != 3 || bad_extents(extents) {
+            let layout = Extents::of(VOLUME);
+            let mut extents = [0; 6];
+            for (i, extent) in extents[..layout.count].iter_mut().enumerate() {
+                *extent = bits(block, layout.start + layout.bits * i as u32, layout.bits) as u16;
+            }
+            let fixed = VOLUME || bits(block, 10, 2) == 3;
+            if !fixed || layout.are_bad(extents) {
                 return Err(12);
             }
             let hdr = bits(block, 9, 1) == 1;
@@ -71,11 +107,11 @@ pub fn parse(footprint: usize, takes_hdr: bool, block: u128) -> Result<Settings,
         }
         BlockMode::Grid(grid) => grid,
     };
-    let (width, height) = FOOTPRINTS[footprint];
-    if grid.width as usize > width || grid.height as usize > height {
+    let [width, height, depth] = sides_as::<VOLUME>(footprint);
+    if grid.width as usize > width || grid.height as usize > height || grid.depth as usize > depth {
         return Err(14);
     }
-    let weight_count = grid.width as usize * grid.height as usize * grid.planes as usize;
+    let weight_count = grid.width as usize * grid.height as usize * grid.depth as usize * grid.planes as usize;
     if weight_count > 64 {
         return Err(15);
     }
@@ -148,6 +184,7 @@ pub fn parse(footprint: usize, takes_hdr: bool, block: u128) -> Result<Settings,
 }
 
 /// The first fault (11 to 20) of a block at a footprint in a kind, 0 where there is none.
+#[inline]
 pub fn fault(footprint: usize, kind: Kind, block: &[u8; 16]) -> u8 {
     parse(footprint, kind.takes_hdr(), u128::from_le_bytes(*block)).err().unwrap_or(0)
 }

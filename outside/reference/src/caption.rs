@@ -5,7 +5,7 @@ use crate::{SymbolicBlock, decode_u8, write};
 /// The block with these ends and weights: 4x4 footprint, one partition, one plane, mode 0, grid 4x4, range field 2.
 pub fn block_with(e0: u8, e1: u8, weights: &[u8; 16]) -> [u8; 16] {
     let mut s = SymbolicBlock::ZERO;
-    [s.width, s.height, s.range, s.planes, s.partitions] = [4, 4, 2, 1, 1];
+    [s.width, s.height, s.depth, s.range, s.planes, s.partitions] = [4, 4, 1, 2, 1, 1];
     [s.endpoints[0], s.endpoints[1]] = [e0 as u16, e1 as u16];
     for (to, &weight) in s.weights.iter_mut().zip(weights) {
         *to = weight as u16;

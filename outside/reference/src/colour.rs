@@ -80,7 +80,7 @@ fn hash52(mut p: u32) -> u32 {
     p
 }
 
-/// 000, "Partition Pattern Generation", all but the place: for a, b, c, d the factors of x and y
+/// 000, "Partition Pattern Generation", all but the place in a layer: for a, b, c, d the factors of x and y
 /// and the summand, 0 for those that the count leaves out.
 #[derive(Clone, Copy)]
 pub struct Pattern {
@@ -90,26 +90,9 @@ pub struct Pattern {
 }
 
 impl Pattern {
-    /// `small` doubles the place: footprints under 31 texels.
+    /// Of flat footprints. `small` doubles the place: footprints under 31 texels.
     pub fn new(index: u16, count: usize, small: bool) -> Pattern {
-        let seed = index as u32 + (count as u32 - 1) * 1024;
-        let rnum = hash52(seed);
-        let wide = if count == 3 { 6 } else { 5 };
-        let narrow = if seed & 2 != 0 { 4 } else { 5 };
-        let (sh1, sh2) = if seed & 1 != 0 { (narrow, wide) } else { (wide, narrow) };
-        let factor = |shift: u32, sh: u32| {
-            let s = rnum >> shift & 0xF;
-            ((s * s) >> sh) << small as u32
-        };
-        let mut pattern = Pattern {
-            x: [factor(0, sh1), factor(8, sh1), factor(16, sh1), factor(24, sh1)],
-            y: [factor(4, sh2), factor(12, sh2), factor(20, sh2), factor(28, sh2)],
-            add: [rnum >> 14, rnum >> 10, rnum >> 6, rnum >> 2],
-        };
-        for k in count.max(2)..4 {
-            (pattern.x[k], pattern.y[k], pattern.add[k]) = (0, 0, 0);
-        }
-        pattern
+        Patterns::new(index, count, small).first
     }
 
     #[inline]
@@ -125,6 +108,47 @@ impl Pattern {
         } else {
             3
         }
+    }
+}
+
+/// The pattern of layer 0, and the factors of z.
+#[derive(Clone, Copy)]
+pub struct Patterns {
+    pub first: Pattern,
+    z: [u32; 4],
+}
+
+impl Patterns {
+    /// `small` doubles the place: footprints under 31 texels.
+    #[inline(always)]
+    pub fn new(index: u16, count: usize, small: bool) -> Patterns {
+        let seed = index as u32 + (count as u32 - 1) * 1024;
+        let rnum = hash52(seed);
+        let wide = if count == 3 { 6 } else { 5 };
+        let narrow = if seed & 2 != 0 { 4 } else { 5 };
+        let (sh1, sh2) = if seed & 1 != 0 { (narrow, wide) } else { (wide, narrow) };
+        let sh3 = if seed & 0x10 != 0 { sh1 } else { sh2 };
+        let squared = |s: u32, sh: u32| ((s * s) >> sh) << small as u32;
+        let factor = |shift: u32, sh: u32| squared(rnum >> shift & 0xF, sh);
+        let mut first = Pattern {
+            x: [factor(0, sh1), factor(8, sh1), factor(16, sh1), factor(24, sh1)],
+            y: [factor(4, sh2), factor(12, sh2), factor(20, sh2), factor(28, sh2)],
+            add: [rnum >> 14, rnum >> 10, rnum >> 6, rnum >> 2],
+        };
+        // Seeds 11, 12, 9 and 10.
+        let seed12 = rnum.rotate_left(2) & 0xF;
+        let mut z = [factor(26, sh3), squared(seed12, sh3), factor(18, sh3), factor(22, sh3)];
+        for k in count.max(2)..4 {
+            (first.x[k], first.y[k], first.add[k], z[k]) = (0, 0, 0, 0);
+        }
+        Patterns { first, z }
+    }
+
+    /// The pattern of layer z.
+    #[inline]
+    pub fn layer(&self, z: usize) -> Pattern {
+        let add = std::array::from_fn(|k| self.first.add[k].wrapping_add(self.z[k] * z as u32));
+        Pattern { add, ..self.first }
     }
 }
 
@@ -177,7 +201,7 @@ mod tests {
     #[test]
     fn infill() {
         assert_eq!(grid_place(8, 8, 7), (7, 0));
-        for side in [4, 5, 6, 8, 10, 12] {
+        for side in [3, 4, 5, 6, 8, 10, 12] {
             // A grid as wide as the footprint is taken as it is.
             for at in 0..side {
                 assert_eq!(grid_place(side, side, at), (at, 0));
@@ -185,6 +209,64 @@ mod tests {
             for grid in 2..=side {
                 assert_eq!(grid_place(side, grid, 0), (0, 0));
                 assert_eq!(grid_place(side, grid, side - 1), (grid - 1, 0));
+            }
+        }
+    }
+
+    /// 000's procedure, word for word.
+    fn select_partition(mut seed: u32, x: u32, y: u32, z: u32, count: u32, small_block: bool) -> usize {
+        let [x, y, z] = [x, y, z].map(|n| n << small_block as u32);
+        seed += (count - 1) * 1024;
+        let rnum = hash52(seed);
+        let seeds = [0, 4, 8, 12, 16, 20, 24, 28, 18, 22, 26].map(|shift| rnum >> shift & 0xF);
+        let seed12 = (rnum >> 30 | rnum << 2) & 0xF;
+        let (sh1, sh2);
+        if seed & 1 != 0 {
+            sh1 = if seed & 2 != 0 { 4 } else { 5 };
+            sh2 = if count == 3 { 6 } else { 5 };
+        } else {
+            sh1 = if count == 3 { 6 } else { 5 };
+            sh2 = if seed & 2 != 0 { 4 } else { 5 };
+        }
+        let sh3 = if seed & 0x10 != 0 { sh1 } else { sh2 };
+        // seed1 is at(1), and so on
+        let at = |n: usize| {
+            let s = if n == 12 { seed12 } else { seeds[n - 1] };
+            s * s
+                >> if n > 8 {
+                    sh3
+                } else if n % 2 == 1 {
+                    sh1
+                } else {
+                    sh2
+                }
+        };
+        let a = (at(1) * x + at(2) * y + at(11) * z + (rnum >> 14)) & 0x3F;
+        let b = (at(3) * x + at(4) * y + at(12) * z + (rnum >> 10)) & 0x3F;
+        let c = (at(5) * x + at(6) * y + at(9) * z + (rnum >> 6)) & 0x3F;
+        let d = (at(7) * x + at(8) * y + at(10) * z + (rnum >> 2)) & 0x3F;
+        let d = if count < 4 { 0 } else { d };
+        let c = if count < 3 { 0 } else { c };
+        if a >= b && a >= c && a >= d {
+            0
+        } else if b >= c && b >= d {
+            1
+        } else if c >= d {
+            2
+        } else {
+            3
+        }
+    }
+
+    #[test]
+    fn patterns() {
+        for (index, count) in (0..1024).flat_map(|index| [2, 3, 4].map(|count| (index, count))) {
+            for small in [false, true] {
+                let patterns = Patterns::new(index as u16, count as usize, small);
+                for (x, y, z) in [(0, 0, 0), (5, 0, 0), (0, 5, 0), (0, 0, 5), (1, 2, 3), (3, 1, 2), (2, 5, 4)] {
+                    let found = patterns.layer(z as usize).partition(x as usize, y as usize);
+                    assert_eq!(found, select_partition(index, x, y, z, count, small), "{index} {count} {x} {y} {z}");
+                }
             }
         }
     }

@@ -1,12 +1,11 @@
 //! Seeded random numbers, blocks and symbolic blocks for tests.
 
-use crate::block::{Settings, is_hdr, parse};
-use crate::colour::Pattern;
+use crate::block::{Extents, Settings, is_hdr, parse};
 use crate::hdr::{submode, submodes};
 use crate::sequence::{QUINT_STEPS, TRIT_STEPS, bit_count, smallest_code};
-use crate::symbolic::write_by;
+use crate::symbolic::{partition_at, write_by};
 use crate::tables::{BLOCK_MODES, BlockMode, Digit, ENDPOINT_RANGES, Grid, QUINTS, TRITS, WEIGHT_RANGES};
-use crate::{FOOTPRINTS, SymbolicBlock, refusal};
+use crate::{ALL_FOOTPRINTS, FOOTPRINTS, SymbolicBlock, is_volume, refusal, sides};
 
 /// SplitMix64.
 #[derive(Clone)]
@@ -52,23 +51,29 @@ impl Random {
 }
 
 /// An acceptable LDR void extent.
-pub fn void_extent(r: &mut Random) -> SymbolicBlock {
+pub fn void_extent(r: &mut Random, footprint: usize) -> SymbolicBlock {
     let mut s = SymbolicBlock { mark: 1, ..SymbolicBlock::ZERO };
     s.colours = [0; 4].map(|_: u16| r.number(65535));
-    s.extents = [8191; 4];
+    s.extents = all_ones(footprint);
     if !r.once_in(3) {
-        for axis in 0..2 {
-            let low = r.number(8190);
-            s.extents[2 * axis] = low;
-            s.extents[2 * axis + 1] = low + 1 + r.number(8190 - low);
+        let layout = Extents::of(is_volume(footprint));
+        for axis in s.extents[..layout.count].as_chunks_mut::<2>().0 {
+            let low = r.number(layout.most() - 1);
+            *axis = [low, low + 1 + r.number(layout.most() - 1 - low)];
         }
     }
     s
 }
 
+/// The extents of a void extent without any: all ones, unused ones 0.
+pub fn all_ones(footprint: usize) -> [u16; 6] {
+    let layout = Extents::of(is_volume(footprint));
+    std::array::from_fn(|i| if i < layout.count { layout.most() } else { 0 })
+}
+
 /// An acceptable HDR void extent: half floats of all sorts, infinities and NaN more often.
-pub fn hdr_void_extent(r: &mut Random) -> SymbolicBlock {
-    let mut s = void_extent(r);
+pub fn hdr_void_extent(r: &mut Random, footprint: usize) -> SymbolicBlock {
+    let mut s = void_extent(r, footprint);
     s.hdr = 1;
     for colour in &mut s.colours {
         if r.once_in(4) {
@@ -78,23 +83,35 @@ pub fn hdr_void_extent(r: &mut Random) -> SymbolicBlock {
     s
 }
 
+/// The block modes of a footprint.
+pub fn block_modes(footprint: usize) -> &'static [BlockMode; 2048] {
+    &BLOCK_MODES[is_volume(footprint) as usize]
+}
+
 /// Settings of a mode block that may or may not be acceptable: grid, partitions, modes.
 /// `hdr` lets HDR modes in; the HDR mark stays 0.
-pub fn settings(r: &mut Random, hdr: bool) -> SymbolicBlock {
+pub fn settings(r: &mut Random, footprint: usize, hdr: bool) -> SymbolicBlock {
     loop {
-        if let BlockMode::Grid(grid) = BLOCK_MODES[r.below(2048)] {
+        if let BlockMode::Grid(grid) = block_modes(footprint)[r.below(2048)] {
             return settings_of(r, grid, hdr);
         }
     }
 }
 
-/// Settings with a given grid.
-fn settings_of(r: &mut Random, grid: Grid, hdr: bool) -> SymbolicBlock {
-    let mut s = SymbolicBlock::ZERO;
+/// One partition with a given grid.
+pub fn one_partition(grid: Grid) -> SymbolicBlock {
+    let mut s = SymbolicBlock { partitions: 1, ..SymbolicBlock::ZERO };
     s.width = grid.width as u16;
     s.height = grid.height as u16;
+    s.depth = grid.depth as u16;
     s.range = grid.range as u16;
     s.planes = grid.planes as u16;
+    s
+}
+
+/// Settings with a given grid.
+fn settings_of(r: &mut Random, grid: Grid, hdr: bool) -> SymbolicBlock {
+    let mut s = one_partition(grid);
     if s.planes == 2 {
         s.plane_channel = r.below(4) as u16;
     }
@@ -137,7 +154,7 @@ pub fn fill_numbers(r: &mut Random, s: &mut SymbolicBlock) {
 /// An acceptable LDR mode block.
 pub fn mode_block(r: &mut Random, footprint: usize) -> SymbolicBlock {
     let mut s = loop {
-        let s = settings(r, false);
+        let s = settings(r, footprint, false);
         if refusal(footprint, &s) == 0 {
             break s;
         }
@@ -149,7 +166,7 @@ pub fn mode_block(r: &mut Random, footprint: usize) -> SymbolicBlock {
 /// An acceptable HDR mode block: some partition's mode is HDR.
 pub fn hdr_mode_block(r: &mut Random, footprint: usize) -> SymbolicBlock {
     let mut s = loop {
-        let s = SymbolicBlock { hdr: 1, ..settings(r, true) };
+        let s = SymbolicBlock { hdr: 1, ..settings(r, footprint, true) };
         if refusal(footprint, &s) == 0 {
             break s;
         }
@@ -161,10 +178,10 @@ pub fn hdr_mode_block(r: &mut Random, footprint: usize) -> SymbolicBlock {
 /// The HDR modes.
 pub const HDR_MODES: [u8; 6] = [2, 3, 7, 11, 14, 15];
 
-/// A 4x4 grid, one partition with this HDR mode, and endpoint numbers 0..255 that choose this submode. Acceptable at every footprint.
-pub fn block_of_submode(r: &mut Random, mode: u8, wanted: usize) -> SymbolicBlock {
-    let mut s =
-        SymbolicBlock { width: 4, height: 4, range: 2, planes: 1, partitions: 1, hdr: 1, ..SymbolicBlock::ZERO };
+/// A 4x4 grid, or 3x3x2 at volumes; one partition with this HDR mode, and endpoint numbers 0..255 that choose this submode.
+pub fn block_of_submode(r: &mut Random, footprint: usize, mode: u8, wanted: usize) -> SymbolicBlock {
+    let [width, height, depth] = if is_volume(footprint) { [3, 3, 2] } else { [4, 4, 1] };
+    let mut s = SymbolicBlock { hdr: 1, ..one_partition(Grid { width, height, depth, range: 2, planes: 1 }) };
     s.modes[0] = mode as u16;
     loop {
         fill_numbers(r, &mut s);
@@ -175,9 +192,9 @@ pub fn block_of_submode(r: &mut Random, mode: u8, wanted: usize) -> SymbolicBloc
 }
 
 /// A block of each HDR mode and submode.
-pub fn every_submode(r: &mut Random) -> Vec<SymbolicBlock> {
+pub fn every_submode(r: &mut Random, footprint: usize) -> Vec<SymbolicBlock> {
     let all = HDR_MODES.into_iter().flat_map(|mode| (0..submodes(mode)).map(move |sub| (mode, sub)));
-    all.map(|(mode, sub)| block_of_submode(r, mode, sub)).collect()
+    all.map(|(mode, sub)| block_of_submode(r, footprint, mode, sub)).collect()
 }
 
 /// An acceptable LDR block of this block mode, if the footprint has any.
@@ -191,13 +208,8 @@ pub fn hdr_block_of_mode(r: &mut Random, footprint: usize, mode: usize) -> Optio
 }
 
 fn block_with_mode(r: &mut Random, footprint: usize, mode: usize, hdr: bool) -> Option<SymbolicBlock> {
-    let BlockMode::Grid(grid) = BLOCK_MODES[mode] else { return None };
-    let mut plain = SymbolicBlock { partitions: 1, ..SymbolicBlock::ZERO };
-    plain.width = grid.width as u16;
-    plain.height = grid.height as u16;
-    plain.range = grid.range as u16;
-    plain.planes = grid.planes as u16;
-    if refusal(footprint, &plain) != 0 {
+    let BlockMode::Grid(grid) = block_modes(footprint)[mode] else { return None };
+    if refusal(footprint, &one_partition(grid)) != 0 {
         return None;
     }
     loop {
@@ -211,12 +223,12 @@ fn block_with_mode(r: &mut Random, footprint: usize, mode: usize, hdr: bool) -> 
 
 /// An acceptable LDR symbolic block, now and then a void extent.
 pub fn symbolic_block(r: &mut Random, footprint: usize) -> SymbolicBlock {
-    if r.once_in(16) { void_extent(r) } else { mode_block(r, footprint) }
+    if r.once_in(16) { void_extent(r, footprint) } else { mode_block(r, footprint) }
 }
 
 /// An acceptable HDR symbolic block, now and then a void extent.
 pub fn hdr_symbolic_block(r: &mut Random, footprint: usize) -> SymbolicBlock {
-    if r.once_in(16) { hdr_void_extent(r) } else { hdr_mode_block(r, footprint) }
+    if r.once_in(16) { hdr_void_extent(r, footprint) } else { hdr_mode_block(r, footprint) }
 }
 
 /// An acceptable symbolic block, LDR or HDR.
@@ -227,25 +239,41 @@ pub fn any_symbolic_block(r: &mut Random, footprint: usize) -> SymbolicBlock {
 /// A block with fault 20 in kinds 0 and 1, and for each texel 1 where its partition's mode is HDR.
 pub fn fault20_block(r: &mut Random, footprint: usize) -> ([u8; 16], Vec<u8>) {
     let mut s = loop {
-        let s = settings(r, true);
+        let s = settings(r, footprint, true);
         if refusal(footprint, &s) == 20 {
             break s;
         }
     };
     fill_numbers(r, &mut s);
-    let (width, height) = FOOTPRINTS[footprint];
-    let pattern = Pattern::new(s.index, s.partitions as usize, width * height < 31);
-    let hdr = |at: usize| {
-        let partition = if s.partitions == 1 { 0 } else { pattern.partition(at % width, at / width) };
-        is_hdr(s.modes[partition] as u8) as u8
-    };
-    (write_by(&s, smallest_code).to_le_bytes(), (0..width * height).map(hdr).collect())
+    let hdr = |place| is_hdr(s.modes[partition_at(footprint, &s, place)] as u8) as u8;
+    (write_by(footprint, &s, smallest_code).to_le_bytes(), places(footprint).map(hdr).collect())
 }
 
-/// A block that reads as the acceptable symbolic block: any fitting codes, any spare bits.
+/// The places of a block's texels in their order: x, y, z.
+pub fn places(footprint: usize) -> impl Iterator<Item = [usize; 3]> {
+    let [width, height, depth] = sides(footprint);
+    (0..width * height * depth).map(move |i| [i % width, i / width % height, i / width / height])
+}
+
+/// The block with another block mode in its low bits.
+pub fn with_mode(block: [u8; 16], mode: usize) -> [u8; 16] {
+    (u128::from_le_bytes(block) & !2047 | mode as u128).to_le_bytes()
+}
+
+/// The same block by the other of two block modes that say the same: 6x2x2 and its turns, one plane, the six low ranges (02, h).
+pub fn twin(footprint: usize, block: [u8; 16]) -> Option<[u8; 16]> {
+    let (modes, mode) = (block_modes(footprint), (u128::from_le_bytes(block) & 2047) as usize);
+    if !is_volume(footprint) || !matches!(modes[mode], BlockMode::Grid(_)) {
+        return None;
+    }
+    let other = (0..2048).find(|&m| m != mode && modes[m] == modes[mode])?;
+    Some(with_mode(block, other))
+}
+
+/// A block that reads as the acceptable symbolic block: any fitting codes, any spare bits, either of two block modes.
 pub fn loose_block(r: &mut Random, footprint: usize, s: &SymbolicBlock) -> [u8; 16] {
     let mut rng = r.clone();
-    let block = write_by(s, |digit, digits| {
+    let block = write_by(footprint, s, |digit, digits| {
         let (steps, codes): (&[u32], usize) = match digit {
             Digit::Quint => (&QUINT_STEPS, 128),
             _ => (&TRIT_STEPS, 256),
@@ -268,7 +296,8 @@ pub fn loose_block(r: &mut Random, footprint: usize, s: &SymbolicBlock) -> [u8; 
             block |= ((r.word() & 1) as u128) << bit;
         }
     }
-    block.to_le_bytes()
+    let block = block.to_le_bytes();
+    twin(footprint, block).filter(|_| r.once_in(2)).unwrap_or(block)
 }
 
 /// The block with only its lowest spare bit set, only its highest, and all of them, where there are any.
@@ -294,10 +323,10 @@ pub fn block_of_any_mode(r: &mut Random) -> [u8; 16] {
 }
 
 /// A void extent block that may be faulty: extents, reserved bits and HDR flag vary.
-pub fn void_extent_block(r: &mut Random) -> [u8; 16] {
+pub fn void_extent_block(r: &mut Random, footprint: usize) -> [u8; 16] {
     let mut block = u128::from_le_bytes(r.bytes());
     if !r.once_in(3) {
-        block = write_by(&void_extent(r), smallest_code);
+        block = write_by(footprint, &void_extent(r, footprint), smallest_code);
     }
     if r.once_in(3) {
         block |= 0xFFF;
@@ -322,7 +351,17 @@ pub fn flip_bits(r: &mut Random, block: [u8; 16]) -> [u8; 16] {
     block.to_le_bytes()
 }
 
-/// A footprint, all equally often.
-pub fn footprint(r: &mut Random) -> usize {
+/// A flat footprint, all equally often.
+pub fn flat_footprint(r: &mut Random) -> usize {
     r.below(FOOTPRINTS.len())
+}
+
+/// A volume footprint, all equally often.
+pub fn volume_footprint(r: &mut Random) -> usize {
+    FOOTPRINTS.len() + r.below(ALL_FOOTPRINTS - FOOTPRINTS.len())
+}
+
+/// Any footprint, all equally often.
+pub fn any_footprint(r: &mut Random) -> usize {
+    r.below(ALL_FOOTPRINTS)
 }

@@ -1,14 +1,14 @@
 //! Symbolic blocks (01's sheets): a block's fields as numbers; reading, writing, their picture.
 
-use crate::block::{Settings, bad_extents, endpoint_range, is_hdr, numbers_of_mode, parse};
-use crate::colour::{Pattern, endpoint_pair, expand, grid_factors, grid_place};
+use crate::block::{Extents, Settings, endpoint_range, is_hdr, numbers_of_mode, parse};
+use crate::colour::{Patterns, endpoint_pair, expand, grid_factors, grid_place};
 use crate::hdr::{expanded_pair, half, hdr_channels, submode};
 use crate::sequence::{Ending, bit_count, ending, pack_by, smallest_code, unpack};
 use crate::tables::{Digit, ENDPOINT_RANGES, ENDPOINTS, Encoding, WEIGHT_RANGES, WEIGHTS, mode_number};
-use crate::{FOOTPRINTS, Kind};
+use crate::{ALL_FOOTPRINTS, Kind, is_volume, sides, texels};
 
 /// Numbers of the flat form.
-pub const NUMBERS: usize = 104;
+pub const NUMBERS: usize = 107;
 
 /// Endpoint numbers and weights as stored, in stream order.
 #[derive(Clone, Copy, PartialEq, Eq, Debug)]
@@ -16,9 +16,12 @@ pub struct SymbolicBlock {
     /// 1 for a void extent.
     pub mark: u16,
     pub colours: [u16; 4],
-    pub extents: [u16; 4],
+    /// Low s, high s, low t, high t, low r, high r; the last two are 0 at flat footprints.
+    pub extents: [u16; 6],
     pub width: u16,
     pub height: u16,
+    /// Of the weight grid: 1 at flat footprints.
+    pub depth: u16,
     pub range: u16,
     pub planes: u16,
     pub plane_channel: u16,
@@ -36,9 +39,10 @@ impl SymbolicBlock {
     pub const ZERO: SymbolicBlock = SymbolicBlock {
         mark: 0,
         colours: [0; 4],
-        extents: [0; 4],
+        extents: [0; 6],
         width: 0,
         height: 0,
+        depth: 0,
         range: 0,
         planes: 0,
         plane_channel: 0,
@@ -51,12 +55,12 @@ impl SymbolicBlock {
         hdr: 0,
     };
 
-    /// All fields in the order of their declaration.
+    /// The C calls' list: all fields in the order of their declaration, but for the depth and the third pair of extents, which stand last.
     pub fn to_numbers(&self) -> [u16; NUMBERS] {
         let mut numbers = [0; NUMBERS];
         numbers[0] = self.mark;
         numbers[1..5].copy_from_slice(&self.colours);
-        numbers[5..9].copy_from_slice(&self.extents);
+        numbers[5..9].copy_from_slice(&self.extents[..4]);
         numbers[9..17].copy_from_slice(&[
             self.width,
             self.height,
@@ -71,6 +75,8 @@ impl SymbolicBlock {
         numbers[21..39].copy_from_slice(&self.endpoints);
         numbers[39..103].copy_from_slice(&self.weights);
         numbers[103] = self.hdr;
+        numbers[104] = self.depth;
+        numbers[105..].copy_from_slice(&self.extents[4..]);
         numbers
     }
 
@@ -78,22 +84,35 @@ impl SymbolicBlock {
         let mut s = SymbolicBlock::ZERO;
         s.mark = numbers[0];
         s.colours.copy_from_slice(&numbers[1..5]);
-        s.extents.copy_from_slice(&numbers[5..9]);
+        s.extents[..4].copy_from_slice(&numbers[5..9]);
         [s.width, s.height, s.range, s.planes, s.plane_channel, s.partitions, s.index, s.selector] =
             numbers[9..17].try_into().unwrap();
         s.modes.copy_from_slice(&numbers[17..21]);
         s.endpoints.copy_from_slice(&numbers[21..39]);
         s.weights.copy_from_slice(&numbers[39..103]);
         s.hdr = numbers[103];
+        s.depth = numbers[104];
+        s.extents[4..].copy_from_slice(&numbers[105..]);
         s
     }
 
-    /// Weights of both planes.
-    pub(crate) fn weight_count(&self) -> usize {
-        self.width as usize * self.height as usize * self.planes as usize
+    /// Width, height and depth of the weight grid.
+    pub(crate) fn grid(&self) -> [usize; 3] {
+        [self.width, self.height, self.depth].map(usize::from)
     }
 
-    pub(crate) fn weight_bits(&self) -> u32 {
+    /// Weights of both planes.
+    pub fn weight_count(&self) -> usize {
+        let [width, height, depth] = self.grid();
+        width * height * depth * self.planes as usize
+    }
+
+    /// The block mode that the writer takes: the smallest with this grid, range and planes.
+    pub(crate) fn block_mode(&self) -> Option<u16> {
+        mode_number(self.grid(), self.range as usize, self.planes as usize)
+    }
+
+    pub fn weight_bits(&self) -> u32 {
         bit_count(WEIGHT_RANGES[self.range as usize], self.weight_count() as u32)
     }
 
@@ -212,6 +231,7 @@ pub fn read(footprint: usize, block: &[u8; 16]) -> Result<SymbolicBlock, u8> {
         Settings::Mode(m) => {
             s.width = m.grid.width as u16;
             s.height = m.grid.height as u16;
+            s.depth = m.grid.depth as u16;
             s.range = m.grid.range as u16;
             s.planes = m.grid.planes as u16;
             s.plane_channel = m.plane_channel as u16;
@@ -231,27 +251,36 @@ pub fn read(footprint: usize, block: &[u8; 16]) -> Result<SymbolicBlock, u8> {
 
 /// The first refusal of a symbolic block at a footprint, 0 where it is acceptable.
 pub fn refusal(footprint: usize, s: &SymbolicBlock) -> u8 {
-    if footprint > 13 {
+    if footprint >= ALL_FOOTPRINTS {
         return 1;
     }
     match s.mark {
         0 => mode_refusal(footprint, s),
-        1 => void_extent_refusal(s),
+        1 => void_extent_refusal(footprint, s),
         _ => 31,
     }
 }
 
-fn void_extent_refusal(s: &SymbolicBlock) -> u8 {
+fn void_extent_refusal(footprint: usize, s: &SymbolicBlock) -> u8 {
     let used = SymbolicBlock { mark: 1, colours: s.colours, extents: s.extents, hdr: s.hdr, ..SymbolicBlock::ZERO };
-    if *s != used || s.hdr > 1 || s.extents.iter().any(|&e| e > 8191) {
+    let layout = Extents::of(is_volume(footprint));
+    if *s != used || s.hdr > 1 || above(&s.extents, layout.count, layout.most()) {
         return 31;
     }
-    if bad_extents(s.extents) { 12 } else { 0 }
+    if layout.are_bad(s.extents) { 12 } else { 0 }
+}
+
+/// One of the numbers is above this, or one past the used ones is not 0.
+fn above(numbers: &[u16], used: usize, most: u16) -> bool {
+    numbers.iter().enumerate().any(|(i, &v)| v > if i < used { most } else { 0 })
 }
 
 /// Refusal 31 of a mode block: a field outside its limits, or an unused one not 0.
-fn outside_limits(s: &SymbolicBlock) -> bool {
-    if s.hdr > 1 || s.colours != [0; 4] || s.extents != [0; 4] {
+fn outside_limits(footprint: usize, s: &SymbolicBlock) -> bool {
+    if s.hdr > 1 || s.colours != [0; 4] || s.extents != [0; 6] {
+        return true;
+    }
+    if !(if is_volume(footprint) { 2..=6 } else { 1..=1 }).contains(&s.depth) {
         return true;
     }
     if !(2..=12).contains(&s.width) || !(2..=12).contains(&s.height) || s.range > 11 {
@@ -266,18 +295,18 @@ fn outside_limits(s: &SymbolicBlock) -> bool {
     if s.partitions == 1 && (s.index != 0 || s.selector != 0) {
         return true;
     }
-    s.modes.iter().enumerate().any(|(i, &m)| m > if i < s.partitions as usize { 15 } else { 0 })
+    above(&s.modes, s.partitions as usize, 15)
 }
 
 fn mode_refusal(footprint: usize, s: &SymbolicBlock) -> u8 {
-    if outside_limits(s) {
+    if outside_limits(footprint, s) {
         return 31;
     }
-    if mode_number(s.width as usize, s.height as usize, s.range as usize, s.planes as usize).is_none() {
+    if s.block_mode().is_none() {
         return 32;
     }
-    let (width, height) = FOOTPRINTS[footprint];
-    if s.width as usize > width || s.height as usize > height {
+    let [width, height, depth] = sides(footprint);
+    if s.width as usize > width || s.height as usize > height || s.depth as usize > depth {
         return 14;
     }
     if s.weight_count() > 64 {
@@ -311,9 +340,6 @@ fn mode_refusal(footprint: usize, s: &SymbolicBlock) -> u8 {
     }
     let endpoint_most = ENDPOINT_RANGES[s.endpoint_range()].most;
     let weight_most = WEIGHT_RANGES[s.range as usize].most;
-    let above = |numbers: &[u16], used: usize, most: u16| {
-        numbers.iter().enumerate().any(|(i, &v)| v > if i < used { most } else { 0 })
-    };
     if above(&s.endpoints, count, endpoint_most) || above(&s.weights, s.weight_count(), weight_most) {
         return 34;
     }
@@ -323,23 +349,27 @@ fn mode_refusal(footprint: usize, s: &SymbolicBlock) -> u8 {
 /// The block of a symbolic block: smallest codes, spare bits 0; else the first refusal.
 pub fn write(footprint: usize, s: &SymbolicBlock) -> Result<[u8; 16], u8> {
     match refusal(footprint, s) {
-        0 => Ok(write_by(s, smallest_code).to_le_bytes()),
+        0 => Ok(write_by(footprint, s, smallest_code).to_le_bytes()),
         number => Err(number),
     }
 }
 
 /// The block of an acceptable symbolic block; `code` picks the code of a group's present digits.
-pub(crate) fn write_by(s: &SymbolicBlock, mut code: impl FnMut(Digit, &[u8]) -> u8) -> u128 {
+pub(crate) fn write_by(footprint: usize, s: &SymbolicBlock, mut code: impl FnMut(Digit, &[u8]) -> u8) -> u128 {
     if s.mark == 1 {
-        let mut block = 0b1101_1111_1100u128 | (s.hdr as u128) << 9;
-        for i in 0..4 {
-            block |= (s.extents[i] as u128) << (12 + 13 * i);
-            block |= (s.colours[i] as u128) << (64 + 16 * i);
+        // Bits 11 and 10 are 1, where a volume's first extent begins.
+        let head = if is_volume(footprint) { 0b01_1111_1100u128 } else { 0b1101_1111_1100 };
+        let mut block = head | (s.hdr as u128) << 9;
+        let layout = Extents::of(is_volume(footprint));
+        for (i, &extent) in s.extents[..layout.count].iter().enumerate() {
+            block |= (extent as u128) << (layout.start + layout.bits * i as u32);
+        }
+        for (i, &colour) in s.colours.iter().enumerate() {
+            block |= (colour as u128) << (64 + 16 * i);
         }
         return block;
     }
-    let mode = mode_number(s.width as usize, s.height as usize, s.range as usize, s.planes as usize);
-    let mut block = mode.unwrap() as u128 | ((s.partitions - 1) as u128) << 11;
+    let mut block = s.block_mode().unwrap() as u128 | ((s.partitions - 1) as u128) << 11;
 
     let weights = &s.weights[..s.weight_count()];
     block |= pack_by(WEIGHT_RANGES[s.range as usize], weights, &mut code).reverse_bits();
@@ -372,8 +402,8 @@ pub(crate) fn write_by(s: &SymbolicBlock, mut code: impl FnMut(Digit, &[u8]) -> 
     block | pack_by(ENDPOINT_RANGES[s.endpoint_range()], endpoints, &mut code) << endpoint_start
 }
 
-/// The texel at x, y of an acceptable symbolic block, from its numbers alone. An HDR one has no picture in kinds 0 and 1.
-pub fn picture(footprint: usize, kind: Kind, s: &SymbolicBlock, x: usize, y: usize) -> [u16; 4] {
+/// The texel at x, y, z of an acceptable symbolic block, from its numbers alone. An HDR one has no picture in kinds 0 and 1.
+pub fn picture(footprint: usize, kind: Kind, s: &SymbolicBlock, place: [usize; 3]) -> [u16; 4] {
     assert!(s.hdr == 0 || kind.takes_hdr());
     if s.mark == 1 {
         return match kind {
@@ -383,15 +413,10 @@ pub fn picture(footprint: usize, kind: Kind, s: &SymbolicBlock, x: usize, y: usi
             Kind::Float16 => s.colours.map(|c| half(false, c)),
         };
     }
-    let (width, height) = FOOTPRINTS[footprint];
-    let partition = if s.partitions == 1 {
-        0
-    } else {
-        Pattern::new(s.index, s.partitions as usize, width * height < 31).partition(x, y)
-    };
+    let partition = partition_at(footprint, s, place);
     let pair = pair_of(s, kind, partition);
     let hdr = hdr_channels(s.modes[partition] as u8);
-    let planes: Vec<u32> = (0..s.planes as usize).map(|p| weight_at(footprint, s, p, x, y)).collect();
+    let planes: Vec<u32> = (0..s.planes as usize).map(|p| weight_at(footprint, s, p, place)).collect();
     let mut texel = [0; 4];
     for channel in 0..4 {
         let second = s.planes == 2 && s.plane_channel as usize == channel;
@@ -405,6 +430,14 @@ pub fn picture(footprint: usize, kind: Kind, s: &SymbolicBlock, x: usize, y: usi
         };
     }
     texel
+}
+
+/// The partition of a place.
+pub(crate) fn partition_at(footprint: usize, s: &SymbolicBlock, [x, y, z]: [usize; 3]) -> usize {
+    if s.partitions == 1 {
+        return 0;
+    }
+    Patterns::new(s.index, s.partitions as usize, texels(footprint) < 31).layer(z).partition(x, y)
 }
 
 /// Endpoint pair of a partition, expanded for the kind: its numbers follow those of the partitions before it.
@@ -421,19 +454,54 @@ fn pair_of(s: &SymbolicBlock, kind: Kind, partition: usize) -> [[u32; 4]; 2] {
     }
 }
 
-/// Weight of a plane at x, y. A neighbour outside the grid counts 0 and isn't read.
-fn weight_at(footprint: usize, s: &SymbolicBlock, plane: usize, x: usize, y: usize) -> u32 {
-    let (width, height) = FOOTPRINTS[footprint];
-    let (grid_width, grid_height) = (s.width as usize, s.height as usize);
-    let weight = |column: usize, row: usize| {
-        if column >= grid_width || row >= grid_height {
+/// Weight of a plane at a place. A neighbour outside the grid counts 0 and isn't read.
+fn weight_at(footprint: usize, s: &SymbolicBlock, plane: usize, place: [usize; 3]) -> u32 {
+    let grid = s.grid();
+    let weight = |point: [usize; 3]| {
+        if point.iter().zip(grid).any(|(&p, side)| p >= side) {
             return 0;
         }
-        let place = (row * grid_width + column) * s.planes as usize + plane;
-        WEIGHTS[s.range as usize][s.weights[place] as usize] as u32
+        let number = ((point[2] * grid[1] + point[1]) * grid[0] + point[0]) * s.planes as usize + plane;
+        WEIGHTS[s.range as usize][s.weights[number] as usize] as u32
     };
-    let (js, fs) = grid_place(width, grid_width, x);
-    let (jt, ft) = grid_place(height, grid_height, y);
-    let [w00, w01, w10, w11] = grid_factors(fs, ft);
-    (weight(js, jt) * w00 + weight(js + 1, jt) * w01 + weight(js, jt + 1) * w10 + weight(js + 1, jt + 1) * w11 + 8) >> 4
+    let block = sides(footprint);
+    let axis = |a: usize| grid_place(block[a], grid[a], place[a]);
+    let ((js, fs), (jt, ft)) = (axis(0), axis(1));
+    if !is_volume(footprint) {
+        let [w00, w01, w10, w11] = grid_factors(fs, ft);
+        let weight = |column: usize, row: usize| weight([column, row, 0]);
+        let sum =
+            weight(js, jt) * w00 + weight(js + 1, jt) * w01 + weight(js, jt + 1) * w10 + weight(js + 1, jt + 1) * w11;
+        return (sum + 8) >> 4;
+    }
+    let (jr, fr) = axis(2);
+    let simplex = simplex(fs, ft, fr);
+    let mut point = [js, jt, jr];
+    let mut sum = weight(point) * simplex.factors[0];
+    for (step, factor) in simplex.steps.into_iter().zip(&simplex.factors[1..]) {
+        point[step] += 1;
+        sum += weight(point) * factor;
+    }
+    (sum + 8) >> 4
+}
+
+/// 000, "ASTC simplex interpolation parameters": the axes of s1, of s2 and of the last step, which goes to the point across, and the factors.
+pub(crate) struct SimplexRow {
+    pub steps: [usize; 3],
+    pub factors: [u32; 4],
+}
+
+pub(crate) fn simplex(fs: u32, ft: u32, fr: u32) -> SimplexRow {
+    const S: usize = 0;
+    const T: usize = 1;
+    const R: usize = 2;
+    let (steps, factors) = match (fs > ft, ft > fr, fs > fr) {
+        (true, true, _) => ([S, T, R], [16 - fs, fs - ft, ft - fr, fr]),
+        (false, _, true) => ([T, S, R], [16 - ft, ft - fs, fs - fr, fr]),
+        (_, false, true) => ([S, R, T], [16 - fs, fs - fr, fr - ft, ft]),
+        (true, _, false) => ([R, S, T], [16 - fr, fr - fs, fs - ft, ft]),
+        (_, true, false) => ([T, R, S], [16 - ft, ft - fr, fr - fs, fs]),
+        (false, false, _) => ([R, T, S], [16 - fr, fr - ft, ft - fs, fs]),
+    };
+    SimplexRow { steps, factors }
 }

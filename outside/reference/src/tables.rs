@@ -274,11 +274,12 @@ pub enum BlockMode {
     Grid(Grid),
 }
 
-/// Weight grid, weight range (0..=11) and planes of a block mode.
+/// Weight grid, weight range (0..=11) and planes of a block mode; its depth is 1 where the footprint is flat.
 #[derive(Clone, Copy, PartialEq, Eq, Debug)]
 pub struct Grid {
     pub width: u8,
     pub height: u8,
+    pub depth: u8,
     pub range: u8,
     pub planes: u8,
 }
@@ -323,39 +324,90 @@ const fn block_mode(mode: u32) -> BlockMode {
     BlockMode::Grid(Grid {
         width: width as u8,
         height: height as u8,
+        depth: 1,
         range: (r - 2 + 6 * h) as u8,
         planes: (d + 1) as u8,
     })
 }
 
-/// All block modes.
-pub static BLOCK_MODES: [BlockMode; 2048] = {
-    let mut table = [BlockMode::Reserved; 2048];
+/// 000, "ASTC 3D block mode layout", row by row.
+const fn volume_mode(mode: u32) -> BlockMode {
+    if field(mode, 8, 0) == 0b111111100 {
+        return BlockMode::VoidExtent;
+    }
+    let (high, low) = (field(mode, 10, 9), field(mode, 6, 5));
+    // Dual plane and precision, but for the rows that take bits 10 and 9 for a side.
+    let (mut d, mut p) = (field(mode, 10, 10), field(mode, 9, 9));
+    let (rho, width, height, depth);
+    if field(mode, 1, 0) != 0 {
+        rho = field(mode, 1, 0) << 1 | field(mode, 4, 4);
+        (width, height, depth) = (low + 2, field(mode, 8, 7) + 2, field(mode, 3, 2) + 2);
+    } else {
+        if field(mode, 3, 2) == 0 {
+            return BlockMode::Reserved;
+        }
+        rho = field(mode, 3, 2) << 1 | field(mode, 4, 4);
+        (width, height, depth) = match (field(mode, 8, 7), low) {
+            (0, _) => (6, high + 2, low + 2),
+            (1, _) => (low + 2, 6, high + 2),
+            (2, _) => (low + 2, high + 2, 6),
+            (_, 0) => (6, 2, 2),
+            (_, 1) => (2, 6, 2),
+            (_, 2) => (2, 2, 6),
+            _ => return BlockMode::Reserved,
+        };
+        if field(mode, 8, 7) != 3 {
+            (d, p) = (0, 0);
+        }
+    }
+    BlockMode::Grid(Grid {
+        width: width as u8,
+        height: height as u8,
+        depth: depth as u8,
+        range: (rho - 2 + 6 * p) as u8,
+        planes: (d + 1) as u8,
+    })
+}
+
+/// All block modes of flat footprints, and of volumes.
+pub static BLOCK_MODES: [[BlockMode; 2048]; 2] = {
+    let mut tables = [[BlockMode::Reserved; 2048]; 2];
     let mut mode = 0;
     while mode < 2048 {
-        table[mode] = block_mode(mode as u32);
+        tables[0][mode] = block_mode(mode as u32);
+        tables[1][mode] = volume_mode(mode as u32);
         mode += 1;
     }
-    table
+    tables
 };
 
-/// Block mode by planes - 1, range, height and width of the grid; `NO_MODE` where there is none.
-static MODE_NUMBERS: [[[[u16; 13]; 13]; 12]; 2] = {
-    let mut table = [[[[NO_MODE; 13]; 13]; 12]; 2];
+/// The smallest block mode by planes - 1, range, depth - 1, height and width of the grid; `NO_MODE` where there is none. Sides and depth of the
+/// grids are below these.
+const fn smallest_modes<const SIDE: usize, const DEPTH: usize>(
+    volume: usize,
+) -> [[[[[u16; SIDE]; SIDE]; DEPTH]; 12]; 2] {
+    let mut numbers = [[[[[NO_MODE; SIDE]; SIDE]; DEPTH]; 12]; 2];
     let mut mode = 2048;
     while mode > 0 {
         mode -= 1;
-        if let BlockMode::Grid(g) = block_mode(mode as u32) {
-            table[g.planes as usize - 1][g.range as usize][g.height as usize][g.width as usize] = mode as u16;
+        if let BlockMode::Grid(g) = BLOCK_MODES[volume][mode] {
+            let [w, h, d] = [g.width as usize, g.height as usize, g.depth as usize];
+            numbers[g.planes as usize - 1][g.range as usize][d - 1][h][w] = mode as u16;
         }
     }
-    table
-};
+    numbers
+}
 
 const NO_MODE: u16 = 2048;
+static FLAT_NUMBERS: [[[[[u16; 13]; 13]; 1]; 12]; 2] = smallest_modes(0);
+static VOLUME_NUMBERS: [[[[[u16; 7]; 7]; 6]; 12]; 2] = smallest_modes(1);
 
-/// The block mode with this grid, range (at most 11) and planes (1 or 2), sides at most 12.
-pub fn mode_number(width: usize, height: usize, range: usize, planes: usize) -> Option<u16> {
-    let mode = MODE_NUMBERS[planes - 1][range][height][width];
+/// The smallest block mode with this grid, range (at most 11) and planes (1 or 2): width and height at most 12, depth 1 (of flat footprints) to 6.
+pub fn mode_number([width, height, depth]: [usize; 3], range: usize, planes: usize) -> Option<u16> {
+    let mode = match depth {
+        1 => FLAT_NUMBERS[planes - 1][range][0][height][width],
+        _ if width > 6 || height > 6 => NO_MODE,
+        _ => VOLUME_NUMBERS[planes - 1][range][depth - 1][height][width],
+    };
     (mode != NO_MODE).then_some(mode)
 }

@@ -1,7 +1,7 @@
 //! One texel of a block or of an image, its block not unpacked (02, f): the settings, the weights around the texel's place, its partition,
 //! and that partition's endpoint numbers.
 
-use crate::block::{ModeSettings, Settings, numbers_of_mode, parse};
+use crate::block::{ModeSettings, Settings, numbers_of_mode, parse_as};
 use crate::colour::{Pattern, grid_factors, grid_place};
 use crate::decode::{Float16, Show, Srgb8, Unorm16, first_largest, pair};
 use crate::hdr::hdr_channels;
@@ -91,7 +91,7 @@ fn mode_texel<K: Show>(footprint: usize, block: u128, m: &ModeSettings, x: usize
 
 fn block_texel<K: Show>(footprint: usize, block: &[u8; 16], x: usize, y: usize) -> (u8, [K::Number; 4]) {
     let block = u128::from_le_bytes(*block);
-    match parse(footprint, K::KIND.takes_hdr(), block) {
+    match parse_as::<false>(footprint, K::KIND.takes_hdr(), block) {
         Err(fault) => (fault, K::ERROR),
         Ok(Settings::VoidExtent { hdr, colours, .. }) => (0, colours.map(|c| K::from_solid(hdr, c))),
         Ok(Settings::Mode(m)) => (0, mode_texel::<K>(footprint, block, &m, x, y)),

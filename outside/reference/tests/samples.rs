@@ -1,6 +1,8 @@
 //! 01's bench samples and the program's block.
 
-use reference::tables::{BLOCK_MODES, BlockMode, ENDPOINT_RANGES, ENDPOINTS, QUINTS, TRITS, WEIGHTS, mode_number};
+use reference::tables::{
+    BLOCK_MODES, BlockMode, ENDPOINT_RANGES, ENDPOINTS, Grid, QUINTS, TRITS, WEIGHTS, mode_number,
+};
 use reference::*;
 
 fn hex(text: &str) -> [u8; 16] {
@@ -101,7 +103,7 @@ fn solid_in_kind_2() {
 #[test]
 fn hdr_mark() {
     let mut s = SymbolicBlock::ZERO;
-    (s.width, s.height, s.range, s.planes, s.partitions) = (4, 4, 2, 1, 1);
+    (s.width, s.height, s.depth, s.range, s.planes, s.partitions) = (4, 4, 1, 2, 1, 1);
     assert_eq!(refusal(0, &s), 0);
     s.hdr = 1;
     assert_eq!(refusal(0, &s), 35);
@@ -128,10 +130,10 @@ fn hdr_mark() {
     // a mode past the count is no partition's: it is unused
     s.modes = [0, 0, 2, 0];
     assert_eq!(refusal(0, &s), 31);
-    let solid = SymbolicBlock { mark: 1, hdr: 2, extents: [8191; 4], ..SymbolicBlock::ZERO };
+    let solid = SymbolicBlock { mark: 1, hdr: 2, extents: random::all_ones(0), ..SymbolicBlock::ZERO };
     assert_eq!(refusal(0, &solid), 31);
     assert_eq!(refusal(0, &SymbolicBlock { hdr: 1, ..solid }), 0);
-    assert_eq!(refusal(0, &SymbolicBlock { hdr: 1, extents: [1, 1, 0, 1], ..solid }), 12);
+    assert_eq!(refusal(0, &SymbolicBlock { hdr: 1, extents: [1, 1, 0, 1, 0, 0], ..solid }), 12);
 }
 
 /// Endpoints 0 and 1 at weight 32 in all channels: 129 in kind 0; 1 in kind 1, alpha too (02, request d).
@@ -139,7 +141,7 @@ fn hdr_mark() {
 fn half_weight() {
     let mut s = SymbolicBlock::ZERO;
     // Weights 0..2 of which 1 is 32.
-    (s.width, s.height, s.range, s.planes, s.partitions) = (4, 4, 1, 1, 1);
+    (s.width, s.height, s.depth, s.range, s.planes, s.partitions) = (4, 4, 1, 1, 1, 1);
     s.modes[0] = 12;
     s.weights[..16].fill(1);
     for i in 0..4 {
@@ -147,29 +149,34 @@ fn half_weight() {
     }
     // Eight numbers in 111 - 26 bits: 0..255, so that numbers stand for themselves.
     assert_eq!(refusal(0, &s), 0);
-    assert_eq!(picture(0, Kind::Unorm16, &s, 0, 0), [129; 4]);
-    assert_eq!(picture(0, Kind::Srgb8, &s, 0, 0), [1; 4]);
+    assert_eq!(picture(0, Kind::Unorm16, &s, [0, 0, 0]), [129; 4]);
+    assert_eq!(picture(0, Kind::Srgb8, &s, [0, 0, 0]), [1; 4]);
     // Mode 1 with 255, 255: both 255.
     s.modes[0] = 1;
     s.endpoints = [0; 18];
     s.endpoints[..2].fill(255);
     for weight in 0..3 {
         s.weights[..16].fill(weight);
-        assert_eq!(picture(0, Kind::Unorm16, &s, 3, 3), [65535; 4]);
+        assert_eq!(picture(0, Kind::Unorm16, &s, [3, 3, 0]), [65535; 4]);
     }
     // Mode 5: transfer of 192 onto 100: offset -32, base 178.
     s.modes[0] = 5;
     s.endpoints[..4].copy_from_slice(&[100, 192, 255, 0]);
     s.weights[..16].fill(0);
-    assert_eq!(picture(0, Kind::Srgb8, &s, 0, 0)[0], 178);
+    assert_eq!(picture(0, Kind::Srgb8, &s, [0, 0, 0])[0], 178);
     s.weights[..16].fill(2);
-    assert_eq!(picture(0, Kind::Srgb8, &s, 0, 0)[0], 146);
+    assert_eq!(picture(0, Kind::Srgb8, &s, [0, 0, 0])[0], 146);
 }
 
 #[test]
 fn limits() {
     assert_eq!(block_refusal(13, 16, 576), 0);
-    assert_eq!(block_refusal(14, 0, 0), 1);
+    assert_eq!(block_refusal(14, 16, 4 * 27), 0);
+    assert_eq!(block_refusal(23, 16, 4 * 216), 0);
+    assert_eq!(block_refusal(24, 0, 0), 1);
+    assert_eq!(block_refusal(23, 15, 0), 4);
+    assert_eq!(block_refusal(23, 16, 4 * 36), 5);
+    assert_eq!((read_refusal(23, 16), read_refusal(23, 17), read_refusal(24, 17)), (0, 4, 1));
     assert_eq!(block_refusal(0, 15, 0), 4);
     assert_eq!(block_refusal(0, 16, 63), 5);
     assert_eq!(image_refusal(0, 16384, 1, 16 * 4096, 4 * 16384), 0);
@@ -178,17 +185,29 @@ fn limits() {
     assert_eq!(image_refusal(14, 1, 0, 0, 0), 1);
     assert_eq!(image_refusal(0, 5, 5, 63, 1), 4);
     assert_eq!(image_refusal(0, 5, 5, 64, 1), 5);
+    assert_eq!(view_refusal(14, 3, 3, 16), 1);
+    assert_eq!(volume_refusal(24, [0, 1, 1], 0, 0), 1);
+    for size in [[0, 1, 1], [1, 0, 1], [1, 1, 0], [16385, 1, 1], [1, 16385, 1], [1, 1, 2049], [u32::MAX; 3]] {
+        assert_eq!(volume_refusal(23, size, 0, 0), 3);
+    }
+    assert_eq!(volume_refusal(0, [1, 1, 2048], 16 * 2048, 4 * 2048), 0);
+    assert_eq!(volume_refusal(23, [16384, 1, 1], 16 * 2731, 4 * 16384), 0);
+    assert_eq!(volume_refusal(23, [1, 16384, 7], 16 * 2731 * 2, 4 * 7 * 16384), 0);
+    assert_eq!(volume_refusal(14, [3, 3, 4], 16, 144), 4);
+    assert_eq!(volume_refusal(14, [3, 3, 4], 32, 143), 5);
+    // 2^35 blocks of a flat footprint
+    assert_eq!(volume_refusal(0, [16384, 16384, 2048], 1 << 39, 1 << 41), 0);
 }
 
 #[test]
 fn block_modes() {
     let mut grids = 0;
-    for (mode, &meaning) in BLOCK_MODES.iter().enumerate() {
+    for (mode, &meaning) in BLOCK_MODES[0].iter().enumerate() {
         match meaning {
             BlockMode::Grid(g) => {
                 grids += 1;
-                let found = mode_number(g.width as usize, g.height as usize, g.range as usize, g.planes as usize);
-                assert_eq!(found, Some(mode as u16));
+                let sides = [g.width, g.height, g.depth].map(usize::from);
+                assert_eq!(mode_number(sides, g.range as usize, g.planes as usize), Some(mode as u16));
             }
             BlockMode::VoidExtent => assert_eq!(mode & 511, 508),
             BlockMode::Reserved => (),
@@ -199,13 +218,11 @@ fn block_modes() {
         for range in 0..12 {
             for height in 2..=12 {
                 for width in 2..=12 {
-                    if let Some(mode) = mode_number(width, height, range, planes) {
+                    if let Some(mode) = mode_number([width, height, 1], range, planes) {
                         found += 1;
-                        let BlockMode::Grid(g) = BLOCK_MODES[mode as usize] else { panic!() };
-                        assert_eq!(
-                            (g.width, g.height, g.range, g.planes),
-                            (width as u8, height as u8, range as u8, planes as u8)
-                        );
+                        let [width, height, range, planes] = [width, height, range, planes].map(|n| n as u8);
+                        let grid = Grid { width, height, depth: 1, range, planes };
+                        assert_eq!(BLOCK_MODES[0][mode as usize], BlockMode::Grid(grid));
                     }
                 }
             }
@@ -220,7 +237,7 @@ fn block_modes() {
 #[test]
 fn mode_bits_after_class_bits() {
     let mut s = SymbolicBlock::ZERO;
-    (s.width, s.height, s.range, s.planes, s.partitions) = (4, 4, 2, 1, 2);
+    (s.width, s.height, s.depth, s.range, s.planes, s.partitions) = (4, 4, 1, 2, 1, 2);
     (s.index, s.selector) = (1, 1);
     s.modes = [1, 6, 0, 0];
     let block = u128::from_le_bytes(write(0, &s).unwrap());

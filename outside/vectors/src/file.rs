@@ -27,15 +27,12 @@ impl StoredFile {
 
     /// Its texels as half floats.
     pub fn half_floats(&self) -> Vec<u16> {
-        self.halves.as_chunks::<2>().0.iter().map(|&h| u16::from_le_bytes(h)).collect()
+        crate::half_floats(self.halves)
     }
 
-    /// Whether these are its texels: all channels of kind 0, as far as half floats tell them, of kind 1 and of kind 2.
+    /// Whether these are its texels in kinds 0, 1 and 2.
     pub fn shows(&self, unorm16: &[u16], srgb8: &[u8], float16: &[u16]) -> bool {
-        let halves = self.half_floats();
-        halves.iter().copied().eq(unorm16.iter().map(|&c| crate::half_float(c)))
-            && srgb8 == self.srgb
-            && float16 == halves
+        srgb8 == self.srgb && crate::are_half_floats(self.halves, unorm16, float16)
     }
 }
 

@@ -4,13 +4,21 @@ pub mod bc7;
 pub mod caption;
 pub mod file;
 pub mod pvrtc;
+pub mod sheet;
+pub mod volume;
 
-/// Width and height of the footprints in 01's order.
+/// The footprints in 01's order, then the volumes in 02's.
 #[rustfmt::skip]
-const FOOTPRINTS: [(usize, usize); 14] = [
-    (4, 4), (5, 4), (5, 5), (6, 5), (6, 6), (8, 5), (8, 6), (8, 8),
-    (10, 5), (10, 6), (10, 8), (10, 10), (12, 10), (12, 12),
+const FOOTPRINTS: [[usize; 3]; 24] = [
+    [4, 4, 1], [5, 4, 1], [5, 5, 1], [6, 5, 1], [6, 6, 1], [8, 5, 1], [8, 6, 1], [8, 8, 1],
+    [10, 5, 1], [10, 6, 1], [10, 8, 1], [10, 10, 1], [12, 10, 1], [12, 12, 1],
+    [3, 3, 3], [4, 3, 3], [4, 4, 3], [4, 4, 4], [5, 4, 4], [5, 5, 4], [5, 5, 5], [6, 5, 5], [6, 6, 5], [6, 6, 6],
 ];
+
+/// Texels of a block.
+pub fn texels(footprint: usize) -> usize {
+    FOOTPRINTS[footprint].iter().product()
+}
 
 /// A one-block call: footprint, block, texels; answers the fault.
 pub type Call<T> = dyn Fn(usize, &[u8; 16], &mut [T]) -> u8;
@@ -25,7 +33,8 @@ pub struct Decoder<'a> {
     pub float16: &'a Call<u16>,
 }
 
-/// The stored files.
+/// Stored files, of flat footprints or of volumes.
+#[derive(Clone, Copy)]
 pub struct Files<'a> {
     /// Footprint, block, then for each texel four half floats and four sRGB bytes.
     pub texels: &'a [u8],
@@ -41,7 +50,7 @@ pub struct Files<'a> {
     pub float16_digests: &'a [u8],
 }
 
-/// The files beside this crate.
+/// The files beside this crate: flat footprints.
 pub const STORED: Files<'static> = Files {
     texels: include_bytes!("../data/texels.bin"),
     digests: include_bytes!("../data/digests.bin"),
@@ -49,6 +58,16 @@ pub const STORED: Files<'static> = Files {
     hdr: include_bytes!("../data/hdr.bin"),
     float16: include_bytes!("../data/float16.bin"),
     float16_digests: include_bytes!("../data/float16_digests.bin"),
+};
+
+/// The files beside this crate: volumes.
+pub const STORED_VOLUMES: Files<'static> = Files {
+    texels: include_bytes!("../data/volume_texels.bin"),
+    digests: include_bytes!("../data/volume_digests.bin"),
+    illegal: include_bytes!("../data/volume_illegal.bin"),
+    hdr: include_bytes!("../data/volume_hdr.bin"),
+    float16: include_bytes!("../data/volume_float16.bin"),
+    float16_digests: include_bytes!("../data/volume_float16_digests.bin"),
 };
 
 /// What a check found.
@@ -79,14 +98,25 @@ pub fn half_float(c: u16) -> u16 {
     ((top + 15 - 16) << 10 | mantissa) as u16
 }
 
+/// Stored half floats, little-endian.
+fn half_floats(stored: &[u8]) -> Vec<u16> {
+    stored.as_chunks::<2>().0.iter().map(|&h| u16::from_le_bytes(h)).collect()
+}
+
+/// The stored half floats are the numbers of kind 2, and tell those of kind 0 as far as they can.
+fn are_half_floats(stored: &[u8], unorm16: &[u16], float16: &[u16]) -> bool {
+    let halves = half_floats(stored);
+    halves == float16 && halves.into_iter().eq(unorm16.iter().map(|&c| half_float(c)))
+}
+
 /// The half float that astcenc shows for a colour of an HDR void extent: a NaN becomes a quiet one, all others stay.
 pub fn quiet(pattern: u16) -> u16 {
     if pattern & 0x7FFF > 0x7C00 { pattern | 0x200 } else { pattern }
 }
 
-/// An HDR void extent shows its colours as stored (02, i), where astcenc shows them quiet.
+/// Of a block without fault. An HDR void extent shows its colours as stored (02, i), where astcenc shows them quiet.
 fn is_hdr_void_extent(block: &[u8; 16]) -> bool {
-    block[0] == 0xFC && block[1] & 0x0F == 0x0F
+    block[0] == 0xFC && block[1] & 0x03 == 0x03
 }
 
 /// CRC-32 as zlib computes it.
@@ -115,12 +145,10 @@ fn little_endian(numbers: impl IntoIterator<Item = u16>) -> Vec<u8> {
 /// Fault, half floats (little-endian) and sRGB bytes that astcenc must show if the decoder is right;
 /// 255 where its kinds contradict each other.
 fn as_astcenc(decoder: &Decoder, footprint: usize, block: &[u8; 16]) -> (u8, Vec<u8>, Vec<u8>) {
-    let (width, height) = FOOTPRINTS[footprint];
-    let mut numbers = vec![0; 4 * width * height];
-    let mut bytes = vec![0; 4 * width * height];
+    let len = 4 * texels(footprint);
+    let (mut numbers, mut bytes, mut shown) = (vec![0; len], vec![0; len], vec![0; len]);
     let fault = (decoder.unorm16)(footprint, block, &mut numbers);
     let other = (decoder.srgb8)(footprint, block, &mut bytes);
-    let mut shown = vec![0; 4 * width * height];
     let third = (decoder.float16)(footprint, block, &mut shown);
     let halves: Vec<u16> = numbers.iter().map(|&c| half_float(c)).collect();
     if (other, third) != (fault, fault) || halves != shown {
@@ -132,8 +160,7 @@ fn as_astcenc(decoder: &Decoder, footprint: usize, block: &[u8; 16]) -> (u8, Vec
 /// The half floats (little-endian) that astcenc must show of an HDR block if the decoder is right; none where it tells a fault in kind 2, or
 /// shows other colours of a void extent than the stored ones.
 fn hdr_as_astcenc(decoder: &Decoder, footprint: usize, block: &[u8; 16]) -> Option<Vec<u8>> {
-    let (width, height) = FOOTPRINTS[footprint];
-    let mut shown = vec![0; 4 * width * height];
+    let mut shown = vec![0; 4 * texels(footprint)];
     if (decoder.float16)(footprint, block, &mut shown) != 0 {
         return None;
     }
@@ -148,22 +175,18 @@ fn hdr_as_astcenc(decoder: &Decoder, footprint: usize, block: &[u8; 16]) -> Opti
 
 /// No fault in kind 2.
 fn is_sound(decoder: &Decoder, footprint: usize, block: &[u8; 16]) -> bool {
-    let (width, height) = FOOTPRINTS[footprint];
-    (decoder.float16)(footprint, block, &mut vec![0; 4 * width * height]) == 0
+    (decoder.float16)(footprint, block, &mut vec![0; 4 * texels(footprint)]) == 0
 }
 
 /// All texels 65535 in kind 2, as astcenc's NaN, and the fault one of these.
 fn is_nan(decoder: &Decoder, footprint: usize, block: &[u8; 16], faults: &[u8]) -> bool {
-    let (width, height) = FOOTPRINTS[footprint];
-    let mut shown = vec![0; 4 * width * height];
+    let mut shown = vec![0; 4 * texels(footprint)];
     faults.contains(&(decoder.float16)(footprint, block, &mut shown)) && shown.iter().all(|&h| h == 65535)
 }
 
 /// All texels the error colour in kinds 0 and 1, and the fault one of these.
 fn is_error(decoder: &Decoder, footprint: usize, block: &[u8; 16], faults: &[u8]) -> bool {
-    let (width, height) = FOOTPRINTS[footprint];
-    let mut numbers = vec![0; 4 * width * height];
-    let mut bytes = vec![0; 4 * width * height];
+    let (mut numbers, mut bytes) = (vec![0; 4 * texels(footprint)], vec![0; 4 * texels(footprint)]);
     let fault = (decoder.unorm16)(footprint, block, &mut numbers);
     fault == (decoder.srgb8)(footprint, block, &mut bytes)
         && faults.contains(&fault)
@@ -184,8 +207,8 @@ pub fn check(decoder: &Decoder, files: &Files) -> Outcome {
         if agrees {
             outcome.passed[file] += 1;
         } else {
-            let (w, h) = FOOTPRINTS[footprint];
-            outcome.failed.push(format!("{what}: footprint {footprint} ({w}x{h}), block {block:02X?}"));
+            let [w, h, d] = FOOTPRINTS[footprint];
+            outcome.failed.push(format!("{what}: footprint {footprint} ({w}x{h}x{d}), block {block:02X?}"));
         }
     };
     let head =
@@ -193,10 +216,9 @@ pub fn check(decoder: &Decoder, files: &Files) -> Outcome {
     let mut file = files.texels;
     while !file.is_empty() {
         let (footprint, block) = head(&mut file);
-        let (width, height) = FOOTPRINTS[footprint];
         let (fault, halves, bytes) = as_astcenc(decoder, footprint, &block);
-        let expected_halves = record(&mut file, 8 * width * height);
-        let expected_bytes = record(&mut file, 4 * width * height);
+        let expected_halves = record(&mut file, 8 * texels(footprint));
+        let expected_bytes = record(&mut file, 4 * texels(footprint));
         note(0, "texels", footprint, &block, fault == 0 && halves == expected_halves && bytes == expected_bytes);
     }
     let mut file = files.digests;
@@ -224,8 +246,7 @@ pub fn check(decoder: &Decoder, files: &Files) -> Outcome {
     let mut file = files.float16;
     while !file.is_empty() {
         let (footprint, block) = head(&mut file);
-        let (width, height) = FOOTPRINTS[footprint];
-        let expected = record(&mut file, 8 * width * height);
+        let expected = record(&mut file, 8 * texels(footprint));
         let agrees = hdr_as_astcenc(decoder, footprint, &block).is_some_and(|halves| halves == expected)
             && is_error(decoder, footprint, &block, &[13, 20]);
         note(4, "float16", footprint, &block, agrees);

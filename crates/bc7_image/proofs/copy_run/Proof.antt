@@ -5,15 +5,14 @@ use native.Mathlib.Omega.{arith}
 use lib.ListN.{length, getD}
 use Rattle.laws.specs.Table.{tab}
 use Rattle.laws.proofs.Filling.{getD-tab}
-use Rattle.interpolation.specs.declared.Kind.the-variants.{Unorm16}
-use Rattle.image_layout.proofs.Regions.{Pasted}
+use Rattle.picture_regions.proofs.Regions.{Pasted}
 use borrow.Author.Needs.{needs}
 use Rattle.bc7_image.proofs.copy_run.Statement.{statement}
 use Rattle.bc7_image.proofs.copy_run.Tie as tie
 
 -- a row that was read and put is a run of sixteen bytes
 row-run : (src : List ℕ) (from n : ℕ) (old : List ℕ) (at : ℕ) (new row : List ℕ) → n ≡ 16 → row ≡ tab (λ k. getD src (from + k) 0) 16
-    → Pasted Unorm16 row 0 16 old at new → Pasted Unorm16 src from n old at new
+    → Pasted (λ n. n) row 0 16 old at new → Pasted (λ n. n) src from n old at new
 row-run src from n old at new row e r p = record {
   inside = λ k h.
       let z : 0 + k ≡ k = omega arith in

@@ -2,13 +2,12 @@ use mathlib.Core.Path.{_≡_, refl}
 use Prim.Native.Nat.{_-_, _≤_}
 use native.Mathlib.Omega.{arith}
 use lib.ListN.{length, length-set}
-use Rattle.interpolation.specs.declared.Kind.the-variants.{Unorm16}
-use Rattle.image_layout.proofs.Regions.{Pasted, pasted-none, pasted-more}
+use Rattle.picture_regions.proofs.Regions.{Pasted, pasted-none, pasted-more}
 use Rattle.bc7_image.proofs.copy_some.Statement.{statement}
 use Rattle.bc7_image.proofs.copy_some.Tie as tie
 
 abbrev Inv-loop : tie.InvT-loop
-Inv-loop src out₀ from at i₀ i-end out i = (i ≤ i-end) × (length out ≡ length out₀) × Pasted Unorm16 src from i out₀ at out
+Inv-loop src out₀ from at i₀ i-end out i = (i ≤ i-end) × (length out ≡ length out₀) × Pasted (λ n. n) src from i out₀ at out
 
 abbrev μ-loop : tie.MeasureT-loop
 μ-loop src out₀ from at i₀ i-end out i = i-end - i

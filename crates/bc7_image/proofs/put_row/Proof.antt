@@ -3,13 +3,12 @@ use mathlib.Core.List.{List}
 use Prim.Native.Nat.{ℕ, _+_, _-_, _≤_}
 use native.Mathlib.Omega.{arith}
 use lib.ListN.{length, getD, length-set}
-use Rattle.interpolation.specs.declared.Kind.the-variants.{Unorm16}
-use Rattle.image_layout.proofs.Regions.{Pasted, pasted-none, pasted-more}
+use Rattle.picture_regions.proofs.Regions.{Pasted, pasted-none, pasted-more}
 use Rattle.bc7_image.proofs.put_row.Statement.{statement}
 use Rattle.bc7_image.proofs.put_row.Tie as tie
 
 abbrev Inv-loop : tie.InvT-loop
-Inv-loop out₀ at row i₀ out i = (i ≤ 16) × (length out ≡ length out₀) × Pasted Unorm16 row 0 i out₀ at out
+Inv-loop out₀ at row i₀ out i = (i ≤ 16) × (length out ≡ length out₀) × Pasted (λ n. n) row 0 i out₀ at out
 
 abbrev μ-loop : tie.MeasureT-loop
 μ-loop out₀ at row i₀ out i = 16 - i

@@ -10,7 +10,7 @@ use Rattle.block_fault.specs.Settings.{verdictOf, settingsOf}
 use Rattle.interpolation.specs.Expansion.{takesHdr}
 use Rattle.block_fault.proofs.Verdicts.{settings-verdict, told-fault, told-void, told-coded, coded-header, coded-counts, coded-limits, coded-numbers}
 use Rattle.block_core.specs.inner.Prepared.{halves}
-use Rattle.block_core.proofs.Shows.{painted-into, shows-fault, shows-void, shows-coded}
+use Rattle.block_core.proofs.Shows.{painted-into, shows-fault, shows-void, shows-coded, flat-grid}
 use borrow.Author.Needs.{needs}
 use Rattle.block_core.proofs.decode_halves.Statement.{statement}
 use Rattle.block_core.proofs.decode_halves.Tie as tie
@@ -28,7 +28,7 @@ settings-are c = c .read-settings .ensures ∙ ap (λ (t : Bool). settingsOf t (
 verdict-is : (c : tie.After-read-settings) → verdictOf (taken c) (c .before .before .args .fp) (number c) ≡ c .read-settings .result .verdict
 verdict-is c = sym (ap (λ (s : Settings). s .verdict) (settings-are c) ∙ settings-verdict (taken c) (c .before .before .args .fp) (number c))
 
-header-is : (c : tie.After-read-settings) → c .read-settings .result .verdict ≡ verdict.Coded → c .read-settings .result .header ≡ headerAt (number c)
+header-is : (c : tie.After-read-settings) → c .read-settings .result .verdict ≡ verdict.Coded → c .read-settings .result .header ≡ headerAt (c .before .before .args .fp) (number c)
 header-is c e = ap (λ (s : Settings). s .header) (settings-are c) ∙ coded-header (taken c) (c .before .before .args .fp) (number c) (verdict-is c ∙ e)
 
 numbers-are : (c : tie.After-read-settings) → c .read-settings .result .verdict ≡ verdict.Coded
@@ -64,26 +64,26 @@ paint-coded-requires c κs =
     let r = c .before .before .before in
     let v = c .before .enum-told2 .given .1 in
     let k = told-coded _ _ _ (verdict-is r ∙ v) in
-    (rw (header-is r v) (coded-counts _ _ _ (k .0) (k .1)), (numbers-are r v, rw (header-is r v) (coded-limits _ _ _ (k .0) (k .1))))
+    (r .before .before .pre, (rw (header-is r v) (coded-counts _ _ _ (k .0) (k .1)), (numbers-are r v, rw (header-is r v) (coded-limits _ _ _ (k .0) (k .1), flat-grid _ _ _ (k .0) (k .1)))))
 
 returns : tie.Need-returns
 returns c =
     let r = c .before .before .before .before .before .before in
     let k = told-fault _ _ _ _ (verdict-is r ∙ c .before .before .before .before .v .given .1) in
-    (sym (k .0), λ e. painted-into _ _ _ _ _ (λ x y. c .before .before .error-texel .ensures ∙ shows-fault _ _ _ x y (k .1)) (c .flood .ensures e))
+    (sym (k .0), λ e. painted-into _ _ _ _ _ (λ x q. c .before .before .error-texel .ensures ∙ shows-fault _ _ _ x _ _ (k .1)) (c .flood .ensures e))
 
 returns-2 : tie.Need-returns-2
 returns-2 c =
     let r = c .before .before .before .before .before in
     let k = told-void _ _ _ (verdict-is r ∙ c .before .before .before .enum-told .given .1) in
-    (sym (k .0), λ e. painted-into _ _ _ _ _ (λ x y. c .before .before .colours .ensures ∙ shows-void _ _ _ x y (k .0) (k .1)) (c .flood2 .ensures e))
+    (sym (k .0), λ e. painted-into _ _ _ _ _ (λ x q. c .before .before .colours .ensures ∙ shows-void _ _ _ x _ _ (k .0) (k .1)) (c .flood2 .ensures e))
 
 returns-3 : tie.Need-returns-3
 returns-3 c =
     let r = c .before .before .before .before in
     let v = c .before .before .enum-told2 .given .1 in
     let k = told-coded _ _ _ (verdict-is r ∙ v) in
-    (sym (k .0), λ e. painted-into _ _ _ _ _ (λ x y. shows-coded _ _ _ x y (k .0) (k .1) _ (header-is r v)) (c .paint-coded .ensures e))
+    (sym (k .0), λ e. painted-into _ _ _ _ _ (λ x q. shows-coded _ _ _ x _ _ (k .0) (k .1) _ (header-is r v)) (c .paint-coded .ensures e))
 
 pub decode-halves-spec : {M : Type 1} → statement M
 decode-halves-spec =

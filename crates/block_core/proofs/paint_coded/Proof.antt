@@ -1,58 +1,76 @@
-use denote.Ref.{now}
+use mathlib.Core.Bool.{false}
 use mathlib.Core.Path.{_≡_, sym, _∙_}
 use Rattle.bits.specs.Block.{blockNumber}
+use Rattle.footprint.specs.Footprint.{isVolume}
 use Rattle.block_fault.specs.Bits.{weightAt}
+use Rattle.half_line.proofs.Line.{half-kind}
 use Rattle.block_core.specs.inner.Prepared.{Inside, ByteLevels}
-use Rattle.block_core.proofs.Frames.{inside}
-use Rattle.block_core.proofs.Painting.{half-kind}
-use Rattle.block_core.proofs.Shows.{byte-levels, coded-told}
+use Rattle.block_core.proofs.Frames.{inside, in-volume}
+use Rattle.block_core.proofs.Shows.{byte-levels, flat-told, volume-told}
 use borrow.Author.Needs.{needs}
 use Rattle.block_core.proofs.paint_coded.Statement.{statement}
 use Rattle.block_core.proofs.paint_coded.Tie as tie
 
--- what each painter asks
-ready : (c : tie.After-frame-of) → Inside (c .before .before .before .before .before .before .before .before .args .s .header .grid) (c .frame-of .result) × ByteLevels (c .before .before .before .before .before .points-of .result)
+abbrev start : tie.After-second-component → tie.Start
+start c = c .before .before .before .before .before .before
+
+-- the points that are made have levels of bytes
+levels : (c : tie.After-second-component) → ByteLevels (c .before .before .before .points-of .result)
 unfolding weightAt
-ready c =
-    let s = c .before .before .before .before .before .before .before .before in
-    let h = s .args .s .header in (
-      rw (c .frame-of .ensures) (inside (s .args .fp) (h .grid) (s .pre .1 .1) (s .pre .0 .0)),
-      rw (c .before .before .before .before .before .points-of .ensures) (byte-levels h (weightAt (blockNumber (s .args .block)) h)),
-    )
+levels c = let s = start c in
+    rw (c .before .before .before .points-of .ensures) (byte-levels (s .args .s .header) (weightAt (blockNumber (s .args .block)) (s .args .s .header)))
+
+-- what each flat painter asks
+ready : (c : tie.After-frame-of) → Inside (start (c .before .before .before) .args .s .header .grid) (c .frame-of .result) × ByteLevels (c .before .before .before .before .before .before .points-of .result)
+ready c = let q = c .before .before .before in
+    let s = start q in
+    (rw (c .frame-of .ensures) (inside (s .args .fp) (s .args .s .header .grid) (s .pre .1 .1 .1 .0) (s .pre .1 .0 .0)), levels q)
+
+flat : (c : tie.Else1) → isVolume (start (c .before) .args .fp) ≡ false
+flat c = sym (start (c .before) .pre .0) ∙ c .if1 .left
+
+paint-volume-requires : tie.Need-paint-volume-requires
+paint-volume-requires c κs = let f = c .before .before in
+    let q = f .before .before in
+    let s = start q in
+    (rw (f .volume-frame .ensures) (in-volume (s .args .fp) (s .args .s .header .grid) (s .pre .1 .1 .1 .0) (s .pre .1 .0 .0)), levels q)
 
 paint-half-requires : tie.Need-paint-half-requires
 paint-half-requires c κs = ready (c .before .before .before .before)
 
 paint-requires : tie.Need-paint-requires
-paint-requires c κs = (sym (c .before .before .before .takes-hdr .ensures) ∙ c .before .before .if1 .left, ready (c .before .before .before .before))
+paint-requires c κs = (sym (c .before .before .before .takes-hdr .ensures) ∙ c .before .before .if2 .left, ready (c .before .before .before .before))
 
 returns : tie.Need-returns
 unfolding weightAt
-returns c =
-    let t = c .before .before .before .before in
-    let f = t .before in
-    let q = f .before in
-    let d = q .before in
-    let n = d .before .before in
-    let s = n .before .before .before .before in
-    let h = s .args .s .header in
-    let k = half-kind (s .args .kind) (sym (t .takes-hdr .ensures) ∙ c .before .before .before .if1 .taken) in
-    λ e. coded-told (s .args .fp) (s .args .kind) (blockNumber (s .args .block)) h _ (s .pre .1 .1) (s .pre .0 .0)
-    (n .before .points-of .ensures) (n .lines-of .ensures) (d .before .is-small .ensures) (d .partition-seeds .ensures .0) (q .second-component .ensures) (f .frame-of .ensures)
-    (rw (← k) at (c .paint-half .ensures e))
+returns c = let f = c .before .before .before in
+    let q = f .before .before in
+    let s = start q in
+    λ e. volume-told (s .args .fp) (s .args .kind) (blockNumber (s .args .block)) (s .args .s .header) _ (s .pre .1 .1 .1 .0) (s .pre .1 .0 .0)
+    (q .before .before .before .points-of .ensures) (q .before .before .lines-of .ensures) (q .before .is-small .ensures) (q .second-component .ensures)
+    (sym (s .pre .0) ∙ f .before .if1 .taken) (f .volume-frame .ensures) (c .paint-volume .ensures e)
 
 returns-2 : tie.Need-returns-2
 unfolding weightAt
-returns-2 c =
-    let f = c .before .before .before .before .before in
-    let q = f .before in
-    let d = q .before in
-    let n = d .before .before in
-    let s = n .before .before .before .before in
-    let h = s .args .s .header in
-    λ e. coded-told (s .args .fp) (s .args .kind) (blockNumber (s .args .block)) h _ (s .pre .1 .1) (s .pre .0 .0)
-    (n .before .points-of .ensures) (n .lines-of .ensures) (d .before .is-small .ensures) (d .partition-seeds .ensures .0) (q .second-component .ensures) (f .frame-of .ensures)
-    (c .paint .ensures e)
+returns-2 c = let t = c .before .before .before .before in
+    let f = t .before in
+    let d = f .before in
+    let q = d .before .before in
+    let s = start q in
+    let k = half-kind (s .args .kind) (sym (t .takes-hdr .ensures) ∙ c .before .before .before .if2 .taken) in
+    λ e. flat-told (s .args .fp) (s .args .kind) (blockNumber (s .args .block)) (s .args .s .header) _ (s .pre .1 .1 .1 .0) (s .pre .1 .0 .0)
+    (q .before .before .before .points-of .ensures) (q .before .before .lines-of .ensures) (q .before .is-small .ensures) (q .second-component .ensures)
+    (flat (d .before)) (s .pre .1 .1 .1 .1 (flat (d .before))) (d .partition-seeds .ensures .0) (f .frame-of .ensures) (rw (← k) at (c .paint-half .ensures e))
+
+returns-3 : tie.Need-returns-3
+unfolding weightAt
+returns-3 c = let f = c .before .before .before .before .before in
+    let d = f .before in
+    let q = d .before .before in
+    let s = start q in
+    λ e. flat-told (s .args .fp) (s .args .kind) (blockNumber (s .args .block)) (s .args .s .header) _ (s .pre .1 .1 .1 .0) (s .pre .1 .0 .0)
+    (q .before .before .before .points-of .ensures) (q .before .before .lines-of .ensures) (q .before .is-small .ensures) (q .second-component .ensures)
+    (flat (d .before)) (s .pre .1 .1 .1 .1 (flat (d .before))) (d .partition-seeds .ensures .0) (f .frame-of .ensures) (c .paint .ensures e)
 
 pub paint-coded-spec : {M : Type 1} → statement M
 paint-coded-spec =
@@ -63,9 +81,12 @@ paint-coded-spec =
     (λ c κs. search needs)
     (λ c κs. search needs)
     (λ c κs. search needs)
+    paint-volume-requires
+    returns
+    (λ c κs. search needs)
     (λ c κs. search needs)
     (λ c κs. search needs)
     paint-half-requires
     paint-requires
-    returns
-    returns-2)
+    returns-2
+    returns-3)

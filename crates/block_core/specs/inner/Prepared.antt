@@ -1,4 +1,4 @@
--- The texel of a block whose weights and endpoints are unquantised, its points packed, its pairs made lines and its partition seeds made:
+-- The texel of a flat block whose weights and endpoints are unquantised, its points packed, its pairs made lines and its partition seeds made:
 -- what is left to do for each texel.
 -- Assumes nothing.
 use Prim.Native.Nat.{ℕ, _-_, _*_, _≤_, _<_}
@@ -7,7 +7,7 @@ use lib.Dec.{eqb}
 use lib.ListN.{getD}
 use Rattle.laws.specs.Choice.{pick}
 use Rattle.bits.specs.declared.PhysicalBlock.{PhysicalBlock}
-use Rattle.footprint.specs.Footprint.{widthOf, heightOf}
+use Rattle.footprint.specs.Footprint.{widthOf, heightOf, depthOf}
 use Rattle.block_mode.specs.declared.WeightGrid.{WeightGrid}
 use Rattle.block_mode.specs.Back2D.{Limits}
 use Rattle.block_header.specs.Counts.{weightCount}
@@ -19,18 +19,23 @@ use Rattle.encoding.specs.Levels.{firstLevel, secondLevel, Bytes}
 use Rattle.weight_grid.specs.inner.Points.{noPoint, readOf}
 use Rattle.interpolation.specs.declared.Kind.{Kind}
 use Rattle.interpolation.specs.declared.Texel.{Texel}
-use Rattle.interpolation.specs.Expansion.{takesHdr}
-use Rattle.interpolation.specs.inner.Line.{lineTexel}
-use Rattle.half_line.specs.inner.Line.{halfTexelOn}
+use Rattle.half_line.specs.inner.Line.{texelOn}
+use Rattle.volume_paint.specs.declared.VolumeFrame.{VolumeFrame}
 use Rattle.block_core.specs.declared.Frame.{Frame}
 
 -- the sides of a footprint and the scales of a grid along them
 unfoldable pub frameOf : ℕ → Frame
 frameOf fp = record { width = widthOf fp; height = heightOf fp; across = scaleOf (widthOf fp); down = scaleOf (heightOf fp) }
 
--- the texel of a kind on the numbers of its pair
-unfoldable pub texelOn : Kind → List ℕ → ℕ → ℕ → ℕ → Texel
-texelOn kind line first second component = pick (takesHdr kind) (halfTexelOn line first second component) (lineTexel kind line first second component)
+unfoldable pub volumeFrameOf : ℕ → VolumeFrame
+volumeFrameOf fp = record {
+  width = widthOf fp;
+  height = heightOf fp;
+  depth = depthOf fp;
+  across = scaleOf (widthOf fp);
+  down = scaleOf (heightOf fp);
+  inward = scaleOf (depthOf fp);
+}
 
 module _ (kind : Kind) (g : WeightGrid) (component : ℕ) (points : List LevelPair) (lines : List (List ℕ)) where
   -- the texel of partition p at gs, gt of the grid; `component` takes the second weight, 4 standing for none

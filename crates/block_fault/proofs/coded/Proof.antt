@@ -3,9 +3,10 @@ use Prim.Native.Nat.{ℕ, _+_}
 use native.Mathlib.Omega.{arith}
 use Rattle.bits.specs.Field.{field}
 use Rattle.bits.specs.Block.{blockNumber}
-use Rattle.block_mode.specs.Mode2D.{blockMode}
+use Rattle.footprint.specs.Footprint.{isVolume}
+use Rattle.volume_mode.specs.Either.{blockModeIn}
 use Rattle.block_mode.specs.declared.BlockMode.the-variants.{Grid}
-use Rattle.block_mode.proofs.Modes.{any-limits}
+use Rattle.volume_mode.proofs.Modes.{any-limits}
 use Rattle.block_header.specs.Reasons.{gridFault}
 use Rattle.block_header.proofs.Laws.{grid-bits, ends-count}
 use Rattle.block_fault.specs.Bits.{modeAt, partitionsAt}
@@ -31,7 +32,7 @@ unfolding partitionsAt
 count f = ap (λ (n : ℕ). n + 1) (parts f .is)
 
 -- the mode's eleven bits
-mode-of : (s : tie.Start) → blockMode (field (blockNumber (s .args .b)) 0 11) ≡ Grid (s .args .g)
+mode-of : (s : tie.Start) → blockModeIn (isVolume (s .args .fp)) (field (blockNumber (s .args .b)) 0 11) ≡ Grid (s .args .g)
 unfolding modeAt
 mode-of s = s .pre
 
@@ -50,13 +51,12 @@ header-at-requires : tie.Need-header-at-requires
 header-at-requires c κs =
     let f = c .before .before .before in
     let s = begin f in
-    let w = f .before .before .before .before .weight-bits .ensures .0 in
-    (omega (arith, parts f .below), any-limits _ (s .args .g) (mode-of s) .planes-most, w, rw w (grid-bits (s .args .fp) (s .args .g) (passed (f .before))))
+    let w = f .before .before .before .before .weight-bits .ensures in
+    (omega (arith, parts f .below), any-limits (isVolume (s .args .fp)) _ (s .args .g) (mode-of s) .planes-most, w, rw w (grid-bits (s .args .fp) (s .args .g) (passed (f .before))))
 
 bits-left-with-requires : tie.Need-bits-left-with-requires
 bits-left-with-requires c κs =
-    let w = c .before .before .before .before .before .before .before .before .before .weight-bits .ensures in
-    (rw (made-grid _ _ _ _ (c .before .header-at .ensures)) (w .0), w .1)
+    rw (made-grid _ _ _ _ (c .before .header-at .ensures)) (c .before .before .before .before .before .before .before .before .before .weight-bits .ensures)
 
 returns-3 : tie.Need-returns-3
 returns-3 c =
@@ -105,6 +105,7 @@ coded-spec =
     (λ c κs. search needs)
     (λ c κs. search needs)
     returns-2
+    (λ c. let f = c .before .before .before in let s = begin f in omega (arith, f .before .before .before .before .weight-bits .ensures, grid-bits (s .args .fp) (s .args .g) (passed (f .before))))
     header-at-requires
     (λ c κs. search needs)
     bits-left-with-requires

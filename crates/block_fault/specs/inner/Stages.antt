@@ -25,5 +25,5 @@ stageIn VoidExtent = Passed
 stageIn (Fault n) = Stopped n
 
 -- what a void extent comes to
-unfoldable pub voidSettings : Bool → ℕ → Settings
-voidSettings hdr B = bareOf (pick (eqb (firstOf (voidReasons hdr B)) 0) VoidExtent (Fault (firstOf (voidReasons hdr B))))
+unfoldable pub voidSettings : Bool → ℕ → ℕ → Settings
+voidSettings hdr fp B = bareOf (pick (eqb (firstOf (voidReasons hdr fp B)) 0) VoidExtent (Fault (firstOf (voidReasons hdr fp B))))

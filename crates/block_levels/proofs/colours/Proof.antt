@@ -21,7 +21,7 @@ four kind colour et em eh er eg eb ea = rw (er, eg, eb, ea, eh, em, et)
 returns : tie.Need-returns
 returns c =
     let h = c .before .before .before .before in
-    four _ _ (h .before .before .stored-colours .ensures) (h .before .is-hdr .ensures) (h .shown-as-half .ensures) (c .before .before .before .solid-number .ensures) (c .before .before .solid-number2 .ensures) (c .before .solid-number3 .ensures) (c .solid-number4 .ensures)
+    four _ _ (h .before .before .stored-colours .ensures) (h .before .hdr-void-extent .ensures) (h .shown-as-half .ensures) (c .before .before .before .solid-number .ensures) (c .before .before .solid-number2 .ensures) (c .before .solid-number3 .ensures) (c .solid-number4 .ensures)
 
 pub colours-spec : {M : Type 1} → statement M
 colours-spec =

@@ -1,5 +1,5 @@
 use native.Mathlib.Omega.{arith}
-use Rattle.block_fault.specs.Bits.{colourAt}
+use Rattle.void_extent.specs.Layout.{colourAt}
 use Rattle.block_fault.proofs.Laws.{narrow}
 use Rattle.block_levels.specs.inner.Lines.{coloursOf}
 use borrow.Author.Needs.{needs}

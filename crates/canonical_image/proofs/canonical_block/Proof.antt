@@ -28,14 +28,17 @@ none c = sym (c .before .one-refusal .ensures) ∙ c .if1 .left
 load-requires : tie.Need-load-requires
 load-requires c κs = search needs
 
+is-volume-requires : tie.Need-is-volume-requires
+is-volume-requires c κs = search needs
+
 canonical-requires : tie.Need-canonical-requires
-canonical-requires c κs = taken _ _ _ (none (c .before)) .known
+canonical-requires c κs = (taken _ _ _ (none (c .before .before)) .known, c .before .is-volume .ensures)
 
 store-requires : tie.Need-store-requires
 store-requires c κs = search needs
 
 put-block-requires : tie.Need-put-block-requires
-put-block-requires c κs = taken _ _ _ (none (c .before .before .before .before)) .room
+put-block-requires c κs = taken _ _ _ (none (c .before .before .before .before .before)) .room
 
 answer-for-requires : tie.Need-answer-for-requires
 answer-for-requires c κs = search needs
@@ -49,7 +52,7 @@ returns-2 c =
     let st = p .before .before in
     let k = st .before in
     let l = k .before in
-    let e = l .before in
+    let e = l .before .before in
     let a = e .before .before .before .before .args in
     let s = now (a .block) in
     let bytes : Bytes s = λ i. e .before .before .before .shared-slice-known .given i .fits in
@@ -65,6 +68,7 @@ canonical-block-spec =
     (tie.spec
     one-refusal-requires
     returns
+    is-volume-requires
     load-requires
     canonical-requires
     store-requires

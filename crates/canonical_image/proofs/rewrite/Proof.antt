@@ -1,9 +1,10 @@
-use mathlib.Core.Path.{_≡_, ap, _∙_}
+use mathlib.Core.Path.{_≡_, sym, ap, _∙_}
 use mathlib.Core.Bool.{true}
 use Prim.Native.Nat.{_+_, _-_, _*_, _≤_}
 use native.Mathlib.Omega.{arith}
 use borrow.Author.Needs.{needs}
 use lib.ListN.{length}
+use Rattle.footprint.proofs.Laws.{flat}
 use Rattle.block_fault.specs.Faults.{faultOf}
 use Rattle.block_reading.specs.Canonical.{canonicalIn}
 use Rattle.image_layout.proofs.Tallies.{tally-le}
@@ -31,7 +32,7 @@ block-of-requires : tie.Need-block-of-requires Inv-loop μ-loop
 block-of-requires c κs = omega (arith, room (c .before), c .before .before .loop .inv .1 .size)
 
 canonical-requires : tie.Need-canonical-requires Inv-loop μ-loop
-canonical-requires c κs = start (c .before .before) .pre .0
+canonical-requires c κs = let h = start (c .before .before) .pre .0 in (omega arith, sym (flat _ (omega arith)))
 
 mul-put : tie.Need-mul-put Inv-loop μ-loop
 mul-put c = omega (arith, c .before .before .before .before .loop-test .taken, start (c .before .before .before .before) .pre .1 .1)

@@ -8,8 +8,11 @@ use lib.Dec.{eqb}
 use lib.ListN.{getD}
 use Rattle.laws.specs.Choice.{pick}
 use Rattle.half_float.specs.Half.{halfOf}
+use Rattle.interpolation.specs.declared.Kind.{Kind}
 use Rattle.interpolation.specs.declared.Texel.{Texel}
+use Rattle.interpolation.specs.Expansion.{takesHdr}
 use Rattle.interpolation.specs.Texel.{mixOf}
+use Rattle.interpolation.specs.inner.Line.{lineTexel}
 use Rattle.half_pair.specs.declared.HalfPair.{HalfPair}
 
 unfoldable pub flagOf : Bool → ℕ
@@ -29,3 +32,7 @@ module _ (line : List ℕ) (first second component : ℕ) where
 
   unfoldable pub halfTexelOn : Texel
   halfTexelOn = record { r = lineChannel 8 0; g = lineChannel 8 1; b = lineChannel 8 2; a = lineChannel 9 3 }
+
+-- the texel of a kind on the numbers of its pair
+unfoldable pub texelOn : Kind → List ℕ → ℕ → ℕ → ℕ → Texel
+texelOn kind line first second component = pick (takesHdr kind) (halfTexelOn line first second component) (lineTexel kind line first second component)

@@ -3,19 +3,20 @@ use Prim.Native.Nat.{_-_, _≤_}
 use native.Mathlib.Omega.{arith}
 use lib.ListN.{length}
 use Rattle.interpolation.specs.declared.Kind.the-variants.{Unorm16}
-use Rattle.image_layout.proofs.Parts.{run-fits, placed-row}
-use Rattle.image_layout.proofs.Regions.{Placed, placed-none}
+use Rattle.interpolation.specs.Expansion.{shownOf}
+use Rattle.image_layout.proofs.Parts.{PlacedRows, run-fits, placed-row}
+use Rattle.picture_regions.proofs.Regions.{placed-none}
 use Rattle.image.proofs.place_numbers.Statement.{statement}
 use Rattle.image.proofs.place_numbers.Tie as tie
 
 abbrev Inv-loop : tie.InvT-loop
-Inv-loop buf g p out₀ dy₀ dy-end out dy = (dy ≤ dy-end) × (length out ≡ length out₀) × Placed Unorm16 (g .width) (p .x) (p .y) (p .columns) dy (g .columns) buf out₀ out
+Inv-loop buf g p out₀ dy₀ dy-end out dy = (dy ≤ dy-end) × (length out ≡ length out₀) × PlacedRows (shownOf Unorm16) g p dy buf out₀ out
 
 abbrev μ-loop : tie.MeasureT-loop
 μ-loop buf g p out₀ dy₀ dy-end out dy = dy-end - dy
 
 loop-holds : tie.Need-loop-holds Inv-loop μ-loop
-loop-holds c = (omega arith, refl, placed-none _ _ _ _ _ _ _ _)
+loop-holds c = (omega arith, refl, placed-none _ _ _ _ _ _ _ _ _)
 
 run-of-requires : tie.Need-run-of-requires Inv-loop μ-loop
 run-of-requires c κs = let p = c .before .before .before .pre in (p .0, (p .1 .0, c .loop-test .taken))
@@ -37,7 +38,7 @@ loop-again c = let k = c .before .before in
     let p = c .before .before .before .before .before .before .before .before .pre in (
       omega arith,
       k .copy-numbers .kept .1 .1 .0 ∙ l .inv .1,
-      placed-row Unorm16 _ _ (l .dy) _ _ _ (l .out) _ (p .1 .0) (k .before .before .run-of .ensures) (l .inv .2) (k .copy-numbers .ensures),
+      placed-row (shownOf Unorm16) _ _ (l .dy) _ _ _ (l .out) _ (p .1 .0) (k .before .before .run-of .ensures) (l .inv .2) (k .copy-numbers .ensures),
     )
 
 same-length : tie.Need-same-length Inv-loop μ-loop

@@ -1,6 +1,7 @@
 use native.Mathlib.Omega.{arith}
-use mathlib.Core.Path.{ap, _∙_}
+use mathlib.Core.Path.{sym, ap, _∙_}
 use denote.Ref.{now}
+use Rattle.footprint.proofs.Laws.{flat}
 use Rattle.block_reading.proofs.Shows.{held}
 use borrow.Author.Needs.{needs}
 use Rattle.image_layout.specs.Numbers.{faultAtIn}
@@ -18,7 +19,7 @@ block-of-requires : tie.Need-block-of-requires
 block-of-requires c κs = search needs
 
 decode-in-requires : tie.Need-decode-in-requires
-decode-in-requires c κs = omega (arith, c .before .before .before .before .before .pre .0 .footprint)
+decode-in-requires c κs = let l = c .before .before .before .before .before .pre .0 .footprint in (omega (arith, l), sym (flat _ l))
 
 place-bytes-requires : tie.Need-place-bytes-requires
 place-bytes-requires c κs = search needs

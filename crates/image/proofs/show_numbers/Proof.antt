@@ -1,12 +1,13 @@
 use native.Mathlib.Omega.{arith}
-use mathlib.Core.Path.{ap, _∙_}
+use mathlib.Core.Path.{sym, ap, _∙_}
 use denote.Ref.{now}
 use Rattle.block_reading.proofs.Shows.{held}
 use borrow.Author.Needs.{needs}
 use Rattle.image_layout.specs.Numbers.{faultAtIn}
 use Rattle.block_reading.specs.Faults.{faultIn}
 use Rattle.interpolation.specs.Expansion.{takesHdr}
-use Rattle.image_layout.proofs.Regions.{placed-words}
+use Rattle.footprint.proofs.Laws.{flat}
+use Rattle.picture_regions.proofs.Regions.{placed-as}
 use Rattle.image_layout.proofs.Parts.{block-shown}
 use Rattle.image.proofs.show_numbers.Statement.{statement}
 use Rattle.image.proofs.show_numbers.Tie as tie
@@ -18,7 +19,7 @@ block-of-requires : tie.Need-block-of-requires
 block-of-requires c κs = search needs
 
 decode-in-requires : tie.Need-decode-in-requires
-decode-in-requires c κs = omega (arith, c .before .before .before .before .before .pre .1 .0 .footprint)
+decode-in-requires c κs = let l = c .before .before .before .before .before .pre .1 .0 .footprint in (omega (arith, l), sym (flat _ l))
 
 place-numbers-requires : tie.Need-place-numbers-requires
 place-numbers-requires c κs = search needs
@@ -36,7 +37,7 @@ returns c = let k = c .before .before in
     let h = held (a .reading) _ _ _ _ _ (p .1 .1 .1 .1 .1) (d .decode-in .ensures .1 (p .1 .1 .1 .1 .1)) in (
       d .decode-in .ensures .0 ∙ ap (faultIn (a .reading) (takesHdr (a .kind)) _) (b .block-of .ensures),
       (
-        block-shown (a .kind) (a .g) (a .reading) (p .1 .0) (now (a .s)) (a .b) _ _ _ (now (a .out)) _ (b .before .part-of .ensures) (b .block-of .ensures) (h .holds) (placed-words (a .kind) (p .0) _ _ _ _ _ _ _ _ _ (k .place-numbers .ensures)),
+        block-shown (a .kind) (a .g) (a .reading) (p .1 .0) (now (a .s)) (a .b) _ _ _ (now (a .out)) _ (b .before .part-of .ensures) (b .block-of .ensures) (h .holds) (placed-as _ _ (λ n. sym (p .0 n)) _ _ _ _ _ _ _ _ _ _ (k .place-numbers .ensures)),
         h .size,
       ),
     )

@@ -1,7 +1,9 @@
-use mathlib.Core.Path.{_≡_, ap, _∙_}
+use mathlib.Core.Path.{_≡_, sym, ap, _∙_}
 use mathlib.Core.Bool.{Bool}
 use Rattle.bits.specs.Block.{blockNumber}
 use Rattle.block_reading.specs.Faults.{strictFault}
+use native.Mathlib.Omega.{arith}
+use Rattle.footprint.proofs.Laws.{flat}
 use borrow.Author.Needs.{needs}
 use Rattle.image_faults.proofs.fault_of.Statement.{statement}
 use Rattle.image_faults.proofs.fault_of.Tie as tie
@@ -19,7 +21,7 @@ takes-hdr-requires : tie.Need-takes-hdr-requires
 takes-hdr-requires c κs = search needs
 
 strict-fault-requires : tie.Need-strict-fault-requires
-strict-fault-requires c κs = search needs
+strict-fault-requires c κs = let h = c .before .before .before .pre in (omega arith, sym (flat _ (omega arith)))
 
 returns : tie.Need-returns
 returns c = rw (c .before .enum-told .given .1) (c .ordinary-fault .ensures)

@@ -5,6 +5,8 @@ use Rattle.block_fault.specs.declared.Settings.{Settings}
 use Rattle.block_fault.specs.Settings.{verdictOf, settingsOf}
 use Rattle.interpolation.specs.Expansion.{takesHdr}
 use Rattle.block_fault.proofs.Verdicts.{settings-verdict, told-fault, told-void, told-coded}
+use native.Mathlib.Omega.{arith}
+use Rattle.footprint.proofs.Laws.{flat}
 use borrow.Author.Needs.{needs}
 use Rattle.image_faults.proofs.ordinary_fault.Statement.{statement}
 use Rattle.image_faults.proofs.ordinary_fault.Tie as tie
@@ -20,7 +22,7 @@ takes-hdr-requires : tie.Need-takes-hdr-requires
 takes-hdr-requires c κs = search needs
 
 read-settings-requires : tie.Need-read-settings-requires
-read-settings-requires c κs = search needs
+read-settings-requires c κs = let h = c .before .pre in sym (flat _ (omega arith))
 
 enum-known-v : tie.Need-enum-known-v
 enum-known-v c = search needs

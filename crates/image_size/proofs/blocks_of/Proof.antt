@@ -3,7 +3,7 @@ use Prim.Native.Nat.{ℕ, _*_, _<_}
 use native.Mathlib.Omega.{arith}
 use borrow.Author.Needs.{needs}
 use Rattle.footprint.specs.Footprint.{widthOf, heightOf}
-use Rattle.footprint.proofs.Laws.{bounds}
+use Rattle.footprint.proofs.Laws.{flat-bounds}
 use Rattle.image_size.specs.Sides.{sideLimit, blocksOf}
 use Rattle.image_size.proofs.Laws.{limit-le, sized, side-fine, blocks-pos, product-most}
 use Rattle.image_size.proofs.blocks_of.Statement.{statement}
@@ -13,7 +13,7 @@ blocks-across-requires : tie.Need-blocks-across-requires
 blocks-across-requires c κs = let b = c .before .before in
     let a = b .args in
     let s = sized (a .footprint) (a .width) (a .height) (b .pre) in
-    let k = bounds (a .footprint) (let f = s .footprint in omega arith) in
+    let k = flat-bounds (a .footprint) (let f = s .footprint in omega arith) in
     let e = c .height .ensures in
     omega (arith, k .height-least, side-fine (a .height) (s .high) .1, limit-le)
 
@@ -21,7 +21,7 @@ blocks-across-requires-2 : tie.Need-blocks-across-requires-2
 blocks-across-requires-2 c κs = let b = c .before .before .before in
     let a = b .args in
     let s = sized (a .footprint) (a .width) (a .height) (b .pre) in
-    let k = bounds (a .footprint) (let f = s .footprint in omega arith) in
+    let k = flat-bounds (a .footprint) (let f = s .footprint in omega arith) in
     let e = c .before .before .width .ensures in
     omega (arith, k .width-least, side-fine (a .width) (s .wide) .1, limit-le)
 

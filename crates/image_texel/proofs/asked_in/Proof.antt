@@ -3,7 +3,7 @@ use Prim.Native.Nat.{_/_, _*_, _+_}
 use native.Mathlib.Omega.{arith}
 use lib.ListN.{length}
 use denote.Ref.{now}
-use Rattle.image_texel.proofs.Ask.{Bounded, wide-fine, bounded, asked-told}
+use Rattle.image_texel.proofs.Ask.{Bounded, flat-blocks, wide-fine, bounded, asked-told}
 use borrow.Author.Needs.{needs}
 use Rattle.image_texel.proofs.asked_in.Statement.{statement}
 use Rattle.image_texel.proofs.asked_in.Tie as tie
@@ -68,7 +68,12 @@ cast-texel-of-4 : tie.Need-cast-texel-of-4
 cast-texel-of-4 c = let f = facts (c .before) in omega (arith, f .column, f .row, f .columns-most, f .rows-most)
 
 texel-of-requires : tie.Need-texel-of-requires
-texel-of-requires c κs = let f = facts (c .before) in let h = c .before .before in (omega (arith, f .column, h .before .width .ensures), omega (arith, f .row, h .height .ensures))
+texel-of-requires c κs =
+    let f = facts (c .before) in
+    let h = c .before .before in
+    let s = h .before .before .before in
+    let a = s .args in
+    (flat-blocks (a .footprint) (a .width) (a .height) (length (now (a .blocks))) (s .pre .0), (omega (arith, f .column, h .before .width .ensures), omega (arith, f .row, h .height .ensures)))
 
 shown-requires : tie.Need-shown-requires
 shown-requires c κs = search needs

@@ -27,10 +27,10 @@ load-requires : tie.Need-load-requires
 load-requires c κs = search needs
 
 decode-in-requires : tie.Need-decode-in-requires
-decode-in-requires c κs = not-refused _ _ _ (none (c .before .before)) .known
+decode-in-requires c κs = (not-refused _ _ _ (none (c .before .before .before)) .known, c .before .is-volume .ensures)
 
 copy-bytes-requires : tie.Need-copy-bytes-requires
-copy-bytes-requires c κs = fits-in _ _ _ (none (c .before .before .before .before .before))
+copy-bytes-requires c κs = fits-in _ _ _ (none (c .before .before .before .before .before .before))
 
 answer-for-requires : tie.Need-answer-for-requires
 answer-for-requires c κs = search needs
@@ -41,7 +41,7 @@ same-length c = search needs
 returns-2 : tie.Need-returns-2
 returns-2 c =
     let d = c .before .before .before .before .before .before in
-    let l = d .before .before in
+    let l = d .before .before .before in
     let st = l .before .before .before .before .args in
     let bytes : Bytes (now (st .block)) = λ i. l .before .before .before .shared-slice-known .given i .fits in
     let e = none (l .before) in
@@ -58,6 +58,7 @@ show-bytes-spec =
     (tie.spec
     returns
     load-requires
+    (λ c κs. search needs)
     decode-in-requires
     copy-bytes-requires
     answer-for-requires

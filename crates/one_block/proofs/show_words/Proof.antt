@@ -26,10 +26,10 @@ load-requires : tie.Need-load-requires
 load-requires c κs = search needs
 
 decode-in-requires : tie.Need-decode-in-requires
-decode-in-requires c κs = not-refused _ _ _ (none (c .before .before)) .known
+decode-in-requires c κs = (not-refused _ _ _ (none (c .before .before .before)) .known, c .before .is-volume .ensures)
 
 copy-words-requires : tie.Need-copy-words-requires
-copy-words-requires c κs = fits-in _ _ _ (none (c .before .before .before .before .before))
+copy-words-requires c κs = fits-in _ _ _ (none (c .before .before .before .before .before .before))
 
 answer-for-requires : tie.Need-answer-for-requires
 answer-for-requires c κs = search needs
@@ -40,7 +40,7 @@ same-length c = search needs
 returns-2 : tie.Need-returns-2
 returns-2 c =
     let d = c .before .before .before .before .before .before in
-    let l = d .before .before in
+    let l = d .before .before .before in
     let st = l .before .before .before .before .args in
     let bytes : Bytes (now (st .block)) = λ i. l .before .before .before .shared-slice-known .given i .fits in
     let e = none (l .before) in
@@ -57,6 +57,7 @@ show-words-spec =
     (tie.spec
     returns
     load-requires
+    (λ c κs. search needs)
     decode-in-requires
     copy-words-requires
     answer-for-requires

@@ -39,7 +39,7 @@ weights-at-requires c κs =
     let h = a .s .header in
     let l = s .pre .1 .1 .0 in
     let n = s .pre .0 .0 in
-    let inside = s .pre .1 .1 .1 .1 in
+    let inside = s .pre .1 .1 .1 .1 .1 in
     ((l, n), (column-in (a .fp) h l n (a .x) (a .y) (inside .0) (inside .1) (column (c .before)), row-in (a .fp) h l n (a .x) (a .y) (inside .0) (inside .1) (row c)))
 
 is-small-requires : tie.Need-is-small-requires
@@ -60,7 +60,7 @@ partition-texel-requires c κs =
     let h = a .s .header in
     let e = q .partition-of .ensures in (
       (s .pre .1 .0 .0, rw (s .pre .1 .0 .0) (s .pre .0 .1), s .pre .1 .0 .1),
-      (one-of-them h (m .is-small .result) (a .x) (a .y) e (s .pre .1 .1 .1 .0), one-of-four h (m .is-small .result) (a .x) (a .y) e),
+      (one-of-them h (m .is-small .result) (a .x) (a .y) e (s .pre .1 .1 .1 .1 .0), one-of-four h (m .is-small .result) (a .x) (a .y) e),
     )
 
 second-component-requires : tie.Need-second-component-requires
@@ -73,8 +73,8 @@ returns c =
     let w = q .before .before in
     let s = w .before .before .before .before .before .before .before .before .before in
     let a = s .args in
-    let inside = s .pre .1 .1 .1 .1 in
-    coded-told (a .fp) (a .s .header) (s .pre .1 .1 .0) (s .pre .0 .0) (a .x) (a .y) (inside .0) (inside .1) (a .kind) (blockNumber (a .block)) (w .weights-at .result)
+    let inside = s .pre .1 .1 .1 .1 .1 in
+    coded-told (a .fp) (a .s .header) (s .pre .1 .1 .0) (s .pre .0 .0) (a .x) (a .y) (inside .0) (inside .1) (s .pre .1 .1 .1 .0 .0) (s .pre .1 .1 .1 .0 .1) (a .kind) (blockNumber (a .block)) (w .weights-at .result)
     (column (w .before .before)) (row (w .before)) (w .weights-at .ensures .0) (w .weights-at .ensures .1)
     (q .partition-of .ensures ∙ rw (q .before .is-small .ensures)) (o .second-component .ensures) (c .partition-texel .ensures)
 

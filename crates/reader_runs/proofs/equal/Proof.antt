@@ -5,10 +5,10 @@ use Rattle.reader_runs.proofs.equal.Statement.{statement}
 use Rattle.reader_runs.proofs.equal.Tie as tie
 
 abbrev Inv-loop : tie.InvT-loop
-Inv-loop a b i₀ i = i ≤ 576
+Inv-loop a b i₀ i = i ≤ 864
 
 abbrev μ-loop : tie.MeasureT-loop
-μ-loop a b i₀ i = 576 - i
+μ-loop a b i₀ i = 864 - i
 
 loop-holds : tie.Need-loop-holds Inv-loop μ-loop
 loop-holds c = omega arith

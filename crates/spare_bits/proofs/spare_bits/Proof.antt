@@ -4,8 +4,8 @@ use borrow.Author.Needs.{needs}
 use Rattle.spare_bits.proofs.spare_bits.Statement.{statement}
 use Rattle.spare_bits.proofs.spare_bits.Tie as tie
 
-weight-bits-requires : tie.Need-weight-bits-requires
-weight-bits-requires c κs = search needs
+clipped-weight-bits-requires : tie.Need-clipped-weight-bits-requires
+clipped-weight-bits-requires c κs = search needs
 
 component-bits-requires : tie.Need-component-bits-requires
 component-bits-requires c κs = search needs
@@ -33,13 +33,13 @@ returns c =
     let x = c .before in
     let w = x .before .before in
     c .bits-left .ensures
-    ∙ left-is (w .before .before .args .h) (w .before .before .pre .0) (w .weight-bits .ensures .0) (x .before .component-bits .ensures .0) (x .extra-bits .ensures .0)
+    ∙ left-is (w .before .before .args .h) (w .before .before .pre .0) (w .clipped-weight-bits .ensures .0) (x .before .component-bits .ensures .0) (x .extra-bits .ensures .0)
 
 pub spare-bits-spec : {M : Type 1} → statement M
 spare-bits-spec =
     tie.close
     (tie.spec
-    weight-bits-requires
+    clipped-weight-bits-requires
     component-bits-requires
     add-above
     extra-bits-requires

@@ -36,7 +36,7 @@ returns c =
     sym (solid (s .args .fp) (blockNumber (s .args .b)) (fits s) (s .pre .void (c .enum-told .given .1)) (s .pre .no-fault))
 
 -- neither a fault nor a void extent
-coded : (c : tie.At-match-keys2) → Coded (blockNumber (c .before .args .b)) (c .before .args .s)
+coded : (c : tie.At-match-keys2) → Coded (c .before .args .fp) (blockNumber (c .before .args .b)) (c .before .args .s)
 coded c = c .before .pre .coded (λ q. miss (0 ∷ 2 ∷ []) 1 tt (subst (λ (w : Verdict). OneOf (0 ∷ 2 ∷ []) (tagOf the-type w)) q (c .match .keys2)))
 
 mode-block-requires : tie.Need-mode-block-requires
@@ -46,8 +46,8 @@ mode-block-requires c κs =
     (rw (k .header) (n .0), rw (k .header) (n .1), k .numbers, k .range)
 
 -- the sheet that was read
-read : (c : tie.After-mode-block) → c .mode-block .result ≡ readBlock (blockNumber (c .before .before .args .b))
-read c = let k = coded (c .before) in c .mode-block .ensures ∙ rw (k .header) (sym (read-mode _ (k .not-void)))
+read : (c : tie.After-mode-block) → c .mode-block .result ≡ readBlock (c .before .before .args .fp) (blockNumber (c .before .before .args .b))
+read c = let k = coded (c .before) in c .mode-block .ensures ∙ rw (k .header) (sym (read-mode _ _ (k .not-void)))
 
 block-of-requires : tie.Need-block-of-requires
 block-of-requires c κs =
@@ -56,7 +56,7 @@ block-of-requires c κs =
 
 returns-2 : tie.Need-returns-2
 unfolding canonicalOf
-returns-2 c = c .block-of .ensures ∙ ap blockOf (read (c .before))
+returns-2 c = c .block-of .ensures ∙ ap (blockOf (c .before .before .before .args .fp)) (read (c .before))
 
 pub written-spec : {M : Type 1} → statement M
 written-spec =

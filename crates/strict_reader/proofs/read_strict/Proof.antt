@@ -61,8 +61,8 @@ loaded-is l =
     let bytes : Bytes s = λ i. k .shared-slice-known .given i .fits in
     l .load .ensures ∙ loaded s bytes (facts (l .before .before) .sixteen)
 
-written-is : (w : tie.After-block-of) → blockNumber (w .block-of .result) ≡ blockOf (readingOf (w .before .before .before .before .before .args .fp) (now (w .before .before .before .before .before .args .block)) .block)
-written-is w = w .block-of .ensures ∙ ap blockOf (block-is (w .before .before .before))
+written-is : (w : tie.After-block-of) → blockNumber (w .block-of .result) ≡ blockOf (w .before .before .before .before .before .args .fp) (readingOf (w .before .before .before .before .before .args .fp) (now (w .before .before .before .before .before .args .block)) .block)
+written-is w = w .block-of .ensures ∙ ap (blockOf (w .before .before .before .before .before .args .fp)) (block-is (w .before .before .before))
 
 returns-2 : tie.Need-returns-2
 returns-2 c =

@@ -1,3 +1,4 @@
+use mathlib.Core.Path.{ap}
 use Rattle.laws.specs.Table.{tab, tabFrom}
 use Rattle.symbolic_numbers.specs.Numbers.{blockOver}
 use borrow.Author.Needs.{needs}
@@ -43,47 +44,56 @@ shared-slice-read-t26 c = search needs
 shared-slice-read-t28 : tie.Need-shared-slice-read-t28
 shared-slice-read-t28 c = search needs
 
-array-read-t32 : tie.Need-array-read-t32
-array-read-t32 c = search needs
+shared-slice-read-t30 : tie.Need-shared-slice-read-t30
+shared-slice-read-t30 c = search needs
 
-array-read-t35 : tie.Need-array-read-t35
-array-read-t35 c = search needs
+shared-slice-read-t32 : tie.Need-shared-slice-read-t32
+shared-slice-read-t32 c = search needs
 
-array-read-t38 : tie.Need-array-read-t38
-array-read-t38 c = search needs
+array-read-t36 : tie.Need-array-read-t36
+array-read-t36 c = search needs
 
-array-read-t41 : tie.Need-array-read-t41
-array-read-t41 c = search needs
+array-read-t39 : tie.Need-array-read-t39
+array-read-t39 c = search needs
 
-array-read-t44 : tie.Need-array-read-t44
-array-read-t44 c = search needs
+array-read-t42 : tie.Need-array-read-t42
+array-read-t42 c = search needs
 
-array-read-t47 : tie.Need-array-read-t47
-array-read-t47 c = search needs
+array-read-t45 : tie.Need-array-read-t45
+array-read-t45 c = search needs
 
-shared-slice-read-t49 : tie.Need-shared-slice-read-t49
-shared-slice-read-t49 c = search needs
+array-read-t48 : tie.Need-array-read-t48
+array-read-t48 c = search needs
 
-array-read-t52 : tie.Need-array-read-t52
-array-read-t52 c = search needs
+array-read-t51 : tie.Need-array-read-t51
+array-read-t51 c = search needs
 
-array-read-t55 : tie.Need-array-read-t55
-array-read-t55 c = search needs
+array-read-t54 : tie.Need-array-read-t54
+array-read-t54 c = search needs
 
-array-read-t58 : tie.Need-array-read-t58
-array-read-t58 c = search needs
+shared-slice-read-t56 : tie.Need-shared-slice-read-t56
+shared-slice-read-t56 c = search needs
 
-array-read-t61 : tie.Need-array-read-t61
-array-read-t61 c = search needs
+array-read-t59 : tie.Need-array-read-t59
+array-read-t59 c = search needs
 
-array-read-t64 : tie.Need-array-read-t64
-array-read-t64 c = search needs
+array-read-t62 : tie.Need-array-read-t62
+array-read-t62 c = search needs
+
+array-read-t65 : tie.Need-array-read-t65
+array-read-t65 c = search needs
+
+array-read-t68 : tie.Need-array-read-t68
+array-read-t68 c = search needs
+
+array-read-t71 : tie.Need-array-read-t71
+array-read-t71 c = search needs
 
 returns : tie.Need-returns
 unfolding blockOver tab tabFrom
 returns c =
-    let w = c .before .before .before .before .before .before .before .before .before in
-    rw (w .weights-from .ensures, w .before .endpoints-from .ensures, w .before .before .clipped-numbers .ensures)
+    let w = c .before .before .before .before .before .before .before .before .before .before .before in
+    rw (w .weights-from .ensures, w .before .endpoints-from .ensures) (ap (blockOver (w .before .before .before .before .args .numbers .now)) (w .before .before .clipped-numbers .ensures))
 
 pub block-from-spec : {M : Type 1} → statement M
 block-from-spec =
@@ -102,16 +112,19 @@ block-from-spec =
     shared-slice-read-t24
     shared-slice-read-t26
     shared-slice-read-t28
-    array-read-t32
-    array-read-t35
-    array-read-t38
-    array-read-t41
-    array-read-t44
-    array-read-t47
-    shared-slice-read-t49
-    array-read-t52
-    array-read-t55
-    array-read-t58
-    array-read-t61
-    array-read-t64
+    shared-slice-read-t30
+    shared-slice-read-t32
+    array-read-t36
+    array-read-t39
+    array-read-t42
+    array-read-t45
+    array-read-t48
+    array-read-t51
+    array-read-t54
+    shared-slice-read-t56
+    array-read-t59
+    array-read-t62
+    array-read-t65
+    array-read-t68
+    array-read-t71
     returns)

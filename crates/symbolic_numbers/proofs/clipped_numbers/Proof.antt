@@ -9,13 +9,13 @@ use Rattle.symbolic_numbers.proofs.clipped_numbers.Statement.{statement
 use Rattle.symbolic_numbers.proofs.clipped_numbers.Tie as tie
 
 abbrev Inv-loop : tie.InvT-loop
-Inv-loop numbers out₀ i₀ out i = (i ≤ 104) × (length numbers ≡ 104) × Filling (λ k. min (getD numbers k 0) 255) 0 104 out i
+Inv-loop numbers out₀ i₀ out i = (i ≤ 107) × (length numbers ≡ 107) × Filling (λ k. min (getD numbers k 0) 255) 0 107 out i
 
 abbrev μ-loop : tie.MeasureT-loop
-μ-loop numbers out₀ i₀ out i = 104 - i
+μ-loop numbers out₀ i₀ out i = 107 - i
 
 loop-holds : tie.Need-loop-holds Inv-loop μ-loop
-loop-holds c = (omega arith, c .before .pre, filling-start _ 0 104 _ refl)
+loop-holds c = (omega arith, c .before .pre, filling-start _ 0 107 _ refl)
 
 mul-clipped : tie.Need-mul-clipped Inv-loop μ-loop
 mul-clipped c = omega arith
@@ -36,11 +36,11 @@ loop-less : tie.Need-loop-less Inv-loop μ-loop
 loop-less c = omega arith
 
 loop-again : tie.Need-loop-again Inv-loop μ-loop
-loop-again c = (omega arith, omega arith, filling-more _ 0 104 _ _ _ (omega arith) (c .before .before .before .loop .inv .2) (c .clipped .ensures))
+loop-again c = (omega arith, omega arith, filling-more _ 0 107 _ _ _ (omega arith) (c .before .before .before .loop .inv .2) (c .clipped .ensures))
 
 returns : tie.Need-returns Inv-loop μ-loop
 unfolding clippedNumbers
-returns c = filling-done _ 0 104 _ _ (omega arith) (c .before .loop .inv .2)
+returns c = filling-done _ 0 107 _ _ (omega arith) (c .before .loop .inv .2)
 
 pub clipped-numbers-spec : {M : Type 1} → statement M
 clipped-numbers-spec =

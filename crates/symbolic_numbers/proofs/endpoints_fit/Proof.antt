@@ -11,7 +11,7 @@ use Rattle.symbolic_numbers.proofs.endpoints_fit.Statement.{statement}
 use Rattle.symbolic_numbers.proofs.endpoints_fit.Tie as tie
 
 abbrev Inv-loop : tie.InvT-loop
-Inv-loop numbers ok₀ i₀ ok i = (i ≤ 18) × (length numbers ≡ 104) × (ok ≡ all (λ k. leb (getD numbers (21 + k) 0) 255) i)
+Inv-loop numbers ok₀ i₀ ok i = (i ≤ 18) × (length numbers ≡ 107) × (ok ≡ all (λ k. leb (getD numbers (21 + k) 0) 255) i)
 
 abbrev μ-loop : tie.MeasureT-loop
 μ-loop numbers ok₀ i₀ ok i = 18 - i

@@ -47,7 +47,7 @@ cast-t34 : tie.Need-cast-t34
 cast-t34 c = search needs
 
 cast-t35 : tie.Need-cast-t35
-cast-t35 c = search needs
+cast-t35 c = omega (arith, c .struct-known7 .given)
 
 cast-t36 : tie.Need-cast-t36
 cast-t36 c = omega (arith, c .struct-known8 .given)

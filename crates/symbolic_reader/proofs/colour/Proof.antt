@@ -1,6 +1,6 @@
 use native.Mathlib.Omega.{arith}
 use Rattle.block_fault.proofs.Laws.{narrow}
-use Rattle.block_fault.specs.Bits.{colourAt}
+use Rattle.void_extent.specs.Layout.{colourAt}
 use borrow.Author.Needs.{needs}
 use Rattle.symbolic_reader.proofs.colour.Statement.{statement}
 use Rattle.symbolic_reader.proofs.colour.Tie as tie

@@ -1,25 +1,20 @@
 use native.Mathlib.Omega.{arith}
-use Rattle.block_fault.proofs.Laws.{narrow}
-use Rattle.block_fault.specs.Bits.{extentAt}
+use Rattle.bits.specs.Block.{blockNumber}
+use Rattle.void_extent.proofs.Extents.{extent-small}
 use borrow.Author.Needs.{needs}
 use Rattle.symbolic_reader.proofs.extent.Statement.{statement}
 use Rattle.symbolic_reader.proofs.extent.Tie as tie
 
-mul-field-at : tie.Need-mul-field-at
-mul-field-at c = search needs
-
-add-field-at : tie.Need-add-field-at
-add-field-at c = search needs
-
-field-at-requires : tie.Need-field-at-requires
-field-at-requires c κs = search needs
-
 cast-result : tie.Need-cast-result
-cast-result c = omega (arith, narrow _ _ 13 16 (omega arith) (omega arith) (c .field-at .ensures) .below)
+cast-result c = let a = c .before .args in omega (arith, c .extent .ensures, extent-small (a .volume) (blockNumber (a .b)) (a .i))
 
 returns : tie.Need-returns
-unfolding extentAt
-returns c = c .field-at .ensures
+returns c = c .extent .ensures
 
 pub extent-spec : {M : Type 1} → statement M
-extent-spec = tie.close (tie.spec mul-field-at add-field-at field-at-requires cast-result returns)
+extent-spec =
+    tie.close
+    (tie.spec
+    (λ c κs. search needs)
+    cast-result
+    returns)

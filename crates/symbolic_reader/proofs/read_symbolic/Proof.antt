@@ -39,11 +39,11 @@ whole r =
     let bytes : Bytes s = λ i. r .before .before .before .before .shared-slice-known .given i .fits in
     ap (readingIn fp) (r .load .ensures ∙ loaded s bytes (sixteen fp s (passed r))) ∙ passed-reading fp s (passed r)
 
-verdict-is : (r : tie.After-read-settings) → verdictOf true (r .before .before .before .before .before .before .args .fp) (blockNumber (r .before .load .result)) ≡ r .read-settings .result .verdict
+verdict-is : (r : tie.After-read-settings) → verdictOf true (r .before .before .before .before .before .before .before .args .fp) (blockNumber (r .before .before .load .result)) ≡ r .read-settings .result .verdict
 verdict-is r = sym (ap (λ (s : Settings). s .verdict) (r .read-settings .ensures) ∙ settings-verdict true _ _)
 
-header-is : (r : tie.After-read-settings) → verdictOf true (r .before .before .before .before .before .before .args .fp) (blockNumber (r .before .load .result)) ≡ verdict.Coded
-    → r .read-settings .result .header ≡ headerAt (blockNumber (r .before .load .result))
+header-is : (r : tie.After-read-settings) → verdictOf true (r .before .before .before .before .before .before .before .args .fp) (blockNumber (r .before .before .load .result)) ≡ verdict.Coded
+    → r .read-settings .result .header ≡ headerAt (r .before .before .before .before .before .before .before .args .fp) (blockNumber (r .before .before .load .result))
 header-is r e = ap (λ (s : Settings). s .header) (r .read-settings .ensures) ∙ coded-header true _ _ e
 
 -- the settings carry how many endpoint numbers there are, and their range
@@ -69,24 +69,24 @@ returns c =
 returns-2 : tie.Need-returns-2
 returns-2 c =
     let r = c .before .before .before .before .before in
-    let s = r .before .before .before .before .before .before .args in
+    let s = r .before .before .before .before .before .before .before .args in
     let e = c .before .before .enum-told4 .given .1 in
     promised (s .fp) (now (s .block)) _
     (c .told2 .ensures
     ∙ ap nothing (c .before .faulty .ensures ∙ ap faultyAt e)
     ∙ fault-reading _ _ _ (verdict-is r ∙ stopped-verdict _ _ (sym (c .before .before .before .before .stage-in .ensures) ∙ e))
-    ∙ whole (r .before))
+    ∙ whole (r .before .before))
 
 returns-3 : tie.Need-returns-3
 returns-3 c =
     let k = c .before .before in
     let r = k .before .before .before .before .before .before in
-    let s = r .before .before .before .before .before .before .args in
+    let s = r .before .before .before .before .before .before .before .args in
     promised (s .fp) (now (s .block)) _
     (c .read .ensures
-    ∙ ap₂ doneWith (k .void-block .ensures) (c .before .no-spare .ensures)
+    ∙ ap₂ doneWith (k .void-block .ensures ∙ rw (r .before .is-volume .ensures)) (c .before .no-spare .ensures)
     ∙ void-reading _ _ (verdict-is r ∙ k .before .enum-told5 .given .1)
-    ∙ whole (r .before))
+    ∙ whole (r .before .before))
 
 -- the counts of a coded block
 known : (c : tie.At-match3-keys2) → let s = c .before .before .before .before .read-settings .result in
@@ -109,13 +109,13 @@ returns-4 : tie.Need-returns-4
 returns-4 c =
     let k = c .before .before .before in
     let r = k .before .before .before .before in
-    let s = r .before .before .before .before .before .before .args in
+    let s = r .before .before .before .before .before .before .before .args in
     let v = verdict-is r ∙ coded k in
     promised (s .fp) (now (s .block)) _
     (c .read2 .ensures
     ∙ ap₂ doneWith (c .before .mode-block .ensures ∙ rw (header-is r v)) (c .before .before .spare-in .ensures ∙ ap (spareIn _) (header-is r v))
     ∙ coded-reading _ _ v
-    ∙ whole (r .before))
+    ∙ whole (r .before .before))
 
 pub read-symbolic-spec : {M : Type 1} → statement M
 read-symbolic-spec =
@@ -127,6 +127,7 @@ read-symbolic-spec =
     (λ c κs. search needs)
     (λ c κs. search needs)
     returns
+    (λ c κs. search needs)
     (λ c κs. search needs)
     (λ c κs. search needs)
     (λ c κs. search needs)

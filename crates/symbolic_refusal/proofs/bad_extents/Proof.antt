@@ -1,54 +1,41 @@
-use Rattle.block_fault.specs.Faults.{badExtents}
+use lib.ListN.{getD}
+use mathlib.Core.Path.{_∙_}
+use Rattle.footprint.specs.Footprint.{isVolume}
+use Rattle.void_extent.proofs.Extents.{six-extents}
 use borrow.Author.Needs.{needs}
 use Rattle.symbolic_refusal.proofs.bad_extents.Statement.{statement}
 use Rattle.symbolic_refusal.proofs.bad_extents.Tie as tie
 
-array-read-s0 : tie.Need-array-read-s0
-array-read-s0 c = search needs
-
-array-read-s1 : tie.Need-array-read-s1
-array-read-s1 c = search needs
-
-array-read-t0 : tie.Need-array-read-t0
-array-read-t0 c = search needs
-
-array-read-t1 : tie.Need-array-read-t1
-array-read-t1 c = search needs
-
-both-requires : tie.Need-both-requires
-both-requires c κs = search needs
-
-both-requires-2 : tie.Need-both-requires-2
-both-requires-2 c κs = search needs
-
-both-requires-3 : tie.Need-both-requires-3
-both-requires-3 c κs = search needs
-
-both-requires-4 : tie.Need-both-requires-4
-both-requires-4 c κs = search needs
-
-both-requires-5 : tie.Need-both-requires-5
-both-requires-5 c κs = search needs
-
-either-requires : tie.Need-either-requires
-either-requires c κs = search needs
-
 returns : tie.Need-returns
-unfolding badExtents
-returns c = rw (c .either .ensures, c .before .both5 .ensures, c .before .before .both4 .ensures, c .before .before .before .both3 .ensures, c .before .before .before .before .both2 .ensures, c .before .before .before .before .before .both .ensures)
+returns c =
+    let v = c .before in
+    let l6 = v .before in
+    let l5 = l6 .before in
+    let l4 = l5 .before in
+    let l3 = l4 .before in
+    let l2 = l3 .before in
+    let l1 = l2 .before in
+    let a = l1 .before .args in
+    c .bad-extents .ensures
+    ∙ rw (v .is-volume .ensures)
+    (six-extents (isVolume (a .fp)) (λ k. getD (a .t2) k 0) (l1 .long .ensures) (l2 .long2 .ensures) (l3 .long3 .ensures) (l4 .long4 .ensures) (l5 .long5 .ensures) (l6 .long6 .ensures))
 
 pub bad-extents-spec : {M : Type 1} → statement M
 bad-extents-spec =
     tie.close
     (tie.spec
-    array-read-s0
-    array-read-s1
-    array-read-t0
-    array-read-t1
-    both-requires
-    both-requires-2
-    both-requires-3
-    both-requires-4
-    both-requires-5
-    either-requires
+    (λ c. search needs)
+    (λ c κs. search needs)
+    (λ c. search needs)
+    (λ c κs. search needs)
+    (λ c. search needs)
+    (λ c κs. search needs)
+    (λ c. search needs)
+    (λ c κs. search needs)
+    (λ c. search needs)
+    (λ c κs. search needs)
+    (λ c. search needs)
+    (λ c κs. search needs)
+    (λ c κs. search needs)
+    (λ c κs. search needs)
     returns)

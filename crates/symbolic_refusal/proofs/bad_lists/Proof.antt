@@ -13,8 +13,8 @@ modes-within-requires c κs = search needs
 four-within-requires : tie.Need-four-within-requires
 four-within-requires c κs = search needs
 
-four-within-requires-2 : tie.Need-four-within-requires-2
-four-within-requires-2 c κs = search needs
+six-within-requires : tie.Need-six-within-requires
+six-within-requires c κs = search needs
 
 either-requires : tie.Need-either-requires
 either-requires c κs = search needs
@@ -24,7 +24,7 @@ either-requires-2 c κs = search needs
 
 returns : tie.Need-returns
 unfolding badLists badModes someInUse
-returns c = rw (c .either2 .ensures, c .before .either .ensures, c .before .before .four-within2 .ensures, c .before .before .before .four-within .ensures, c .before .before .before .before .modes-within .ensures)
+returns c = rw (c .either2 .ensures, c .before .either .ensures, c .before .before .six-within .ensures, c .before .before .before .four-within .ensures, c .before .before .before .before .modes-within .ensures)
 
 pub bad-lists-spec : {M : Type 1} → statement M
 bad-lists-spec =
@@ -33,7 +33,7 @@ bad-lists-spec =
     cast-modes-within
     modes-within-requires
     four-within-requires
-    four-within-requires-2
+    six-within-requires
     either-requires
     either-requires-2
     returns)

@@ -1,5 +1,6 @@
 use mathlib.Core.Path.{_∙_}
-use Rattle.block_fault.specs.Faults.{badExtents}
+use Rattle.footprint.specs.Footprint.{isVolume}
+use Rattle.void_extent.specs.Layout.{badExtents}
 use Rattle.symbolic_block.specs.Fields.{extentIn}
 use Rattle.symbolic_block.specs.Refusals.{unknownFootprint}
 use Rattle.symbolic_refusal.specs.inner.Stages.{badVoidFields, voidStages}
@@ -37,7 +38,7 @@ unfolding voidStages
 returns c =
     let a = c .before .before .before .before .before .before .before .before .before .args in
     rw (c .first2 .ensures, c .before .first .ensures, c .before .before .told3 .ensures, c .before .before .before .bad-extents .ensures, c .before .before .before .before .before .told2 .ensures, c .before .before .before .before .before .before .bad-void-fields .ensures, c .before .before .before .before .before .before .before .told .ensures, c .before .before .before .before .before .before .before .before .unknown-footprint .ensures)
-    (three (unknownFootprint (a .fp)) (badVoidFields (a .s)) (badExtents (extentIn (a .s))) 1 31 12 tt tt
+    (three (unknownFootprint (a .fp)) (badVoidFields (a .fp) (a .s)) (badExtents (isVolume (a .fp)) (extentIn (a .s))) 1 31 12 tt tt
     ∙ void-stages (a .fp) (a .s))
 
 pub void-refusal-spec : {M : Type 1} → statement M

@@ -6,10 +6,11 @@ use Prim.Native.Nat.{ℕ}
 use lib.Dec.{eqb}
 use Rattle.laws.specs.Choice.{pick, either}
 use Rattle.laws.specs.Reasons.{Reason, when}
-use Rattle.block_fault.specs.Faults.{badExtents}
+use Rattle.footprint.specs.Footprint.{isVolume}
+use Rattle.void_extent.specs.Layout.{badExtents}
 use Rattle.symbolic_block.specs.declared.SymbolicBlock.{SymbolicBlock}
 use Rattle.symbolic_block.specs.Fields.{gridOf, colourIn, extentIn, modeIn, endpointIn, weightIn}
-use Rattle.symbolic_block.specs.Refusals.{inUse, unknownFootprint, badMark, badHdr, badWidth, badHeight, badRange, badPlanes, badComponent, badPartitions, badIndex, badSelector, badModes, badColours, badExtentFields, someInUse, noBlockMode, badEndpoints, badWeights, markedWithout}
+use Rattle.symbolic_block.specs.Refusals.{inUse, unknownFootprint, badMark, badHdr, badWidth, badHeight, badDepth, badRange, badPlanes, badComponent, badPartitions, badIndex, badSelector, badModes, badColours, badExtentFields, someInUse, noBlockMode, badEndpoints, badWeights, markedWithout}
 
 -- the first of two told numbers, where 0 tells nothing
 abbrev pub orElse : ℕ → ℕ → ℕ
@@ -21,26 +22,26 @@ or34 n = pick (either (eqb n 0) (eqb n 35)) 34 n
 
 -- ---- 31 of a mode sheet
 
-unfoldable pub badGrid : SymbolicBlock → Bool
-badGrid s = either (badWidth s) (either (badHeight s) (either (badRange s) (badPlanes s)))
+unfoldable pub badGrid : ℕ → SymbolicBlock → Bool
+badGrid fp s = either (badWidth s) (either (badHeight s) (either (badDepth fp s) (either (badRange s) (badPlanes s))))
 
 unfoldable pub badPartitioning : SymbolicBlock → Bool
 badPartitioning s = either (badComponent s) (either (badPartitions s) (either (badIndex s) (badSelector s)))
 
 unfoldable pub badLists : SymbolicBlock → Bool
-badLists s = either (badModes s) (either (someInUse 4 (colourIn s)) (someInUse 4 (extentIn s)))
+badLists s = either (badModes s) (either (someInUse 4 (colourIn s)) (someInUse 6 (extentIn s)))
 
-unfoldable pub badFields : SymbolicBlock → Bool
+unfoldable pub badFields : ℕ → SymbolicBlock → Bool
 unfolding badGrid badPartitioning badLists
-badFields s = either (badMark s) (either (badHdr s) (either (badGrid s) (either (badPartitioning s) (badLists s))))
+badFields fp s = either (badMark s) (either (badHdr s) (either (badGrid fp s) (either (badPartitioning s) (badLists s))))
 
 -- ---- 31 of a void extent
 
-unfoldable pub badShown : SymbolicBlock → Bool
-badShown s = either (badHdr s) (either (badColours s) (badExtentFields s))
+unfoldable pub badShown : ℕ → SymbolicBlock → Bool
+badShown fp s = either (badHdr s) (either (badColours s) (badExtentFields fp s))
 
 unfoldable pub gridInUse : SymbolicBlock → Bool
-gridInUse s = either (inUse (s .width)) (either (inUse (s .height)) (either (inUse (s .range)) (inUse (s .planes))))
+gridInUse s = either (inUse (s .width)) (either (inUse (s .height)) (either (inUse (s .depth)) (either (inUse (s .range)) (inUse (s .planes)))))
 
 unfoldable pub partitioningInUse : SymbolicBlock → Bool
 partitioningInUse s = either (inUse (s .component)) (either (inUse (s .partitions)) (either (inUse (s .index)) (inUse (s .selector))))
@@ -48,16 +49,16 @@ partitioningInUse s = either (inUse (s .component)) (either (inUse (s .partition
 unfoldable pub numbersInUse : SymbolicBlock → Bool
 numbersInUse s = either (someInUse 4 (modeIn s)) (either (someInUse 18 (endpointIn s)) (someInUse 64 (weightIn s)))
 
-unfoldable pub badVoidFields : SymbolicBlock → Bool
+unfoldable pub badVoidFields : ℕ → SymbolicBlock → Bool
 unfolding badShown gridInUse partitioningInUse numbersInUse
-badVoidFields s = either (badShown s) (either (gridInUse s) (either (partitioningInUse s) (numbersInUse s)))
+badVoidFields fp s = either (badShown fp s) (either (gridInUse s) (either (partitioningInUse s) (numbersInUse s)))
 
 -- ---- the stages
 
 -- 1, 31 and 32
 unfoldable pub fieldReasons : ℕ → SymbolicBlock → List Reason
 unfolding badFields
-fieldReasons fp s = when (unknownFootprint fp) 1 ∷ when (badFields s) 31 ∷ when (noBlockMode (gridOf s)) 32 ∷ []
+fieldReasons fp s = when (unknownFootprint fp) 1 ∷ when (badFields fp s) 31 ∷ when (noBlockMode (gridOf s)) 32 ∷ []
 
 -- 34 and 35
 unfoldable pub numberReasons : SymbolicBlock → List Reason
@@ -66,4 +67,4 @@ numberReasons s = when (either (badEndpoints s) (badWeights s)) 34 ∷ when (mar
 -- 1, 31 and 12
 unfoldable pub voidStages : ℕ → SymbolicBlock → List Reason
 unfolding badVoidFields
-voidStages fp s = when (unknownFootprint fp) 1 ∷ when (badVoidFields s) 31 ∷ when (badExtents (extentIn s)) 12 ∷ []
+voidStages fp s = when (unknownFootprint fp) 1 ∷ when (badVoidFields fp s) 31 ∷ when (badExtents (isVolume fp) (extentIn s)) 12 ∷ []

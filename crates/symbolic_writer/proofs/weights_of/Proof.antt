@@ -15,7 +15,7 @@ weight-count-requires : tie.Need-weight-count-requires
 weight-count-requires c κs = search needs
 
 long-enough : (c : tie.Start) → length (c .args .s .weights) ≡ 64
-long-enough c = simp length-map at (c .good .0 .1 .1 .1 .1 .1 .1 .1 .1 .1 .1 .1 .1 .1 .1 .1 .1 .0 .1 .0 .1)
+long-enough c = simp length-map at (c .good .0 .1 .1 .1 .1 .1 .1 .1 .1 .1 .1 .1 .1 .1 .1 .1 .1 .1 .0 .1 .0 .1)
 
 cast-n : tie.Need-cast-n
 cast-n c =
@@ -35,8 +35,8 @@ reversed-requires c κs = search needs
 weights-from-requires : tie.Need-weights-from-requires
 weights-from-requires c κs = search needs
 
-weight-bits-requires : tie.Need-weight-bits-requires
-weight-bits-requires c κs = search needs
+clipped-weight-bits-requires : tie.Need-clipped-weight-bits-requires
+clipped-weight-bits-requires c κs = search needs
 
 part-requires : tie.Need-part-requires
 part-requires c κs = search needs
@@ -44,7 +44,7 @@ part-requires c κs = search needs
 returns : tie.Need-returns
 returns c =
     weight-steps (c .before .before .before .before .before .before .before .before .before .args .s) (c .before .before .before .before .before .before .before .before .before .pre) (long-enough (c .before .before .before .before .before .before .before .before .before)) _ (c .before .before .before .before .before .before .before .before .grid-of .ensures) (c .before .before .before .before .before .before .weight-count .ensures .0) (c .before .before .before .before .write-sequence .ensures)
-    (c .before .before .before .reversed .ensures) (c .before .before .weights-from .ensures .0) (c .before .weight-bits .ensures .0) (c .part .ensures)
+    (c .before .before .before .reversed .ensures) (c .before .before .weights-from .ensures .0) (c .before .clipped-weight-bits .ensures .0) (c .part .ensures)
 
 pub weights-of-spec : {M : Type 1} → statement M
 weights-of-spec =
@@ -57,6 +57,6 @@ weights-of-spec =
     write-sequence-requires
     reversed-requires
     weights-from-requires
-    weight-bits-requires
+    clipped-weight-bits-requires
     part-requires
     returns)

@@ -6,7 +6,7 @@ use Rattle.symbolic_writer.proofs.with_endpoints.Statement.{statement}
 use Rattle.symbolic_writer.proofs.with_endpoints.Tie as tie
 
 long-enough : (c : tie.Start) → length (c .args .s .endpoints) ≡ 18
-long-enough c = simp length-map at (c .good .1 .0 .1 .1 .1 .1 .1 .1 .1 .1 .1 .1 .1 .1 .1 .1 .1 .0 .1 .0 .1)
+long-enough c = simp length-map at (c .good .1 .0 .1 .1 .1 .1 .1 .1 .1 .1 .1 .1 .1 .1 .1 .1 .1 .1 .0 .1 .0 .1)
 
 endpoints-from-requires : tie.Need-endpoints-from-requires
 endpoints-from-requires c κs = search needs

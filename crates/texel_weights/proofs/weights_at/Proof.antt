@@ -1,5 +1,6 @@
 use mathlib.Core.Path.{_≡_, refl}
 use Prim.Native.Nat.{_+_, _*_, _/_, _≤_, _<_}
+use native.Mathlib.Nat.{mul-le-mul-left}
 use native.Mathlib.Omega.{arith}
 use Rattle.bits.specs.Block.{blockNumber}
 use Rattle.encoding.specs.Levels.{firstLevel, secondLevel}
@@ -14,12 +15,13 @@ use Rattle.texel_weights.proofs.weights_at.Tie as tie
 
 -- what is read are points of the grid
 reach : (s : tie.Start) → s .args .gt / 16 * s .args .h .grid .width + s .args .gs / 16 + stepOf (s .args .gt) (s .args .h .grid .height) (s .args .h .grid .width) + stepOf (s .args .gs) (s .args .h .grid .width) 1
-    < s .args .h .grid .width * s .args .h .grid .height
+    < s .args .h .grid .width * s .args .h .grid .height * s .args .h .grid .depth
 reach s =
     let l = s .pre .0 .0 in
-    read-lt (s .args .h .grid .width) (s .args .h .grid .height) (s .args .gs) (s .args .gt) (omega (arith, l .width-low)) (omega (arith, l .height-low)) (s .pre .1 .0) (s .pre .1 .1)
+    let g = s .args .h .grid in
+    omega (arith, read-lt (g .width) (g .height) (s .args .gs) (s .args .gt) (omega (arith, l .width-low)) (omega (arith, l .height-low)) (s .pre .1 .0) (s .pre .1 .1), mul-le-mul-left (g .width * g .height) (l .depth-low))
 
-room : (s : tie.Start) → s .args .h .grid .width * s .args .h .grid .height ≤ 64
+room : (s : tie.Start) → s .args .h .grid .width * s .args .h .grid .height * s .args .h .grid .depth ≤ 64
 room s = points-le (s .args .h .grid) (s .pre .0 .0) (s .pre .0 .1)
 
 cast-row : tie.Need-cast-row

@@ -10,4 +10,4 @@ use Rattle.texel.specs.Meaning.{weightLevels}
 
 -- the points of the block B
 abbrev pub pointsAt : ℕ → Header → List LevelPair
-pointsAt B h = pointsOf (weightLevels (h .grid .range) (weightAt B h)) (h .grid .planes) (h .grid .width * h .grid .height)
+pointsAt B h = pointsOf (weightLevels (h .grid .range) (weightAt B h)) (h .grid .planes) (h .grid .width * h .grid .height * h .grid .depth)

@@ -8,7 +8,7 @@ use borrow.Author.Tests.{ne-eqb}
 use borrow.Author.Needs.{needs}
 use Rattle.unpack_text.specs.Text.{programRefusal, blockText}
 use Rattle.line_text.proofs.Laws.{puts-as}
-use Rattle.unpack_text.proofs.Laws.{sixteen-left, refused-text, shown-text, promised}
+use Rattle.unpack_text.proofs.Laws.{sixteen-left, flat-text, refused-text, shown-text, promised}
 use Rattle.unpack_text.proofs.program_text.Statement.{statement}
 use Rattle.unpack_text.proofs.program_text.Tie as tie
 
@@ -32,6 +32,14 @@ returns-3 c =
     let s = now (a .input) in
     promised s (now (a .out)) _ _ (c .before .before .before .before .before .before .before .before .before .before .if1 .left)
     (puts-as (refused-text s _ (ap (λ (n : ℕ). programRefusal n (getD s 0 0) (getD s 1 0)) (c .before .before .before .before .before .before .before .before .before .if2 .left) ∙ sym (c .before .before .before .before .before .before .refusal .ensures)) (c .before .before .before .before .before .if3 .taken)) (c .before .before .put-told2 .ensures .1))
+
+put-block-requires : tie.Need-put-block-requires
+put-block-requires c κs =
+    let i = c .before .before .before .before .before .before .before in
+    let s = now (i .before .before .before .before .args .input) in (
+      flat-text s (ap (λ (n : ℕ). programRefusal n (getD s 0 0) (getD s 1 0)) (i .if2 .left) ∙ sym (c .before .before .before .before .refusal .ensures) ∙ c .before .before .before .if3 .left),
+      (i .before .if1 .left, sixteen-left s (i .if2 .left)),
+    )
 
 returns-4 : tie.Need-returns-4
 returns-4 c =
@@ -60,6 +68,6 @@ program-text-spec =
     (λ c. search needs)
     (λ c. search needs)
     (λ c. search needs)
-    (λ c κs. (c .before .before .before .before .before .before .before .before .if1 .left, sixteen-left (now (c .before .before .before .before .before .before .before .before .before .before .before .args .input)) (c .before .before .before .before .before .before .before .if2 .left)))
+    put-block-requires
     (λ c. c .before .before .put-block .ensures .same)
     returns-4)

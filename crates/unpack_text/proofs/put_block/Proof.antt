@@ -1,7 +1,8 @@
-use mathlib.Core.Path.{_≡_, refl, _∙_}
+use mathlib.Core.Path.{_≡_, refl, sym, _∙_}
 use native.Mathlib.Omega.{arith}
 use denote.Ref.{now}
 use borrow.Author.Needs.{needs}
+use Rattle.footprint.proofs.Laws.{flat}
 use Rattle.bits.specs.Block.{numberOf, blockNumber}
 use Rattle.bits.proofs.Blocks.{Bytes}
 use Rattle.block_core.proofs.Shows.{held}
@@ -18,11 +19,14 @@ whole c =
     let s = c .before .before .before .before .before .before .before .before .before .before .before .before .before .before .before in
     let d = c .before .before .before .before .before .before .before .before .before .before .decode-into .ensures in
     let bytes : Bytes (now (s .args .block)) = λ i. c .before .before .before .before .before .before .before .before .before .before .before .before .before .shared-slice-known .given i .fits in
-    let e = c .before .before .before .before .before .before .before .before .before .before .before .before .load .ensures ∙ loaded (now (s .args .block)) bytes (s .pre .1) in
+    let e = c .before .before .before .before .before .before .before .before .before .before .before .before .load .ensures ∙ loaded (now (s .args .block)) bytes (s .pre .1 .1) in
     puts-as (block-text (s .args .fp) (s .args .kind) (blockNumber (c .before .before .before .before .before .before .before .before .before .before .before .before .load .result)) (numberOf (now (s .args .block))) _ e (d .0) (held _ _ _ _ _ refl (d .1 refl)))
     (puts-then (c .before .before .before .before .before .before .before .put-told .ensures .1) (c .before .before .put-texels .ensures))
+
+decode-into-requires : tie.Need-decode-into-requires
+decode-into-requires c κs = sym (flat _ (c .before .before .before .before .pre .0))
 
 pub put-block-spec : {M : Type 1} → statement M
 put-block-spec =
     tie.close
-    (tie.spec (λ c κs. search needs) (λ c κs. search needs) (λ c. search needs) (λ c κs. search needs) (λ c κs. search needs) (λ c. whole c .same) whole)
+    (tie.spec (λ c κs. search needs) decode-into-requires (λ c. search needs) (λ c κs. search needs) (λ c κs. search needs) (λ c. whole c .same) whole)

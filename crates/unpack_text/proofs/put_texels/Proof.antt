@@ -5,13 +5,12 @@ use native.Mathlib.Omega.{arith}
 use lib.ListN.{getD}
 use denote.Ref.{now}
 use borrow.Author.Needs.{needs}
-use Rattle.footprint.specs.Footprint.{widthOf, heightOf, texelsOf}
-use Rattle.footprint.proofs.Laws.{texels-le}
+use Rattle.footprint.specs.Footprint.{widthOf, texelsOf}
+use Rattle.footprint.proofs.Laws.{flat-bounds, texels-le}
 use Rattle.interpolation.specs.Expansion.{shownOf}
 use Rattle.line_text.specs.Lines.{texelLine, linesOf}
 use Rattle.line_text.specs.inner.Written.{Puts}
 use Rattle.line_text.proofs.Laws.{puts-none, puts-then, puts-as, lines-more}
-use Rattle.unpack_text.proofs.Laws.{some-wide}
 use Rattle.unpack_text.proofs.put_texels.Statement.{statement}
 use Rattle.unpack_text.proofs.put_texels.Tie as tie
 
@@ -27,20 +26,17 @@ start : tie.Need-loop-holds Inv-loop μ-loop
 unfolding linesOf
 start c = (omega arith, (omega arith, puts-none _ _))
 
-wide : (fp k : ℕ) → k < texelsOf fp → 0 < widthOf fp
-unfolding texelsOf
-wide fp k h = some-wide (widthOf fp) (heightOf fp) k h
-
 put-texel-requires : tie.Need-put-texel-requires Inv-loop μ-loop
 put-texel-requires c κs =
     let l = c .before .before .loop in
     let s = c .before .before .before .before .before .before in
     let h = c .before .loop-test .taken in
     let n = c .before .before .before .texels .ensures in
-    let m = texels-le (s .args .fp) in (
-      omega (arith, h, n, m, l .inv .1 .0, l .inv .1 .1 .same, s .pre .0, s .pre .1),
+    let b = flat-bounds (s .args .fp) (s .pre .0) in
+    let m = b .texels-most in (
+      omega (arith, h, n, m, l .inv .1 .0, l .inv .1 .1 .same, s .pre .1 .0, s .pre .1 .1),
       omega (arith, h, n, m),
-      rw (c .before .before .before .before .width .ensures) (wide (s .args .fp) (l .k) (omega (arith, h, n))),
+      omega (arith, b .width-least, c .before .before .before .before .width .ensures),
     )
 
 loop-again : tie.Need-loop-again Inv-loop μ-loop

@@ -3,7 +3,8 @@ use mathlib.Core.Path.{_≡_, sym, ap, _∙_, subst}
 use Prim.Native.Nat.{ℕ, _*_, _≤_}
 use native.Mathlib.Omega.{arith}
 use borrow.Author.Needs.{needs}
-use Rattle.volume_layout.specs.Call.{badSizes, blocksOf, texelsIn}
+use Rattle.volume_layout.specs.Numbers.{texelsIn}
+use Rattle.volume_layout.specs.Call.{badSizes, blocksOf}
 use Rattle.volume_layout.proofs.Sizes.{Sound, sound, refused-1, refused-3, refused-4, refused-5, refused-none, rejected, accepted, block-count, texel-count}
 use Rattle.volume_layout.specs.declared.CheckedVolume.the-variants.{Accepted}
 use Rattle.volume_layout.proofs.check_volume.Statement.{statement}

@@ -1,10 +1,10 @@
-//! Writes blocks for make_vectors: blocks SEED COUNT DIRECTORY
+//! Writes blocks for make_vectors: blocks SEED COUNT DIRECTORY flat|volumes
 //!
-//! For each footprint WxH: plain_WxH (blocks without fault, about COUNT), faulty_WxH (other faults
-//! than 20), hdr_WxH (fault 20), and hdr_WxH.mask (a byte for each texel: 1 in an HDR partition).
+//! For each footprint N: plain_N (blocks without fault, about COUNT), faulty_N (other faults
+//! than 20), hdr_N (fault 20), and hdr_N.mask (a byte for each texel: 1 in an HDR partition).
 
 use reference::random::*;
-use reference::{FOOTPRINTS, Kind, SymbolicBlock, write};
+use reference::{ALL_FOOTPRINTS, FOOTPRINTS, Kind, SymbolicBlock, write};
 
 /// The fault in kinds 0 and 1.
 fn fault(footprint: usize, block: &[u8; 16]) -> u8 {
@@ -28,21 +28,21 @@ fn dark_block(r: &mut Random, footprint: usize) -> SymbolicBlock {
 
 fn plain(r: &mut Random, footprint: usize, count: usize) -> Vec<[u8; 16]> {
     let mut blocks = Vec::new();
-    let mut put = |r: &mut Random, s: &SymbolicBlock| {
-        blocks.push(if r.once_in(2) { write(footprint, s).unwrap() } else { loose_block(r, footprint, s) })
+    let block = |r: &mut Random, s: &SymbolicBlock| {
+        if r.once_in(2) { write(footprint, s).unwrap() } else { loose_block(r, footprint, s) }
     };
     for _ in 0..count / 10 {
         let s = dark_block(r, footprint);
-        put(r, &s);
+        blocks.push(block(r, &s));
     }
     for mode in 0..2048 {
         if let Some(s) = block_of_mode(r, footprint, mode) {
-            put(r, &s);
+            blocks.push(with_mode(block(r, &s), mode));
         }
     }
     for _ in 0..count / 2 {
         let s = symbolic_block(r, footprint);
-        put(r, &s);
+        blocks.push(block(r, &s));
     }
     while blocks.len() < count {
         let block = if r.once_in(2) {
@@ -68,7 +68,7 @@ fn faulty(r: &mut Random, footprint: usize, each: usize) -> Vec<[u8; 16]> {
     let mut seen = [0; 21];
     for round in 0..4000 * each {
         let block = match round % 4 {
-            0 => void_extent_block(r),
+            0 => void_extent_block(r, footprint),
             1 => {
                 let block = write(footprint, &symbolic_block(r, footprint)).unwrap();
                 flip_bits(r, block)
@@ -89,13 +89,16 @@ fn faulty(r: &mut Random, footprint: usize, each: usize) -> Vec<[u8; 16]> {
 
 fn main() {
     let arguments: Vec<String> = std::env::args().collect();
-    let [_, seed, count, directory] = arguments.as_slice() else { panic!("blocks SEED COUNT DIRECTORY") };
+    let [_, seed, count, directory, which] = arguments.as_slice() else {
+        panic!("blocks SEED COUNT DIRECTORY flat|volumes")
+    };
+    let footprints = if which == "volumes" { FOOTPRINTS.len()..ALL_FOOTPRINTS } else { 0..FOOTPRINTS.len() };
     let (seed, count): (u64, usize) = (seed.parse().unwrap(), count.parse().unwrap());
     let mut r = Random(seed);
-    for (footprint, (width, height)) in FOOTPRINTS.into_iter().enumerate() {
+    for footprint in footprints {
         let save = |name: String, bytes: Vec<u8>| std::fs::write(format!("{directory}/{name}"), bytes).unwrap();
-        save(format!("plain_{width}x{height}"), plain(&mut r, footprint, count).concat());
-        save(format!("faulty_{width}x{height}"), faulty(&mut r, footprint, 20 + count / 100).concat());
+        save(format!("plain_{footprint}"), plain(&mut r, footprint, count).concat());
+        save(format!("faulty_{footprint}"), faulty(&mut r, footprint, 20 + count / 100).concat());
         let (mut blocks, mut mask) = (Vec::new(), Vec::new());
         for _ in 0..20 + count / 20 {
             let (block, hdr) = fault20_block(&mut r, footprint);
@@ -103,7 +106,7 @@ fn main() {
             blocks.extend(block);
             mask.extend(hdr);
         }
-        save(format!("hdr_{width}x{height}"), blocks);
-        save(format!("hdr_{width}x{height}.mask"), mask);
+        save(format!("hdr_{footprint}"), blocks);
+        save(format!("hdr_{footprint}.mask"), mask);
     }
 }

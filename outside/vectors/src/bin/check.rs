@@ -1,10 +1,11 @@
-//! Checks the reference against vectors in a directory: check DIRECTORY
+//! Checks the reference against vectors in a directory: check DIRECTORY [volume_]
 
 use vectors::{Decoder, Files, check};
 
 fn main() {
-    let directory = std::env::args().nth(1).expect("check DIRECTORY");
-    let file = |name: &str| std::fs::read(format!("{directory}/{name}.bin")).unwrap();
+    let directory = std::env::args().nth(1).expect("check DIRECTORY [volume_]");
+    let which = std::env::args().nth(2).unwrap_or_default();
+    let file = |name: &str| std::fs::read(format!("{directory}/{which}{name}.bin")).unwrap();
     let (texels, digests, illegal, hdr) = (file("texels"), file("digests"), file("illegal"), file("hdr"));
     let (float16, float16_digests) = (file("float16"), file("float16_digests"));
     let files = Files {

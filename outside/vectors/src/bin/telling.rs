@@ -3,33 +3,15 @@
 //! each HDR endpoint mode with every bit mode, major component and alpha mode, LDR partitions beside HDR ones, two planes, solid blocks with
 //! infinities and NaN; and two blocks with a fault.
 
-use reference::{FOOTPRINTS, NUMBERS, SymbolicBlock, refusal, write};
+use reference::random::all_ones;
+use reference::{FOOTPRINTS, SymbolicBlock, refusal, write};
 use std::io::Write;
-
-/// A symbolic block: grid sides, weight range, planes and channel, partitions and index, their mode, endpoint numbers.
-#[allow(clippy::too_many_arguments)]
-fn sheet(
-    grid: (u16, u16), range: u16, planes: u16, channel: u16, partitions: u16, index: u16, mode: u16, endpoints: &[u16],
-) -> SymbolicBlock {
-    let mut n = [0u16; NUMBERS];
-    n[9..17].copy_from_slice(&[grid.0, grid.1, range, planes, channel, partitions, index, 0]);
-    for p in 0..partitions as usize {
-        n[17 + p] = mode;
-    }
-    n[103] = [2, 3, 7, 11, 14, 15].contains(&mode) as u16;
-    n[21..21 + endpoints.len()].copy_from_slice(endpoints);
-    let most = [1, 2, 3, 4, 5, 7, 9, 11, 15, 19, 23, 31][range as usize];
-    // at 4x4 the four texels that are looked at have all four weights
-    for k in 0..(grid.0 * grid.1 * planes) as usize {
-        n[39 + k] = ((k * k + 3 * k + 1 + k / 4) % (most + 1)) as u16;
-    }
-    SymbolicBlock::from_numbers(&n)
-}
+use vectors::sheet::sheet;
 
 /// HDR blocks, endpoint numbers 0..255 where they choose a bit mode.
 fn hdr() -> Vec<(usize, SymbolicBlock)> {
     let mut all = Vec::new();
-    let mut four = |mode, endpoints: &[u16]| all.push((0, sheet((4, 4), 2, 1, 0, 1, 0, mode, endpoints)));
+    let mut four = |mode, endpoints: &[u16]| all.push((0, sheet([4, 4, 1], 2, 1, 0, 1, 0, mode, endpoints)));
     four(2, &[37, 201]);
     four(2, &[201, 37]);
     four(2, &[90, 90]);
@@ -72,12 +54,12 @@ fn hdr() -> Vec<(usize, SymbolicBlock)> {
         four(15, &eight(six, a0, a1));
     }
     for channel in 0..4 {
-        all.push((4, sheet((4, 4), 0, 2, channel, 1, 0, 15, &eight(six, 0x25, 0x4C))));
+        all.push((4, sheet([4, 4, 1], 0, 2, channel, 1, 0, 15, &eight(six, 0x25, 0x4C))));
     }
-    all.push((4, sheet((4, 4), 0, 2, 3, 1, 0, 14, &eight(six, 7, 255))));
+    all.push((4, sheet([4, 4, 1], 0, 2, 3, 1, 0, 14, &eight(six, 7, 255))));
     for (footprint, grid) in [(13, (5, 4)), (13, (2, 9)), (3, (3, 5)), (12, (7, 6))] {
         let range = if grid.0 * grid.1 > 40 { 0 } else { 2 };
-        all.push((footprint, sheet(grid, range, 1, 0, 1, 0, 11, &six)));
+        all.push((footprint, sheet([grid.0, grid.1, 1], range, 1, 0, 1, 0, 11, &six)));
     }
     // LDR partitions beside HDR ones, by selectors 1 and 3; several partitions with one HDR mode
     for (footprint, selector, index, modes) in [
@@ -94,7 +76,7 @@ fn hdr() -> Vec<(usize, SymbolicBlock)> {
         } else {
             4
         };
-        let mut s = sheet((4, 4), 1, 1, 0, partitions, index, 0, &[]);
+        let mut s = sheet([4, 4, 1], 1, 1, 0, partitions, index, 0, &[]);
         (s.selector, s.modes, s.hdr) = (selector, modes, 1);
         let used: usize = modes[..partitions as usize].iter().map(|m| 2 * (*m as usize / 4 + 1)).sum();
         for i in 0..used {
@@ -102,8 +84,8 @@ fn hdr() -> Vec<(usize, SymbolicBlock)> {
         }
         all.push((footprint, s));
     }
-    all.push((13, sheet((4, 4), 1, 1, 0, 3, 900, 2, &[3, 20, 30, 9, 14, 14])));
-    let solid = SymbolicBlock { mark: 1, extents: [8191; 4], ..SymbolicBlock::ZERO };
+    all.push((13, sheet([4, 4, 1], 1, 1, 0, 3, 900, 2, &[3, 20, 30, 9, 14, 14])));
+    let solid = SymbolicBlock { mark: 1, extents: all_ones(0), ..SymbolicBlock::ZERO };
     for (hdr, colours) in [(0, [0, 1, 2, 3]), (0, [4, 5, 2047, 2049]), (0, [21504, 65504, 65534, 65535])] {
         all.push((1, SymbolicBlock { hdr, colours, ..solid }));
     }
@@ -117,7 +99,7 @@ fn hdr() -> Vec<(usize, SymbolicBlock)> {
 
 fn main() {
     let mut all: Vec<(usize, SymbolicBlock)> = Vec::new();
-    let four = |mode, endpoints: &[u16]| (0, sheet((4, 4), 2, 1, 0, 1, 0, mode, endpoints));
+    let four = |mode, endpoints: &[u16]| (0, sheet([4, 4, 1], 2, 1, 0, 1, 0, mode, endpoints));
     // 100 and 118 are offsets -14 and -5, 20 and 10 are 10 and 5
     all.extend([
         four(0, &[37, 201]),
@@ -146,15 +128,15 @@ fn main() {
         [(13, (5, 4)), (13, (12, 5)), (13, (2, 9)), (3, (3, 5)), (3, (6, 2)), (12, (7, 6)), (9, (4, 3)), (7, (8, 8))]
     {
         let range = if grid.0 * grid.1 > 40 { 0 } else { 2 };
-        all.push((footprint, sheet(grid, range, 1, 0, 1, 0, 8, &mode8)));
+        all.push((footprint, sheet([grid.0, grid.1, 1], range, 1, 0, 1, 0, 8, &mode8)));
     }
     for channel in 0..4 {
-        all.push((4, sheet((4, 4), 0, 2, channel, 1, 0, 12, &[10, 200, 20, 210, 230, 20, 40, 250])));
+        all.push((4, sheet([4, 4, 1], 0, 2, channel, 1, 0, 12, &[10, 200, 20, 210, 230, 20, 40, 250])));
     }
     for (footprint, index) in [(0, 37), (0, 900), (13, 37), (13, 515), (6, 77)] {
         for partitions in 2..=4 {
             let endpoints: Vec<u16> = (0..2 * partitions).map(|k| 3 + 4 * k).collect();
-            all.push((footprint, sheet((4, 4), 1, 1, 0, partitions, index, 0, &endpoints)));
+            all.push((footprint, sheet([4, 4, 1], 1, 1, 0, partitions, index, 0, &endpoints)));
         }
     }
     all.extend(hdr());

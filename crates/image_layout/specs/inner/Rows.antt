@@ -1,0 +1,8 @@
+-- A flat picture by rows: h rows of blocks down, each of as many rows of texels as a block has.
+-- Assumes nothing.
+use Prim.Native.Nat.{_/_}
+use Rattle.picture_regions.specs.Picture.{Picture}
+use Rattle.image_layout.specs.declared.ImageGrid.{ImageGrid}
+
+abbrev pub flatPicture : ImageGrid → Picture
+flatPicture g = record { width = g .width; rows = g .height; columns = g .columns; across = g .across; down = g .down; row = λ y. y / g .rows }
