@@ -11,7 +11,7 @@ use interpolation::Texel;
 use partition::Seeds;
 use volume_paint::VolumeFrame;
 ghost use mathlib.Core.Path.{_≡_};
-ghost use Prim.Native.Nat.{_*_, _≤_};
+ghost use Prim.Native.Nat.{ℕ, _*_, _/_, _%_, _≤_, _<_};
 ghost use lib.Dec.{eqb};
 ghost use lib.ListN.{length};
 ghost use Rattle.laws.specs.Choice.{pick};
@@ -19,7 +19,7 @@ ghost use Rattle.bits.specs.Block.{blockNumber};
 ghost use Rattle.footprint.specs.Footprint.{widthOf, texelsOf, isVolume};
 ghost use Rattle.block_header.specs.Counts.{weightCount, endpointCount, endpointRangeOf};
 ghost use Rattle.block_mode.specs.Back2D.{Limits};
-ghost use mathlib.Core.Bool.{false};
+ghost use mathlib.Core.Bool.{true, false};
 ghost use Rattle.interpolation.specs.declared.Kind.the-variants.{Float16};
 ghost use Rattle.interpolation.specs.Expansion.{takesHdr};
 ghost use Rattle.texel.specs.Meaning.{errorTexel, texelFrom};
@@ -27,7 +27,7 @@ ghost use Rattle.texel.specs.BlockTexel.{inRow, blockInto};
 ghost use Rattle.block_fault.specs.Bits.{endpointAt, weightAt};
 ghost use Rattle.block_fault.specs.Faults.{faultOf};
 ghost use Rattle.block_buffer.specs.Painted.{painted};
-ghost use Rattle.block_core.specs.inner.Prepared.{frameOf, volumeFrameOf, texelIn, Inside, ByteLevels, halves};
+ghost use Rattle.block_core.specs.inner.Prepared.{frameOf, volumeFrameOf, texelIn, pointTexel, Inside, ByteLevels, halves};
 
 // A footprint's sides and the scale factors of a weight grid along them, once for each block.
 struct Frame {
@@ -131,6 +131,41 @@ fn paint(
     }
 }
 
+// Whether a block has one partition and its grid a point for each texel.
+fn on_points(g: WeightGrid, f: Frame, partitions: u8) -> bool
+    ensures { λ r. ⌜ (r ≡ true → (partitions ≡ 1) × ((g .width ≡ f .width) × (g .height ≡ f .height))) ⌝ }
+{
+    if partitions != 1 {
+        return false;
+    }
+    if g.width != f.width {
+        return false;
+    }
+    g.height == f.height
+}
+
+// So many texels of one partition in kinds 0 and 1, row by row, each at the weights of the point of its number.
+fn paint_points(
+    kind: Kind,
+    component: u8,
+    points: [LevelPair; 64],
+    lines: &[[u16; 10]; 4],
+    count: usize,
+    out: &mut [u16; 864],
+)
+    requires { ⌜ takesHdr kind ≡ false ⌝ }
+    requires { ⌜ count ≤ 64 ⌝ }
+    ensures { λ r. ⌜ ((width : ℕ) (texel : ℕ → ℕ → Texel) → ((t : ℕ) → t < count → pointTexel kind component points (now (lines .entry)) t ≡ texel (t % width) (t / width)) → length (now (out .entry)) ≡ 864 → now (out .exit) ≡ painted width texel count (now (out .entry))) ⌝ }
+{
+    let line = lines[0];
+    let mut i: usize = 0;
+    while i < count {
+        let t = interpolation::mix_line(kind, line, points[i], component);
+        put(out, 4 * i, t.r, t.g, t.b, t.a);
+        i += 1;
+    }
+}
+
 // All texels of a flat block in kind 2. A loop of its own: the mix of kind 2 in the loop of the others would take their registers.
 fn paint_half(
     g: WeightGrid,
@@ -231,6 +266,9 @@ fn paint_coded(
             frame,
             out,
         );
+    } else if on_points(g, frame, h.partitions) {
+        let count = (frame.height as usize) * (frame.width as usize);
+        paint_points(kind, component, points, &lines, count, out);
     } else {
         paint(
             kind,
