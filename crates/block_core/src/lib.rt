@@ -20,7 +20,6 @@ ghost use Rattle.footprint.specs.Footprint.{widthOf, texelsOf, isVolume};
 ghost use Rattle.block_header.specs.Counts.{weightCount, endpointCount, endpointRangeOf};
 ghost use Rattle.block_mode.specs.Back2D.{Limits};
 ghost use mathlib.Core.Bool.{true, false};
-ghost use Rattle.interpolation.specs.declared.Kind.the-variants.{Float16};
 ghost use Rattle.interpolation.specs.Expansion.{takesHdr};
 ghost use Rattle.texel.specs.Meaning.{errorTexel, texelFrom};
 ghost use Rattle.texel.specs.BlockTexel.{inRow, blockInto};
@@ -87,7 +86,7 @@ pub fn error_texel(kind: Kind) -> Texel
     }
 }
 
-// All texels of a flat block in kinds 0 and 1, row by row; the row's partitions are found at once. Only points of the grid are read: at the last column or row a point stands
+// All texels of a flat block, row by row; the row's partitions are found at once. Only points of the grid are read: at the last column or row a point stands
 // for its neighbour outside, whose factor is 0.
 fn paint(
     kind: Kind,
@@ -100,7 +99,6 @@ fn paint(
     f: Frame,
     out: &mut [u16; 864],
 )
-    requires { ⌜ takesHdr kind ≡ false ⌝ }
     requires { ⌜ Inside g f ⌝ }
     requires { ⌜ ByteLevels points ⌝ }
     ensures { λ r. ⌜ (length (now (out .entry)) ≡ 864 → now (out .exit) ≡ painted (f .width) (texelIn kind g component points (now (lines .entry)) seeds partitions f) (f .height * f .width) (now (out .entry))) ⌝ }
@@ -123,7 +121,7 @@ fn paint(
             let p11 = points[n + below + right];
             let both = weight_grid::infill_both(gs, gt, p00, p01, p10, p11);
             let line = lines[which[x as usize] as usize];
-            let t = interpolation::mix_line(kind, line, both, component);
+            let t = half_line::mix(kind, line, both, component);
             put(out, place(f.width, x, y), t.r, t.g, t.b, t.a);
             x += 1;
         }
@@ -144,7 +142,7 @@ fn on_points(g: WeightGrid, f: Frame, partitions: u8) -> bool
     g.height == f.height
 }
 
-// So many texels of one partition in kinds 0 and 1, row by row, each at the weights of the point of its number.
+// So many texels of one partition, row by row, each at the weights of the point of its number.
 fn paint_points(
     kind: Kind,
     component: u8,
@@ -153,57 +151,15 @@ fn paint_points(
     count: usize,
     out: &mut [u16; 864],
 )
-    requires { ⌜ takesHdr kind ≡ false ⌝ }
     requires { ⌜ count ≤ 64 ⌝ }
     ensures { λ r. ⌜ ((width : ℕ) (texel : ℕ → ℕ → Texel) → ((t : ℕ) → t < count → pointTexel kind component points (now (lines .entry)) t ≡ texel (t % width) (t / width)) → length (now (out .entry)) ≡ 864 → now (out .exit) ≡ painted width texel count (now (out .entry))) ⌝ }
 {
     let line = lines[0];
     let mut i: usize = 0;
     while i < count {
-        let t = interpolation::mix_line(kind, line, points[i], component);
+        let t = half_line::mix(kind, line, points[i], component);
         put(out, 4 * i, t.r, t.g, t.b, t.a);
         i += 1;
-    }
-}
-
-// All texels of a flat block in kind 2. A loop of its own: the mix of kind 2 in the loop of the others would take their registers.
-fn paint_half(
-    g: WeightGrid,
-    component: u8,
-    points: [LevelPair; 64],
-    lines: &[[u16; 10]; 4],
-    seeds: Seeds,
-    partitions: u8,
-    f: Frame,
-    out: &mut [u16; 864],
-)
-    requires { ⌜ Inside g f ⌝ }
-    requires { ⌜ ByteLevels points ⌝ }
-    ensures { λ r. ⌜ (length (now (out .entry)) ≡ 864 → now (out .exit) ≡ painted (f .width) (texelIn Float16 g component points (now (lines .entry)) seeds partitions f) (f .height * f .width) (now (out .entry))) ⌝ }
-{
-    let row = g.width as usize;
-    let mut y: u8 = 0;
-    while y < f.height {
-        let gt = weight_grid::grid_place(f.down, y, g.height);
-        let from = ((gt / 16) as usize) * row;
-        let below = weight_grid::step(gt, g.height, row);
-        let which = partition::row_partitions(seeds, partitions, y);
-        let mut x: u8 = 0;
-        while x < f.width {
-            let gs = weight_grid::grid_place(f.across, x, g.width);
-            let n = from + (gs / 16) as usize;
-            let right = weight_grid::step(gs, g.width, 1);
-            let q00 = points[n];
-            let q01 = points[n + right];
-            let q10 = points[n + below];
-            let q11 = points[n + below + right];
-            let both = weight_grid::infill_both(gs, gt, q00, q01, q10, q11);
-            let line = lines[which[x as usize] as usize];
-            let half = half_line::mix_half(line, both, component);
-            put(out, place(f.width, x, y), half.r, half.g, half.b, half.a);
-            x += 1;
-        }
-        y += 1;
     }
 }
 
@@ -255,18 +211,7 @@ fn paint_coded(
     }
     let seeds = partition::partition_seeds(h.index, h.partitions, small);
     let frame = frame_of(fp);
-    if interpolation::takes_hdr(kind) {
-        paint_half(
-            g,
-            component,
-            points,
-            &lines,
-            seeds,
-            h.partitions,
-            frame,
-            out,
-        );
-    } else if on_points(g, frame, h.partitions) {
+    if on_points(g, frame, h.partitions) {
         let count = (frame.height as usize) * (frame.width as usize);
         paint_points(kind, component, points, &lines, count, out);
     } else {

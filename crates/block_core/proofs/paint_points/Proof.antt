@@ -4,7 +4,6 @@ use native.Mathlib.Omega.{arith}
 use lib.ListN.{length}
 use borrow.Author.Needs.{needs}
 use Rattle.interpolation.specs.declared.Texel.{Texel}
-use Rattle.half_line.proofs.Line.{on-line}
 use Rattle.block_buffer.proofs.Painting.{Laid, laid-more, laid-none, laid-done}
 use Rattle.block_core.specs.inner.Prepared.{pointTexel}
 use Rattle.block_core.proofs.paint_points.Statement.{statement}
@@ -18,16 +17,15 @@ abbrev μ-loop : tie.MeasureT-loop
 μ-loop kind component lines count out₀ points line i₀ out i = count - i
 
 few : (c : tie.In-loop Inv-loop μ-loop) → 4 * c .before .loop .i + 4 ≤ 864
-few c = omega (arith, c .before .before .before .pre .1)
+few c = omega (arith, c .before .before .before .pre)
 
 loop-again : tie.Need-loop-again Inv-loop μ-loop
 unfolding pointTexel
 loop-again c =
     let b = c .before .before .before .before in
-    let l = b .before .loop in
-    let s = b .before .before .before in (
+    let l = b .before .loop in (
       omega arith,
-      λ width texel same e. rw (c .put .ensures) (laid-more width texel _ (l .out) (l .i) e (few b) (c .before .before .mix-line .ensures .0 ∙ on-line _ _ _ _ _ (s .pre .0) ∙ same (l .i) (omega arith)) (l .inv .1 width texel same e)),
+      λ width texel same e. rw (c .put .ensures) (laid-more width texel _ (l .out) (l .i) e (few b) (c .before .before .mix .ensures ∙ same (l .i) (omega arith)) (l .inv .1 width texel same e)),
     )
 
 returns : tie.Need-returns Inv-loop μ-loop
@@ -43,7 +41,7 @@ paint-points-spec =
     (λ c. search needs)
     (λ c. (omega arith, λ width texel same e. laid-none _ _ _ (omega arith)))
     (λ c. omega (arith, few c))
-    (λ c. omega (arith, c .before .before .before .pre .1))
+    (λ c. omega (arith, c .before .before .before .pre))
     (λ c κs. search needs)
     (λ c. omega (arith, few (c .before .before .before)))
     (λ c κs. few (c .before .before .before))

@@ -1,8 +1,8 @@
 use mathlib.Core.Path.{sym, _∙_}
 use borrow.Author.Needs.{needs}
 use Rattle.half_line.specs.inner.Line.{texelOn}
-use Rattle.volume_paint.proofs.mix.Statement.{statement}
-use Rattle.volume_paint.proofs.mix.Tie as tie
+use Rattle.half_line.proofs.mix.Statement.{statement}
+use Rattle.half_line.proofs.mix.Tie as tie
 
 returns : tie.Need-returns
 unfolding texelOn
