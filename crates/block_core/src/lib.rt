@@ -26,6 +26,8 @@ ghost use Rattle.texel.specs.BlockTexel.{inRow, blockInto};
 ghost use Rattle.block_fault.specs.Bits.{endpointAt, weightAt};
 ghost use Rattle.block_fault.specs.Faults.{faultOf};
 ghost use Rattle.block_buffer.specs.Painted.{painted};
+ghost use mathlib.Core.List.{List};
+ghost use Rattle.block_core.specs.inner.Shows.{Shows};
 ghost use Rattle.block_core.specs.inner.Prepared.{frameOf, volumeFrameOf, texelIn, pointTexel, Inside, ByteLevels, halves};
 
 // A footprint's sides and the scale factors of a weight grid along them, once for each block.
@@ -229,33 +231,79 @@ fn paint_coded(
     }
 }
 
-// What `decode_into` does, from the halves of a block: as two numbers they need no copy in memory.
-fn decode_halves(lo: u64, hi: u64, fp: u8, volume: bool, kind: Kind, out: &mut [u16; 864]) -> u8
+// A block that shows one texel everywhere: a void extent, or one with a fault, whose number is told (0 for none).
+pub struct UniformBlock {
+    pub texel: Texel,
+    pub fault: u8,
+}
+
+// What a block is decoded to: one texel for all places, or the numbers in the buffer.
+pub enum Decoded {
+    Uniform(UniformBlock),
+    Buffered,
+}
+
+// What `decode_some` does, from the halves of a block: as two numbers they need no copy in memory.
+fn decode_halves(
+    lo: u64,
+    hi: u64,
+    fp: u8,
+    volume: bool,
+    kind: Kind,
+    out: &mut [u16; 864],
+) -> Decoded
     requires { ⌜ volume ≡ isVolume fp ⌝ }
-    ensures { λ r. ⌜ r ≡ faultOf (takesHdr kind) fp (blockNumber (halves lo hi)) ⌝ }
-    ensures { λ r. ⌜ (length (now (out .entry)) ≡ 864 → now (out .exit) ≡ blockInto fp kind (blockNumber (halves lo hi)) (now (out .entry))) ⌝ }
+    ensures { λ r. ⌜ Shows (faultOf (takesHdr kind) fp (blockNumber (halves lo hi))) (blockInto fp kind (blockNumber (halves lo hi))) fp r (now (out .entry)) (now (out .exit)) ⌝ }
 {
     let block = PhysicalBlock { lo, hi };
     let s = block_fault::read_settings(interpolation::takes_hdr(kind), volume, block, fp);
     let v = s.verdict;
     match v {
-        Verdict::Fault(n) => {
-            flood(error_texel(kind), fp, out);
-            n
+        Verdict::Fault(fault) => {
+            let texel = error_texel(kind);
+            Decoded::Uniform(UniformBlock { texel, fault })
         }
         Verdict::VoidExtent => {
-            flood(block_levels::colours(kind, block), fp, out);
-            0
+            let texel = block_levels::colours(kind, block);
+            Decoded::Uniform(UniformBlock { texel, fault: 0 })
         }
         Verdict::Coded => {
             paint_coded(block, s, fp, volume, kind, out);
-            0
+            Decoded::Buffered
         }
     }
 }
 
+// A block: the texel of all its places, or its numbers in the first 4 * texels places of a lent buffer. Whether the footprint is a volume is
+// said beside it.
+pub fn decode_some(
+    block: PhysicalBlock,
+    fp: u8,
+    volume: bool,
+    kind: Kind,
+    out: &mut [u16; 864],
+) -> Decoded
+    requires { ⌜ volume ≡ isVolume fp ⌝ }
+    ensures { λ r. ⌜ Shows (faultOf (takesHdr kind) fp (blockNumber block)) (blockInto fp kind (blockNumber block)) fp r (now (out .entry)) (now (out .exit)) ⌝ }
+{
+    decode_halves(block.lo, block.hi, fp, volume, kind, out)
+}
+
+// The numbers of a block that was decoded are all in the buffer; answers its fault, 0 for none.
+pub fn buffered(d: Decoded, fp: u8, out: &mut [u16; 864]) -> u8
+    ensures { λ r. ⌜ ((fault : ℕ) (into : List ℕ → List ℕ) (old : List ℕ) → Shows fault into fp d old (now (out .entry)) → (r ≡ fault) × (length old ≡ 864 → now (out .exit) ≡ into old)) ⌝ }
+{
+    match d {
+        Decoded::Uniform(u) => {
+            flood(u.texel, fp, out);
+            u.fault
+        }
+        Decoded::Buffered => 0,
+    }
+}
+
 // The numbers of a block, 16 bits each, into the first 4 * texels places of a lent buffer, whose other places stay as they were (all of
-// them at a footprint above 23, which has no texels); answers its fault, 0 for none. Whether the footprint is a volume is said beside it.
+// them at a footprint above 23, which has no texels); answers its fault, 0 for none.
 pub fn decode_into(
     block: PhysicalBlock,
     fp: u8,
@@ -267,5 +315,6 @@ pub fn decode_into(
     ensures { λ r. ⌜ r ≡ faultOf (takesHdr kind) fp (blockNumber block) ⌝ }
     ensures { λ r. ⌜ (length (now (out .entry)) ≡ 864 → now (out .exit) ≡ blockInto fp kind (blockNumber block) (now (out .entry))) ⌝ }
 {
-    decode_halves(block.lo, block.hi, fp, volume, kind, out)
+    let d = decode_halves(block.lo, block.hi, fp, volume, kind, out);
+    buffered(d, fp, out)
 }
