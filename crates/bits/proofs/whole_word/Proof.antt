@@ -1,5 +1,4 @@
 use denote.Ref.{now}
-
 use native.Mathlib.Omega.{arith}
 use Rattle.bits.proofs.Blocks.{eight-bytes}
 use borrow.Author.Needs.{needs}
