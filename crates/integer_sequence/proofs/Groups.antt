@@ -103,22 +103,6 @@ group-numbers κ b g ec ex eo =
     (sym (stream-sum (λ k. 8 * k) (digit κ (codeAt κ b g 0)) (λ k. field g (sequenceBits κ b k) b) (2 ^ b) (groupSize κ))
     ∙ stream-ext (λ k. 8 * k) _ (number κ b g) (groupSize κ) (λ k h. rw (div-eq-of-lt h, mod-eq-of-lt h)))
 
--- the bits of number k, where it begins
-own-at : (κ : Encoding) (b g k p : ℕ) {v : ℕ} → v ≡ field g p b → p ≡ sequenceBits κ b k → v ≡ field g (sequenceBits κ b k) b
-own-at κ b g k p e q = e ∙ ap (λ (n : ℕ). field g n b) q
-
-pub five-own : (b g : ℕ) {v0 v1 v2 v3 v4 : ℕ} → v0 ≡ field g 0 b → v1 ≡ field g (b + 2) b → v2 ≡ field g (2 * b + 4) b → v3 ≡ field g (3 * b + 5) b → v4 ≡ field g (4 * b + 7) b
-    → v0 + v1 * 256 + v2 * 65536 + v3 * 16777216 + v4 * 4294967296 ≡ stream (λ k. 8 * k) (λ k. field g (sequenceBits Trits b k) b) 5
-unfolding stream sequenceBits
-five-own b g e0 e1 e2 e3 e4 =
-    omega (arith, own-at Trits b g 0 0 e0 (omega arith), own-at Trits b g 1 (b + 2) e1 (omega arith), own-at Trits b g 2 (2 * b + 4) e2 (omega arith), own-at Trits b g 3 (3 * b + 5) e3 (omega arith), own-at Trits b g 4 (4 * b + 7) e4 (omega arith))
-
-pub three-own : (b g : ℕ) {v0 v1 v2 : ℕ} → v0 ≡ field g 0 b → v1 ≡ field g (b + 3) b → v2 ≡ field g (2 * b + 5) b
-    → v0 + v1 * 256 + v2 * 65536 ≡ stream (λ k. 8 * k) (λ k. field g (sequenceBits Quints b k) b) 3
-unfolding stream sequenceBits
-three-own b g e0 e1 e2 =
-    omega (arith, own-at Quints b g 0 0 e0 (omega arith), own-at Quints b g 1 (b + 3) e1 (omega arith), own-at Quints b g 2 (2 * b + 5) e2 (omega arith))
-
 -- the codes of a first group, share by share
 share-at : (κ : Encoding) (b g i p : ℕ) → p ≡ sequenceBits κ b i + b → field g p (shareBits κ i) ≡ share κ b g i
 unfolding share
@@ -132,6 +116,27 @@ shifted-share κ b g i n c w {x} e p q =
 
 down : (g n b : ℕ) {x y : ℕ} → x ≡ g / 2 ^ n → y ≡ x / 2 ^ b → y ≡ g / 2 ^ (n + b)
 down g n b e f = f ∙ ap (λ (z : ℕ). z / 2 ^ b) e ∙ shr-shr g n b
+
+-- the bits of number k, once so many numbers are shifted out
+own-at : (κ : Encoding) (b g k n c : ℕ) {x v : ℕ} → v ≡ field x c b → x ≡ g / 2 ^ n → n + c ≡ sequenceBits κ b k → v ≡ field g (sequenceBits κ b k) b
+unfolding field
+own-at κ b g k n c e q p = e ∙ ap (λ (y : ℕ). y / 2 ^ c % 2 ^ b) q ∙ ap (λ (y : ℕ). y % 2 ^ b) (shr-shr g n c) ∙ ap (λ (y : ℕ). g / 2 ^ y % 2 ^ b) p
+
+pub five-own : (b g : ℕ) {g1 g2 g3 g4 v0 v1 v2 v3 v4 : ℕ} → g1 ≡ g / 2 ^ b → g2 ≡ g1 / 2 ^ b → g3 ≡ g2 / 2 ^ b → g4 ≡ g3 / 2 ^ b
+    → v0 ≡ field g 0 b → v1 ≡ field g1 2 b → v2 ≡ field g2 4 b → v3 ≡ field g3 5 b → v4 ≡ field g4 7 b
+    → v0 + v1 * 256 + v2 * 65536 + v3 * 16777216 + v4 * 4294967296 ≡ stream (λ k. 8 * k) (λ k. field g (sequenceBits Trits b k) b) 5
+unfolding stream sequenceBits
+five-own b g e1 e2 e3 e4 f0 f1 f2 f3 f4 =
+    let d2 = down g b b e1 e2 in
+    let d3 = down g (b + b) b d2 e3 in
+    let d4 = down g (b + b + b) b d3 e4 in
+    omega (arith, own-at Trits b g 0 0 0 f0 (sym (div-one g)) (omega arith), own-at Trits b g 1 b 2 f1 e1 (omega arith), own-at Trits b g 2 (b + b) 4 f2 d2 (omega arith), own-at Trits b g 3 (b + b + b) 5 f3 d3 (omega arith), own-at Trits b g 4 (b + b + b + b) 7 f4 d4 (omega arith))
+
+pub three-own : (b g : ℕ) {g1 g2 v0 v1 v2 : ℕ} → g1 ≡ g / 2 ^ b → g2 ≡ g1 / 2 ^ b → v0 ≡ field g 0 b → v1 ≡ field g1 3 b → v2 ≡ field g2 5 b
+    → v0 + v1 * 256 + v2 * 65536 ≡ stream (λ k. 8 * k) (λ k. field g (sequenceBits Quints b k) b) 3
+unfolding stream sequenceBits
+three-own b g e1 e2 f0 f1 f2 =
+    omega (arith, own-at Quints b g 0 0 0 f0 (sym (div-one g)) (omega arith), own-at Quints b g 1 b 3 f1 e1 (omega arith), own-at Quints b g 2 (b + b) 5 f2 (down g b b e1 e2) (omega arith))
 
 pub trit-code : (b g : ℕ) {g1 g2 g3 g4 g5 : ℕ} → g1 ≡ g / 2 ^ b → g2 ≡ g1 / 2 ^ b → g3 ≡ g2 / 2 ^ b → g4 ≡ g3 / 2 ^ b → g5 ≡ g4 / 2 ^ b
     → g1 % 4 + g2 % 16 / 4 * 4 + g3 % 32 / 16 * 16 + g4 % 128 / 32 * 32 + g5 % 256 / 128 * 128 ≡ codeAt Trits b g 0

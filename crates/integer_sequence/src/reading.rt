@@ -57,12 +57,16 @@ pub fn trit_group(g: u64, b: u32) -> u64
     requires { ⌜ b ≤ 6 ⌝ }
     ensures { λ r. ⌜ r ≡ groupNumbers Trits b g ⌝ }
 {
+    let g1 = g >> b;
+    let g2 = g1 >> b;
+    let g3 = g2 >> b;
+    let g4 = g3 >> b;
     raised(tables::trit_digits(trit_code(g, b)), b)
         + cut(g, 0, b)
-        + cut(g, b + 2, b) * 256
-        + cut(g, 2 * b + 4, b) * 65536
-        + cut(g, 3 * b + 5, b) * 16777216
-        + cut(g, 4 * b + 7, b) * 4294967296
+        + cut(g1, 2, b) * 256
+        + cut(g2, 4, b) * 65536
+        + cut(g3, 5, b) * 16777216
+        + cut(g4, 7, b) * 4294967296
 }
 
 // The three.
@@ -70,10 +74,12 @@ pub fn quint_group(g: u64, b: u32) -> u64
     requires { ⌜ b ≤ 5 ⌝ }
     ensures { λ r. ⌜ r ≡ groupNumbers Quints b g ⌝ }
 {
+    let g1 = g >> b;
+    let g2 = g1 >> b;
     raised(tables::quint_digits(quint_code(g, b)), b)
         + cut(g, 0, b)
-        + cut(g, b + 3, b) * 256
-        + cut(g, 2 * b + 5, b) * 65536
+        + cut(g1, 3, b) * 256
+        + cut(g2, 5, b) * 65536
 }
 
 fn no_numbers() -> [Stored; 64]

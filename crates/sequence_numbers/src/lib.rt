@@ -8,7 +8,7 @@ ghost use Rattle.bits.specs.Block.{blockNumber};
 ghost use Rattle.encoding.specs.declared.Encoding.the-variants.{Bits, Trits, Quints};
 ghost use Rattle.quantization.specs.Ranges.{encodingAt, bitsAt};
 ghost use Rattle.integer_sequence.specs.Reading.{number, stored, Narrow};
-ghost use Rattle.sequence_numbers.specs.inner.Eight.{Eight};
+ghost use Rattle.sequence_numbers.specs.inner.Eight.{eight, Eight};
 
 // Eight stored numbers in one, the first in bits 7..0.
 pub struct StoredEight(u64);
@@ -29,9 +29,9 @@ pub fn stored_in(x: StoredEight, j: u32) -> Stored
 }
 
 // Numbers `first` to `first + n - 1` of the sequence s, all in one word of it.
-fn bits_from(s: PhysicalBlock, b: u32, first: u32, n: u32) -> StoredEight
+fn bits_from(s: PhysicalBlock, b: u32, first: u32, n: u32) -> u64
     requires { ⌜ (b ≤ 8) × (first < 256) × (n ≤ 8) ⌝ }
-    ensures { λ r. ⌜ Eight n (λ j. number Bits b (blockNumber s) (first + j)) r ⌝ }
+    ensures { λ r. ⌜ Eight n (λ j. number Bits b (blockNumber s) (first + j)) (eight r) ⌝ }
 {
     let word = bits::word_at(s, first * b);
     let mut out: u64 = 0;
@@ -40,13 +40,13 @@ fn bits_from(s: PhysicalBlock, b: u32, first: u32, n: u32) -> StoredEight
         k -= 1;
         out = out * 256 + integer_sequence::reading::cut(word, k * b, b);
     }
-    StoredEight(out)
+    out
 }
 
 // The same group by group; the first begins before its turn where the run begins within a group.
-fn trits_from(s: PhysicalBlock, b: u32, first: u32, n: u32) -> StoredEight
+fn trits_from(s: PhysicalBlock, b: u32, first: u32, n: u32) -> u64
     requires { ⌜ (b ≤ 6) × (first < 256) × (n ≤ 8) ⌝ }
-    ensures { λ r. ⌜ Eight n (λ j. number Trits b (blockNumber s) (first + j)) r ⌝ }
+    ensures { λ r. ⌜ Eight n (λ j. number Trits b (blockNumber s) (first + j)) (eight r) ⌝ }
 {
     let mut p = first / 5 * (5 * b + 8);
     let g = integer_sequence::reading::trit_group(bits::word_at(s, p), b);
@@ -58,12 +58,12 @@ fn trits_from(s: PhysicalBlock, b: u32, first: u32, n: u32) -> StoredEight
         out += g << (8 * have);
         have += 5;
     }
-    StoredEight(out)
+    out
 }
 
-fn quints_from(s: PhysicalBlock, b: u32, first: u32, n: u32) -> StoredEight
+fn quints_from(s: PhysicalBlock, b: u32, first: u32, n: u32) -> u64
     requires { ⌜ (b ≤ 5) × (first < 256) × (n ≤ 8) ⌝ }
-    ensures { λ r. ⌜ Eight n (λ j. number Quints b (blockNumber s) (first + j)) r ⌝ }
+    ensures { λ r. ⌜ Eight n (λ j. number Quints b (blockNumber s) (first + j)) (eight r) ⌝ }
 {
     let mut p = first / 3 * (3 * b + 7);
     let g = integer_sequence::reading::quint_group(bits::word_at(s, p), b);
@@ -75,12 +75,12 @@ fn quints_from(s: PhysicalBlock, b: u32, first: u32, n: u32) -> StoredEight
         out += g << (8 * have);
         have += 3;
     }
-    StoredEight(out)
+    out
 }
 
-fn read_from(s: PhysicalBlock, e: Encoding, b: u8, first: u32, n: u32) -> StoredEight
+fn read_from(s: PhysicalBlock, e: Encoding, b: u8, first: u32, n: u32) -> u64
     requires { ⌜ Narrow e b × (first < 256) × (n ≤ 8) ⌝ }
-    ensures { λ r. ⌜ Eight n (λ j. number e b (blockNumber s) (first + j)) r ⌝ }
+    ensures { λ r. ⌜ Eight n (λ j. number e b (blockNumber s) (first + j)) (eight r) ⌝ }
 {
     match e {
         Encoding::Bits => bits_from(s, b as u32, first, n),
@@ -96,7 +96,7 @@ pub fn numbers_from(s: PhysicalBlock, range: u8, first: u32, n: u32) -> StoredEi
 {
     let e = quantization::encoding_at(range);
     let b = quantization::bits_at(range);
-    read_from(s, e, b, first, n)
+    StoredEight(read_from(s, e, b, first, n))
 }
 
 // The first n from number `first` on, and from `down` numbers further on.
@@ -107,7 +107,7 @@ pub fn rows_from(s: PhysicalBlock, range: u8, first: u32, down: u32, n: u32) -> 
 {
     let e = quantization::encoding_at(range);
     let b = quantization::bits_at(range);
-    let upper = read_from(s, e, b, first, n);
-    let lower = read_from(s, e, b, first + down, n);
+    let upper = StoredEight(read_from(s, e, b, first, n));
+    let lower = StoredEight(read_from(s, e, b, first + down, n));
     StoredRows { upper, lower }
 }
