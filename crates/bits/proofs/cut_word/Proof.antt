@@ -8,8 +8,8 @@ use borrow.Author.Needs.{needs}
 use Rattle.bits.specs.Field.{field}
 use Rattle.bits.specs.Block.{numberOf}
 use Rattle.bits.proofs.Fields.{field-lt, field-none, byte-below}
-use Rattle.bits.proofs.word_of.Statement.{statement}
-use Rattle.bits.proofs.word_of.Tie as tie
+use Rattle.bits.proofs.cut_word.Statement.{statement}
+use Rattle.bits.proofs.cut_word.Tie as tie
 
 abbrev Inv-loop : tie.InvT-loop
 Inv-loop s k word₀ left₀ word left = (left ≤ 8) × (word ≡ field (numberOf s) (8 * (k + left)) (64 - 8 * left))
@@ -62,8 +62,8 @@ returns c =
     let z : c .before .loop .left ≡ 0 = omega arith in
     rw (c .before .loop .inv .1, z, add-zero)
 
-pub word-of-spec : {M : Type 1} → statement M
-word-of-spec =
+pub cut-word-spec : {M : Type 1} → statement M
+cut-word-spec =
     tie.close
     (tie.spec
     Inv-loop
