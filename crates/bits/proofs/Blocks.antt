@@ -14,7 +14,7 @@ use Rattle.laws.proofs.Filling.{length-tab, getD-tab}
 use Rattle.bits.specs.Field.{field, stream}
 use Rattle.bits.specs.Block.{numberOf, bytesOf, blockNumber}
 use Rattle.bits.specs.declared.PhysicalBlock.{PhysicalBlock}
-use Rattle.bits.proofs.Fields.{field-lt, field-past, field-cut, field-below, stream-lt, stream-at, restream, stream-ext}
+use Rattle.bits.proofs.Fields.{field-lt, field-past, field-cut, field-below, byte-below, stream-lt, stream-at, restream, stream-ext}
 
 next-byte : (i : ℕ) → 8 * suc i ≡ 8 + 8 * i
 next-byte i = omega arith
@@ -41,6 +41,27 @@ unfolding bytesOf
 bytes-number s h =
     ext-getD 0 _ s (length-tab _ (length s))
     (λ i l. let m : i < length s = subst (λ (n : ℕ). i < n) (length-tab _ (length s)) l in getD-tab _ (length s) i 0 m ∙ byte-here s h i m)
+
+-- eight bytes from byte k on as one word
+module _ (s : List ℕ) (h : Bytes s) (k : ℕ) (room : k + 8 ≤ length s) where
+  here : (i : ℕ) → i < 8 → {b : ℕ} → b ≡ getD s (k + i) 0 → b ≡ field (numberOf s) (8 * (k + i)) 8
+  here i l e = e ∙ sym (byte-here s h (k + i) (omega arith))
+
+  pub eight-bytes : {b0 b1 b2 b3 b4 b5 b6 b7 : ℕ} → b0 ≡ getD s k 0 → b1 ≡ getD s (k + 1) 0 → b2 ≡ getD s (k + 2) 0 → b3 ≡ getD s (k + 3) 0
+      → b4 ≡ getD s (k + 4) 0 → b5 ≡ getD s (k + 5) 0 → b6 ≡ getD s (k + 6) 0 → b7 ≡ getD s (k + 7) 0
+      → b0 + 256 * b1 + 65536 * b2 + 16777216 * b3 + 4294967296 * b4 + 1099511627776 * b5 + 281474976710656 * b6 + 72057594037927936 * b7 ≡ field (numberOf s) (8 * k) 64
+  eight-bytes e0 e1 e2 e3 e4 e5 e6 e7 =
+      let w6 = more 6 7 8 16 (omega arith) (omega arith) (here 7 (omega arith) e7) (here 6 (omega arith) e6) in
+      let w5 = more 5 6 16 24 (omega arith) (omega arith) w6 (here 5 (omega arith) e5) in
+      let w4 = more 4 5 24 32 (omega arith) (omega arith) w5 (here 4 (omega arith) e4) in
+      let w3 = more 3 4 32 40 (omega arith) (omega arith) w4 (here 3 (omega arith) e3) in
+      let w2 = more 2 3 40 48 (omega arith) (omega arith) w3 (here 2 (omega arith) e2) in
+      let w1 = more 1 2 48 56 (omega arith) (omega arith) w2 (here 1 (omega arith) e1) in
+      omega (arith, byte-below (numberOf s) (8 * k) (8 * (k + 1)) 56 64 (omega arith) (omega arith) w1 (e0 ∙ sym (byte-here s h k (omega arith))))
+    where
+      more : (i j w v : ℕ) {x b : ℕ} → j ≡ i + 1 → v ≡ w + 8 → x ≡ field (numberOf s) (8 * (k + j)) w → b ≡ field (numberOf s) (8 * (k + i)) 8
+          → x * 256 + b ≡ field (numberOf s) (8 * (k + i)) v
+      more i j w v e f = byte-below (numberOf s) (8 * (k + i)) (8 * (k + j)) w v (omega arith) f
 
 pub bytes-length : (n v : ℕ) → length (bytesOf n v) ≡ n
 unfolding bytesOf

@@ -1,6 +1,7 @@
 // The sixteen bytes of a block as one number of 128 bits: fields of it, its reverse, and the bytes again.
 ghost use mathlib.Core.Path.{_≡_};
 ghost use Prim.Native.Nat.{_+_, _*_, _/_, _%_, _^_, _≤_, _<_, min};
+ghost use lib.ListN.{length};
 ghost use Rattle.bits.specs.Field.{field, reverse};
 ghost use Rattle.bits.specs.Block.{numberOf, bytesOf, blockNumber};
 
@@ -11,7 +12,7 @@ pub struct PhysicalBlock {
 }
 
 fn wide(x: u8) -> u64
-    ensures { λ r. ⌜ r ≡ x ⌝ }
+    ensures { λ r. ⌜ (r ≡ x) × (r < 256) ⌝ }
 {
     x as u64
 }
@@ -23,8 +24,23 @@ fn byte_at(s: &[u8], k: usize) -> u64
     if k < s.len() { wide(s[k]) } else { 0 }
 }
 
-// The eight bytes of s from byte k on.
-fn word_of(s: &[u8], k: usize) -> u64
+// The eight bytes of s from byte k on, all of them there: one load of the processor.
+fn whole_word(s: &[u8], k: usize) -> u64
+    requires { ⌜ k + 8 ≤ length (now s) ⌝ }
+    ensures { λ r. ⌜ r ≡ field (numberOf (now (s .entry))) (8 * k) 64 ⌝ }
+{
+    wide(s[k])
+        + 256 * wide(s[k + 1])
+        + 65536 * wide(s[k + 2])
+        + 16777216 * wide(s[k + 3])
+        + 4294967296 * wide(s[k + 4])
+        + 1099511627776 * wide(s[k + 5])
+        + 281474976710656 * wide(s[k + 6])
+        + 72057594037927936 * wide(s[k + 7])
+}
+
+// The same, byte by byte.
+fn cut_word(s: &[u8], k: usize) -> u64
     requires { ⌜ k ≤ 8 ⌝ }
     ensures { λ r. ⌜ r ≡ field (numberOf (now (s .entry))) (8 * k) 64 ⌝ }
 {
@@ -35,6 +51,17 @@ fn word_of(s: &[u8], k: usize) -> u64
         word = word * 256 + byte_at(s, k + left);
     }
     word
+}
+
+// The eight bytes of s from byte k on; those past its end count 0.
+fn word_of(s: &[u8], k: usize) -> u64
+    requires { ⌜ k ≤ 8 ⌝ }
+    ensures { λ r. ⌜ r ≡ field (numberOf (now (s .entry))) (8 * k) 64 ⌝ }
+{
+    if k + 8 <= s.len() {
+        return whole_word(s, k);
+    }
+    cut_word(s, k)
 }
 
 // The block of the first sixteen bytes of s; bytes that are not there count 0.

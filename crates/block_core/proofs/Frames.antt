@@ -1,10 +1,16 @@
 -- A block's texels lie within its weight grid.
 -- Assumes nothing.
+use mathlib.Core.Bool.{Bool, false}
 use mathlib.Core.Path.{_≡_, sym, ap, _∙_, subst}
-use Prim.Native.Nat.{ℕ, _*_, _≤_}
+use Prim.Native.Nat.{ℕ, _*_, _≤_, _<_}
 use native.Mathlib.Nat.{mul-comm, mul-assoc}
 use native.Mathlib.Omega.{arith}
-use Rattle.footprint.specs.Footprint.{widthOf, heightOf, depthOf, texelsOf}
+use lib.Dec.{T, eqb, eqb→eq}
+use borrow.Author.Tests.{ltb-false}
+use Rattle.laws.specs.Choice.{both, all}
+use Rattle.laws.proofs.Computed.{both-left, both-right, each}
+use Rattle.weight_grid.specs.Place.{scaleOf, gridPlace}
+use Rattle.footprint.specs.Footprint.{footprints, widthOf, heightOf, depthOf, texelsOf, isVolume}
 use Rattle.footprint.proofs.Laws.{width-le, height-le, depth-le, texels-le}
 use Rattle.volume_infill.proofs.Places.{on-axis}
 use Rattle.block_mode.specs.declared.WeightGrid.{WeightGrid}
@@ -21,6 +27,30 @@ texels-by-layers fp =
     mul-comm (widthOf fp * heightOf fp) (depthOf fp)
     ∙ ap (λ (k : ℕ). depthOf fp * k) (mul-comm (widthOf fp) (heightOf fp))
     ∙ sym (mul-assoc (depthOf fp) (heightOf fp) (widthOf fp))
+
+-- where a grid has a point for each texel of a side, the texel's place is its point: so it is on the sides of flat footprints (on a side of 11 it
+-- would not be)
+onPoints : ℕ → Bool
+onPoints side = all (λ i. eqb (gridPlace (scaleOf side) i side) (16 * i)) side
+
+exact : T (all (λ fp. both (onPoints (widthOf fp)) (onPoints (heightOf fp))) 14)
+unfolding onPoints scaleOf gridPlace widthOf heightOf footprints
+exact = tt
+
+on-side : (side : ℕ) → T (onPoints side) → (i : ℕ) → i < side → gridPlace (scaleOf side) i side ≡ 16 * i
+unfolding onPoints
+on-side side t i h = eqb→eq _ _ (each (λ i. eqb (gridPlace (scaleOf side) i side) (16 * i)) side t i h)
+
+module _ (fp : ℕ) (flat : isVolume fp ≡ false) where
+  both-sides : T (both (onPoints (widthOf fp)) (onPoints (heightOf fp)))
+  unfolding isVolume
+  both-sides = each (λ fp. both (onPoints (widthOf fp)) (onPoints (heightOf fp))) 14 exact fp (omega (arith, ltb-false 13 fp flat))
+
+  pub on-column : (i : ℕ) → i < widthOf fp → gridPlace (scaleOf (widthOf fp)) i (widthOf fp) ≡ 16 * i
+  on-column = on-side (widthOf fp) (both-left (onPoints (widthOf fp)) _ both-sides)
+
+  pub on-row : (i : ℕ) → i < heightOf fp → gridPlace (scaleOf (heightOf fp)) i (heightOf fp) ≡ 16 * i
+  on-row = on-side (heightOf fp) (both-right (onPoints (widthOf fp)) _ both-sides)
 
 module _ (fp : ℕ) (g : WeightGrid) (l : Limits g) (n : weightCount g ≤ 64) where
   pub inside : Inside g (frameOf fp)

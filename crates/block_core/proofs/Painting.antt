@@ -1,9 +1,10 @@
 -- A texel of a flat block from what is prepared, step by step.
 -- Assumes nothing.
+use mathlib.Core.Bool.{false}
 use mathlib.Core.Path.{_≡_, _∙_}
 use mathlib.Core.List.{List, []}
 use Prim.Native.Nat.{ℕ, _+_, _-_, _*_, _/_, _%_, _≤_, _<_}
-use native.Mathlib.Nat.{mul-le-mul}
+use native.Mathlib.Nat.{mul-le-mul, mul-comm, mod-lt, div-lt-iff-lt-mul, div-add-mod'}
 use native.Mathlib.Omega.{arith}
 use lib.Dec.{eqb}
 use lib.ListN.{getD}
@@ -15,10 +16,11 @@ use Rattle.block_header.specs.Counts.{weightCount}
 use Rattle.partition.specs.declared.Seeds.{Seeds}
 use Rattle.partition.specs.inner.Seeds.{selectBy}
 use Rattle.partition.proofs.Rows.{which-told}
+use Rattle.footprint.specs.Footprint.{widthOf, heightOf, isVolume}
 use Rattle.weight_grid.specs.Place.{gridPlace}
 use Rattle.encoding.specs.declared.LevelPair.{LevelPair}
 use Rattle.encoding.specs.Levels.{firstLevel, secondLevel}
-use Rattle.weight_grid.specs.Bilinear.{blendOf}
+use Rattle.weight_grid.specs.Bilinear.{w00, w01, w10, w11, blendOf}
 use Rattle.weight_grid.specs.inner.Points.{stepOf, noPoint, readOf}
 use Rattle.block_levels.proofs.Levels.{layer-le}
 use Rattle.weight_grid.proofs.Reading.{read-lt}
@@ -26,7 +28,9 @@ use Rattle.interpolation.specs.declared.Texel.{Texel}
 use Rattle.interpolation.specs.declared.Kind.{Kind}
 use Rattle.half_line.specs.inner.Line.{texelOn}
 use Rattle.block_core.specs.declared.Frame.{Frame}
-use Rattle.block_core.specs.inner.Prepared.{texelAt, texelIn}
+use Rattle.block_core.specs.inner.Prepared.{frameOf, texelAt, texelIn, pointTexel}
+use Rattle.block_buffer.proofs.Painting.{one-of}
+use Rattle.block_core.proofs.Frames.{on-column, on-row}
 
 -- what is read are points of the grid
 pub reach : (g : WeightGrid) (gs gt : ℕ) → Limits g → weightCount g ≤ 64 → gs ≤ 16 * (g .width - 1) → gt ≤ 16 * (g .height - 1)
@@ -48,6 +52,27 @@ pub told : (kind : Kind) (g : WeightGrid) (component : ℕ) (points : List Level
 unfolding texelIn texelAt readOf
 told kind g component points lines seeds partitions f x y both h ew ep es et en er eb e1 e2 el =
     rw (el, e1, e2, er, eb, en, es, et, ep ∙ which-told seeds partitions y x ew h)
+
+-- at a point of the grid its weight is the point's
+read-point : (plane : LevelPair → ℕ) (points : List LevelPair) (width height x y : ℕ) → readOf plane points width height (16 * x) (16 * y) ≡ plane (getD points (y * width + x) noPoint)
+unfolding readOf blendOf w00 w01 w10 w11
+read-point plane points width height x y =
+    let sx : 16 * x % 16 ≡ 0 = omega arith in
+    let sy : 16 * y % 16 ≡ 0 = omega arith in
+    let qx : 16 * x / 16 ≡ x = omega arith in
+    let qy : 16 * y / 16 ≡ y = omega arith in
+    rw (sx, sy, qx, qy) (omega arith)
+
+-- with one partition, and a point of the grid for each texel, a texel is mixed at its point
+pub point-told : (kind : Kind) (g : WeightGrid) (component : ℕ) (points : List LevelPair) (lines : List (List ℕ)) (seeds : Seeds) (fp partitions : ℕ)
+    → isVolume fp ≡ false → partitions ≡ 1 → g .width ≡ widthOf fp → g .height ≡ heightOf fp → (t : ℕ) → t < heightOf fp * widthOf fp
+    → pointTexel kind component points lines t ≡ texelIn kind g component points lines seeds partitions (frameOf fp) (t % widthOf fp) (t / widthOf fp)
+unfolding texelIn texelAt pointTexel frameOf
+point-told kind g component points lines seeds fp partitions flat one ew eh t h =
+    let w = widthOf fp in
+    let k : t < w * heightOf fp = omega (arith, h, mul-comm w (heightOf fp)) in
+    let p : 0 < w = one-of w (heightOf fp) k in
+    rw (one, ew, eh, on-column fp flat (t % w) (mod-lt t p), on-row fp flat (t / w) (div-lt-iff-lt-mul p .1 h), read-point firstLevel points w (heightOf fp) (t % w) (t / w), read-point secondLevel points w (heightOf fp) (t % w) (t / w), div-add-mod' t w)
 
 -- a flat block's texels have room in the buffer
 pub room-for : (width height : ℕ) → width ≤ 12 → height ≤ 12 → height * width ≤ 216

@@ -1,2 +1,3 @@
 pub mod Prepared
 pub mod Held
+pub mod Shows

@@ -11,7 +11,7 @@ use interpolation::Texel;
 use partition::Seeds;
 use volume_paint::VolumeFrame;
 ghost use mathlib.Core.Path.{_≡_};
-ghost use Prim.Native.Nat.{_*_, _≤_};
+ghost use Prim.Native.Nat.{ℕ, _*_, _/_, _%_, _≤_, _<_};
 ghost use lib.Dec.{eqb};
 ghost use lib.ListN.{length};
 ghost use Rattle.laws.specs.Choice.{pick};
@@ -19,15 +19,16 @@ ghost use Rattle.bits.specs.Block.{blockNumber};
 ghost use Rattle.footprint.specs.Footprint.{widthOf, texelsOf, isVolume};
 ghost use Rattle.block_header.specs.Counts.{weightCount, endpointCount, endpointRangeOf};
 ghost use Rattle.block_mode.specs.Back2D.{Limits};
-ghost use mathlib.Core.Bool.{false};
-ghost use Rattle.interpolation.specs.declared.Kind.the-variants.{Float16};
+ghost use mathlib.Core.Bool.{true, false};
 ghost use Rattle.interpolation.specs.Expansion.{takesHdr};
 ghost use Rattle.texel.specs.Meaning.{errorTexel, texelFrom};
 ghost use Rattle.texel.specs.BlockTexel.{inRow, blockInto};
 ghost use Rattle.block_fault.specs.Bits.{endpointAt, weightAt};
 ghost use Rattle.block_fault.specs.Faults.{faultOf};
 ghost use Rattle.block_buffer.specs.Painted.{painted};
-ghost use Rattle.block_core.specs.inner.Prepared.{frameOf, volumeFrameOf, texelIn, Inside, ByteLevels, halves};
+ghost use mathlib.Core.List.{List};
+ghost use Rattle.block_core.specs.inner.Shows.{Shows};
+ghost use Rattle.block_core.specs.inner.Prepared.{frameOf, volumeFrameOf, texelIn, pointTexel, Inside, ByteLevels, halves};
 
 // A footprint's sides and the scale factors of a weight grid along them, once for each block.
 struct Frame {
@@ -87,7 +88,7 @@ pub fn error_texel(kind: Kind) -> Texel
     }
 }
 
-// All texels of a flat block in kinds 0 and 1, row by row; the row's partitions are found at once. Only points of the grid are read: at the last column or row a point stands
+// All texels of a flat block, row by row; the row's partitions are found at once. Only points of the grid are read: at the last column or row a point stands
 // for its neighbour outside, whose factor is 0.
 fn paint(
     kind: Kind,
@@ -100,7 +101,6 @@ fn paint(
     f: Frame,
     out: &mut [u16; 864],
 )
-    requires { ⌜ takesHdr kind ≡ false ⌝ }
     requires { ⌜ Inside g f ⌝ }
     requires { ⌜ ByteLevels points ⌝ }
     ensures { λ r. ⌜ (length (now (out .entry)) ≡ 864 → now (out .exit) ≡ painted (f .width) (texelIn kind g component points (now (lines .entry)) seeds partitions f) (f .height * f .width) (now (out .entry))) ⌝ }
@@ -123,7 +123,7 @@ fn paint(
             let p11 = points[n + below + right];
             let both = weight_grid::infill_both(gs, gt, p00, p01, p10, p11);
             let line = lines[which[x as usize] as usize];
-            let t = interpolation::mix_line(kind, line, both, component);
+            let t = half_line::mix(kind, line, both, component);
             put(out, place(f.width, x, y), t.r, t.g, t.b, t.a);
             x += 1;
         }
@@ -131,44 +131,37 @@ fn paint(
     }
 }
 
-// All texels of a flat block in kind 2. A loop of its own: the mix of kind 2 in the loop of the others would take their registers.
-fn paint_half(
-    g: WeightGrid,
+// Whether a block has one partition and its grid a point for each texel.
+fn on_points(g: WeightGrid, f: Frame, partitions: u8) -> bool
+    ensures { λ r. ⌜ (r ≡ true → (partitions ≡ 1) × ((g .width ≡ f .width) × (g .height ≡ f .height))) ⌝ }
+{
+    if partitions != 1 {
+        return false;
+    }
+    if g.width != f.width {
+        return false;
+    }
+    g.height == f.height
+}
+
+// So many texels of one partition, row by row, each at the weights of the point of its number.
+fn paint_points(
+    kind: Kind,
     component: u8,
     points: [LevelPair; 64],
     lines: &[[u16; 10]; 4],
-    seeds: Seeds,
-    partitions: u8,
-    f: Frame,
+    count: usize,
     out: &mut [u16; 864],
 )
-    requires { ⌜ Inside g f ⌝ }
-    requires { ⌜ ByteLevels points ⌝ }
-    ensures { λ r. ⌜ (length (now (out .entry)) ≡ 864 → now (out .exit) ≡ painted (f .width) (texelIn Float16 g component points (now (lines .entry)) seeds partitions f) (f .height * f .width) (now (out .entry))) ⌝ }
+    requires { ⌜ count ≤ 64 ⌝ }
+    ensures { λ r. ⌜ ((width : ℕ) (texel : ℕ → ℕ → Texel) → ((t : ℕ) → t < count → pointTexel kind component points (now (lines .entry)) t ≡ texel (t % width) (t / width)) → length (now (out .entry)) ≡ 864 → now (out .exit) ≡ painted width texel count (now (out .entry))) ⌝ }
 {
-    let row = g.width as usize;
-    let mut y: u8 = 0;
-    while y < f.height {
-        let gt = weight_grid::grid_place(f.down, y, g.height);
-        let from = ((gt / 16) as usize) * row;
-        let below = weight_grid::step(gt, g.height, row);
-        let which = partition::row_partitions(seeds, partitions, y);
-        let mut x: u8 = 0;
-        while x < f.width {
-            let gs = weight_grid::grid_place(f.across, x, g.width);
-            let n = from + (gs / 16) as usize;
-            let right = weight_grid::step(gs, g.width, 1);
-            let q00 = points[n];
-            let q01 = points[n + right];
-            let q10 = points[n + below];
-            let q11 = points[n + below + right];
-            let both = weight_grid::infill_both(gs, gt, q00, q01, q10, q11);
-            let line = lines[which[x as usize] as usize];
-            let half = half_line::mix_half(line, both, component);
-            put(out, place(f.width, x, y), half.r, half.g, half.b, half.a);
-            x += 1;
-        }
-        y += 1;
+    let line = lines[0];
+    let mut i: usize = 0;
+    while i < count {
+        let t = half_line::mix(kind, line, points[i], component);
+        put(out, 4 * i, t.r, t.g, t.b, t.a);
+        i += 1;
     }
 }
 
@@ -220,17 +213,9 @@ fn paint_coded(
     }
     let seeds = partition::partition_seeds(h.index, h.partitions, small);
     let frame = frame_of(fp);
-    if interpolation::takes_hdr(kind) {
-        paint_half(
-            g,
-            component,
-            points,
-            &lines,
-            seeds,
-            h.partitions,
-            frame,
-            out,
-        );
+    if on_points(g, frame, h.partitions) {
+        let count = (frame.height as usize) * (frame.width as usize);
+        paint_points(kind, component, points, &lines, count, out);
     } else {
         paint(
             kind,
@@ -246,33 +231,79 @@ fn paint_coded(
     }
 }
 
-// What `decode_into` does, from the halves of a block: as two numbers they need no copy in memory.
-fn decode_halves(lo: u64, hi: u64, fp: u8, volume: bool, kind: Kind, out: &mut [u16; 864]) -> u8
+// A block that shows one texel everywhere: a void extent, or one with a fault, whose number is told (0 for none).
+pub struct UniformBlock {
+    pub texel: Texel,
+    pub fault: u8,
+}
+
+// What a block is decoded to: one texel for all places, or the numbers in the buffer.
+pub enum Decoded {
+    Uniform(UniformBlock),
+    Buffered,
+}
+
+// What `decode_some` does, from the halves of a block: as two numbers they need no copy in memory.
+fn decode_halves(
+    lo: u64,
+    hi: u64,
+    fp: u8,
+    volume: bool,
+    kind: Kind,
+    out: &mut [u16; 864],
+) -> Decoded
     requires { ⌜ volume ≡ isVolume fp ⌝ }
-    ensures { λ r. ⌜ r ≡ faultOf (takesHdr kind) fp (blockNumber (halves lo hi)) ⌝ }
-    ensures { λ r. ⌜ (length (now (out .entry)) ≡ 864 → now (out .exit) ≡ blockInto fp kind (blockNumber (halves lo hi)) (now (out .entry))) ⌝ }
+    ensures { λ r. ⌜ Shows (faultOf (takesHdr kind) fp (blockNumber (halves lo hi))) (blockInto fp kind (blockNumber (halves lo hi))) fp r (now (out .entry)) (now (out .exit)) ⌝ }
 {
     let block = PhysicalBlock { lo, hi };
     let s = block_fault::read_settings(interpolation::takes_hdr(kind), volume, block, fp);
     let v = s.verdict;
     match v {
-        Verdict::Fault(n) => {
-            flood(error_texel(kind), fp, out);
-            n
+        Verdict::Fault(fault) => {
+            let texel = error_texel(kind);
+            Decoded::Uniform(UniformBlock { texel, fault })
         }
         Verdict::VoidExtent => {
-            flood(block_levels::colours(kind, block), fp, out);
-            0
+            let texel = block_levels::colours(kind, block);
+            Decoded::Uniform(UniformBlock { texel, fault: 0 })
         }
         Verdict::Coded => {
             paint_coded(block, s, fp, volume, kind, out);
-            0
+            Decoded::Buffered
         }
     }
 }
 
+// A block: the texel of all its places, or its numbers in the first 4 * texels places of a lent buffer. Whether the footprint is a volume is
+// said beside it.
+pub fn decode_some(
+    block: PhysicalBlock,
+    fp: u8,
+    volume: bool,
+    kind: Kind,
+    out: &mut [u16; 864],
+) -> Decoded
+    requires { ⌜ volume ≡ isVolume fp ⌝ }
+    ensures { λ r. ⌜ Shows (faultOf (takesHdr kind) fp (blockNumber block)) (blockInto fp kind (blockNumber block)) fp r (now (out .entry)) (now (out .exit)) ⌝ }
+{
+    decode_halves(block.lo, block.hi, fp, volume, kind, out)
+}
+
+// The numbers of a block that was decoded are all in the buffer; answers its fault, 0 for none.
+pub fn buffered(d: Decoded, fp: u8, out: &mut [u16; 864]) -> u8
+    ensures { λ r. ⌜ ((fault : ℕ) (into : List ℕ → List ℕ) (old : List ℕ) → Shows fault into fp d old (now (out .entry)) → (r ≡ fault) × (length old ≡ 864 → now (out .exit) ≡ into old)) ⌝ }
+{
+    match d {
+        Decoded::Uniform(u) => {
+            flood(u.texel, fp, out);
+            u.fault
+        }
+        Decoded::Buffered => 0,
+    }
+}
+
 // The numbers of a block, 16 bits each, into the first 4 * texels places of a lent buffer, whose other places stay as they were (all of
-// them at a footprint above 23, which has no texels); answers its fault, 0 for none. Whether the footprint is a volume is said beside it.
+// them at a footprint above 23, which has no texels); answers its fault, 0 for none.
 pub fn decode_into(
     block: PhysicalBlock,
     fp: u8,
@@ -284,5 +315,6 @@ pub fn decode_into(
     ensures { λ r. ⌜ r ≡ faultOf (takesHdr kind) fp (blockNumber block) ⌝ }
     ensures { λ r. ⌜ (length (now (out .entry)) ≡ 864 → now (out .exit) ≡ blockInto fp kind (blockNumber block) (now (out .entry))) ⌝ }
 {
-    decode_halves(block.lo, block.hi, fp, volume, kind, out)
+    let d = decode_halves(block.lo, block.hi, fp, volume, kind, out);
+    buffered(d, fp, out)
 }

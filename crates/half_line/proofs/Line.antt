@@ -4,21 +4,16 @@ use mathlib.Core.Path.{_≡_, refl}
 use mathlib.Core.Bool.{Bool, true, false}
 use mathlib.Core.List.{List}
 use Prim.Native.Nat.{ℕ, _%_}
-use native.Mathlib.Omega.{arith}
 use lib.Dec.{eqb}
 use lib.ListN.{getD}
 use Rattle.laws.specs.Choice.{pick}
 use Rattle.encoding.specs.declared.Level.{Level}
 use Rattle.half_float.specs.Half.{halfOf}
-use Rattle.interpolation.specs.declared.Kind.{Kind}
-use Rattle.interpolation.specs.declared.Kind.the-variants.{Unorm16, Srgb8, Float16}
 use Rattle.interpolation.specs.declared.Texel.{Texel}
-use Rattle.interpolation.specs.Expansion.{takesHdr}
 use Rattle.interpolation.specs.Texel.{mixOf, weightOf, channelOf}
-use Rattle.interpolation.specs.inner.Line.{lineTexel}
 use Rattle.half_pair.specs.declared.HalfPair.{HalfPair}
 use Rattle.half_pair.specs.Texel.{endsOf, hdrAt, halfChannel, halfTexel}
-use Rattle.half_line.specs.inner.Line.{flagOf, halfLineOf, lineChannel, halfTexelOn, texelOn}
+use Rattle.half_line.specs.inner.Line.{flagOf, halfLineOf, lineChannel, halfTexelOn}
 
 flag-is : (b : Bool) → eqb (flagOf b) 1 ≡ b
 unfolding flagOf
@@ -48,18 +43,3 @@ pub line-steps : (line : List ℕ) (first second component : ℕ) {w0 w1 w2 w3 r
     → a ≡ halfOf (eqb (getD line 9 0) 1) (mixOf (getD line 3 0) (getD line 7 0) w3 % 65536) → texel r g b a ≡ halfTexelOn line first second component
 unfolding halfTexelOn lineChannel
 line-steps line first second component e0 er e1 eg e2 eb e3 ea = rw (er, eg, eb, ea, e0, e1, e2, e3)
-
--- the texel of a kind on the numbers of its pair, as each kind mixes it
-pub on-line : (kind : Kind) (line : List ℕ) (first second component : ℕ) → takesHdr kind ≡ false → lineTexel kind line first second component ≡ texelOn kind line first second component
-unfolding texelOn
-on-line kind line first second component e = rw e
-
-pub on-half : (line : List ℕ) (first second component : ℕ) → halfTexelOn line first second component ≡ texelOn Float16 line first second component
-unfolding texelOn
-on-half line first second component = refl
-
--- HDR is taken in kind 2 alone
-pub half-kind : (kind : Kind) → takesHdr kind ≡ true → kind ≡ Float16
-half-kind Unorm16 e = absurd (let z : _≡_ {A = Bool} false true = e in let w : _≡_ {A = ℕ} 0 1 = cc in omega arith)
-half-kind Srgb8 e = absurd (let z : _≡_ {A = Bool} false true = e in let w : _≡_ {A = ℕ} 0 1 = cc in omega arith)
-half-kind Float16 e = refl

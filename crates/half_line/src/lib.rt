@@ -1,6 +1,7 @@
-// A texel of kind 2 on the numbers of its pair.
+// A texel on the numbers of its pair: of kind 2, and of any kind.
 use encoding::LevelPair;
 use half_pair::HalfPair;
+use interpolation::Kind;
 use interpolation::Texel;
 ghost use mathlib.Core.Path.{_≡_};
 ghost use Prim.Native.Nat.{_-_, _%_, _≤_};
@@ -9,7 +10,7 @@ ghost use Rattle.laws.specs.Choice.{pick};
 ghost use Rattle.encoding.specs.Levels.{firstLevel, secondLevel};
 ghost use Rattle.interpolation.specs.Texel.{mixOf};
 ghost use Rattle.half_float.specs.Half.{halfOf};
-ghost use Rattle.half_line.specs.inner.Line.{flagOf, halfLineOf, halfTexelOn};
+ghost use Rattle.half_line.specs.inner.Line.{flagOf, halfLineOf, halfTexelOn, texelOn};
 
 // 64 less the weight, 0 for a weight above 64.
 fn rest(i: u64) -> u64
@@ -59,6 +60,17 @@ pub fn mix_half(l: [u16; 10], weights: LevelPair, component: u8) -> Texel
     let first = (weights.0 % 256) as u16;
     let second = (weights.0 / 65536) as u16;
     half_on(l, first, second, component)
+}
+
+// The texel of any kind on the numbers of its pair.
+pub fn mix(kind: Kind, l: [u16; 10], weights: LevelPair, component: u8) -> Texel
+    ensures { λ r. ⌜ r ≡ texelOn kind l (firstLevel weights) (secondLevel weights) component ⌝ }
+{
+    if interpolation::takes_hdr(kind) {
+        mix_half(l, weights, component)
+    } else {
+        interpolation::mix_line(kind, l, weights, component)
+    }
 }
 
 fn flag(b: bool) -> u16

@@ -1,4 +1,5 @@
 // The image calls: blocks in raster order to the texels of a whole image (01: picture), in each kind, in the ordinary reading and in the strict one.
+use block_core::Decoded;
 use block_reading::Reading;
 use image_layout::CheckedImage;
 use image_layout::ImageAnswer;
@@ -6,6 +7,7 @@ use image_layout::ImageGrid;
 use image_layout::Part;
 use image_layout::Tally;
 use interpolation::Kind;
+use interpolation::Texel;
 ghost use mathlib.Core.Path.{_≡_};
 ghost use Prim.Native.Nat.{_*_, _<_};
 ghost use lib.ListN.{length};
@@ -18,6 +20,7 @@ ghost use Rattle.image_layout.specs.Faulty.{tallyOf};
 ghost use Rattle.image_layout.specs.Call.{checkedOf, imageAnswer, imageOut, imageTold, imageAnswerIn, imageOutIn, imageToldIn, toldOf};
 ghost use Rattle.image_layout.specs.inner.Rows.{flatPicture};
 ghost use Rattle.picture_regions.proofs.Blocks.{Tile};
+ghost use Rattle.texel_fill.specs.Everywhere.{everywhere};
 ghost use Rattle.image_layout.proofs.Calls.{Sound};
 ghost use Rattle.image_layout.proofs.Parts.{Fits, PlacedRows};
 
@@ -32,6 +35,19 @@ fn place_numbers(buf: &[u16; 864], g: ImageGrid, p: Part, out: &mut [u16])
 {
     for dy in 0..p.rows {
         image_parts::copy_numbers(buf, image_parts::run_of(g, p, dy), out);
+    }
+}
+
+// Puts one texel at every place of a block's part of the image.
+fn flood_numbers(t: Texel, g: ImageGrid, p: Part, out: &mut [u16])
+    requires { ⌜ Sound g ⌝ }
+    requires { ⌜ Fits g p ⌝ }
+    requires { ⌜ length (now out) ≡ 4 * (g .height * g .width) ⌝ }
+    ensures { λ _. ⌜ PlacedRows (shownOf Unorm16) g p (p .rows) (everywhere t) (now (out .entry)) (now (out .exit)) ⌝ }
+{
+    for dy in 0..p.rows {
+        let r = image_parts::run_of(g, p, dy);
+        texel_fill::fill_numbers(t, r.at, p.columns, out);
     }
 }
 
@@ -57,9 +73,17 @@ fn show_numbers(
 {
     let p = image_parts::part_of(g, b);
     let block = image_parts::block_of(s, b);
-    let e = strict_block::decode_in(reading, block, g.footprint, false, kind, buf);
-    place_numbers(buf, g, p, out);
-    e
+    let d = strict_block::decode_some_in(reading, block, g.footprint, false, kind, buf);
+    match d {
+        Decoded::Uniform(u) => {
+            flood_numbers(u.texel, g, p, out);
+            u.fault
+        }
+        Decoded::Buffered => {
+            place_numbers(buf, g, p, out);
+            0
+        }
+    }
 }
 
 // Shows every block, in raster order, and counts the faults.
@@ -202,6 +226,19 @@ fn place_bytes(buf: &[u16; 864], g: ImageGrid, p: Part, out: &mut [u8])
     }
 }
 
+// Puts one texel at every place of a block's part of the image.
+fn flood_bytes(t: Texel, g: ImageGrid, p: Part, out: &mut [u8])
+    requires { ⌜ Sound g ⌝ }
+    requires { ⌜ Fits g p ⌝ }
+    requires { ⌜ length (now out) ≡ 4 * (g .height * g .width) ⌝ }
+    ensures { λ _. ⌜ PlacedRows (shownOf Srgb8) g p (p .rows) (everywhere t) (now (out .entry)) (now (out .exit)) ⌝ }
+{
+    for dy in 0..p.rows {
+        let r = image_parts::run_of(g, p, dy);
+        texel_fill::fill_bytes(t, r.at, p.columns, out);
+    }
+}
+
 // Shows block b, and answers its fault.
 fn show_bytes(
     reading: Reading,
@@ -222,9 +259,17 @@ fn show_bytes(
 {
     let p = image_parts::part_of(g, b);
     let block = image_parts::block_of(s, b);
-    let e = strict_block::decode_in(reading, block, g.footprint, false, Kind::Srgb8, buf);
-    place_bytes(buf, g, p, out);
-    e
+    let d = strict_block::decode_some_in(reading, block, g.footprint, false, Kind::Srgb8, buf);
+    match d {
+        Decoded::Uniform(u) => {
+            flood_bytes(u.texel, g, p, out);
+            u.fault
+        }
+        Decoded::Buffered => {
+            place_bytes(buf, g, p, out);
+            0
+        }
+    }
 }
 
 // Shows every block, in raster order, and counts the faults.

@@ -1,71 +1,24 @@
 -- A group of a sequence by itself: the word that begins where the group begins has the same code and the same numbers.
 -- Assumes nothing.
-use mathlib.Core.Path.{_≡_, sym, ap, ap₂, _∙_, subst}
-use mathlib.Core.Bool.{Bool}
-use mathlib.Core.List.{List, [], _∷_}
-use Prim.Native.Nat.{ℕ, suc, _+_, _*_, _/_, _%_, _^_, _≤_, _<_}
-use native.Mathlib.Nat.{mod-lt, mod-eq-of-lt, div-eq-of-lt, div-add-mod', zero-mul, lt-of-lt-of-le, add-mul, mul-add, mul-assoc, mul-le-mul-left, mul-le-mul-right, lt-of-not-le}
+use mathlib.Core.Path.{_≡_, refl, sym, ap, ap₂, _∙_, subst}
+use Prim.Native.Nat.{ℕ, zero, suc, _+_, _*_, _/_, _%_, _^_, _≤_, _<_}
+use native.Mathlib.Nat.{mod-lt, mod-eq-of-lt, div-eq-of-lt, div-one, div-add-mod', zero-mul, lt-of-lt-of-le, add-mul, mul-add, mul-assoc, mul-comm, mul-le-mul-left, lt-of-not-le}
 use native.Mathlib.Decide.{decLe}
 use native.Mathlib.Omega.{arith}
 use lib.Arith.{digits-div, digits-mod, digits-lt}
-use lib.ListN.{getD}
-use lib.Pow.{pow-mono, pow-add}
-use lib.Dec.{T, eqb, eqb→eq}
-use Rattle.laws.specs.Choice.{all}
-use Rattle.laws.specs.Table.{tabFrom, tab, padded}
-use Rattle.laws.proofs.Computed.{each}
-use Rattle.laws.proofs.Filling.{getD-tab}
+use lib.Pow.{pow-mono, shr-shr}
+use lib.Pow
 use Rattle.bits.specs.Field.{field, stream}
-use Rattle.bits.proofs.Fields.{field-lt, field-none, field-in, stream-ext}
+use Rattle.bits.proofs.Fields.{field-lt, field-in, stream-ext, stream-at}
 use Rattle.encoding.specs.declared.Encoding.{Encoding}
 use Rattle.encoding.specs.declared.Encoding.the-variants.{Bits, Trits, Quints}
 use Rattle.encoding.specs.Encoding.{groupSize, radix, codeBits, sequenceBits}
 use Rattle.encoding.proofs.Laws.{size-pos}
 use Rattle.integer_sequence.specs.Codes.{digit}
-use Rattle.integer_sequence.specs.inner.Entries.{digitWidth, digitsEntry}
+use Rattle.integer_sequence.specs.inner.Entries.{digitsEntry, groupNumbers}
 use Rattle.integer_sequence.specs.Reading.{shareBits, share, codeAt, number, Narrow}
-use Rattle.integer_sequence.proofs.Codes.{digit-lt, codes}
+use Rattle.integer_sequence.proofs.Codes.{digit-lt}
 use Rattle.integer_sequence.proofs.Places.{bits-zero, bits-group, share-group, place-next, place-mono, code-lt}
-
--- ---- digits from an entry of the tables
-
-right : Encoding → ℕ → Bool
-unfolding digitsEntry digit field
-right κ t = let x = digitsEntry κ t in all (λ k. eqb (field x (digitWidth κ * k) (digitWidth κ)) (digit κ t k)) (groupSize κ)
-
-right-trits : T (all (right Trits) 256)
-unfolding right
-right-trits = tt
-
-right-quints : T (all (right Quints) 256)
-unfolding right
-right-quints = tt
-
-pub entry-digit : (κ : Encoding) (t k : ℕ) → t < 256 → k < groupSize κ → field (digitsEntry κ t) (digitWidth κ * k) (digitWidth κ) ≡ digit κ t k
-unfolding right digit
-entry-digit Bits t k h l = field-none _ _
-entry-digit Trits t k h l = eqb→eq _ _ (each (λ k. eqb (field (digitsEntry Trits t) (2 * k) 2) (digit Trits t k)) 5 (each (right Trits) 256 right-trits t h) k l)
-entry-digit Quints t k h l = eqb→eq _ _ (each (λ k. eqb (field (digitsEntry Quints t) (3 * k) 3) (digit Quints t k)) 3 (each (right Quints) 256 right-quints t h) k l)
-
--- bit 7 of a quint code does not count
-seven : ℕ → Bool
-unfolding digitsEntry
-seven t = eqb (digitsEntry Quints (t % 128)) (digitsEntry Quints t)
-
-seven-test : T (all seven 256)
-unfolding seven
-seven-test = tt
-
-quint-entry : (t : ℕ) → t < 256 → digitsEntry Quints (t % 128) ≡ digitsEntry Quints t
-unfolding seven
-quint-entry t h = eqb→eq _ _ (each seven 256 seven-test t h)
-
--- a code looked up in its table
-pub trits-at : {table : List ℕ} → table ≡ tab (digitsEntry Trits) 256 → (t : ℕ) → t < 256 → getD table t 0 ≡ digitsEntry Trits t
-trits-at e t h = rw e (getD-tab (digitsEntry Trits) 256 t 0 h)
-
-pub quints-at : {table : List ℕ} → table ≡ tab (digitsEntry Quints) 128 → (t : ℕ) → t < 256 → getD table (t % 128) 0 ≡ digitsEntry Quints t
-quints-at e t h = rw e (getD-tab (digitsEntry Quints) 128 (t % 128) 0 (omega arith)) ∙ quint-entry t h
 
 -- ---- groups
 
@@ -132,46 +85,107 @@ number-alone κ b s i small ep ew =
     ∙ sym (number-in κ b s (i / groupSize κ) small (i % groupSize κ) (mod-lt i (size-pos κ)))
     ∙ ap (number κ b s) (div-add-mod' i (groupSize κ))
 
--- the numbers of a first group, from its code's entry
-pub number-first : (κ : Encoding) (b g k p : ℕ) {v x code d : ℕ} → v ≡ d * 2 ^ b + field g p b → k < groupSize κ → code ≡ codeAt κ b g 0 → x ≡ digitsEntry κ code
-    → d ≡ field x (digitWidth κ * k) (digitWidth κ) → p ≡ sequenceBits κ b k → v ≡ number κ b g k
-unfolding number
-number-first κ b g k p ev h ec ex ed ep =
-    rw (ev, div-eq-of-lt h, mod-eq-of-lt h, ep, ed, ex, ec, entry-digit κ (codeAt κ b g 0) k (lt-of-lt-of-le (code-lt κ b g 0) (codes κ)) h)
+-- ---- the numbers of a first group, a byte each
+
+-- what each value holds above and below
+stream-sum : (pos u v : ℕ → ℕ) (m n : ℕ) → stream pos (λ k. u k * m + v k) n ≡ stream pos u n * m + stream pos v n
+unfolding stream
+stream-sum pos u v m zero = omega (arith, zero-mul m)
+stream-sum pos u v m (suc n) =
+    let p = 2 ^ pos n in
+    omega (arith, stream-sum pos u v m n, add-mul (u n * m) (v n) p, add-mul (u n * p) (stream pos u n) m, mul-assoc (u n) m p, mul-assoc (u n) p m, ap (λ (x : ℕ). u n * x) (mul-comm m p))
+
+pub group-numbers : (κ : Encoding) (b g : ℕ) {code x own : ℕ} → code ≡ codeAt κ b g 0 → x ≡ digitsEntry κ code
+    → own ≡ stream (λ k. 8 * k) (λ k. field g (sequenceBits κ b k) b) (groupSize κ) → x * 2 ^ b + own ≡ groupNumbers κ b g
+unfolding groupNumbers digitsEntry number
+group-numbers κ b g ec ex eo =
+    rw (ex, ec, eo)
+    (sym (stream-sum (λ k. 8 * k) (digit κ (codeAt κ b g 0)) (λ k. field g (sequenceBits κ b k) b) (2 ^ b) (groupSize κ))
+    ∙ stream-ext (λ k. 8 * k) _ (number κ b g) (groupSize κ) (λ k h. rw (div-eq-of-lt h, mod-eq-of-lt h)))
 
 -- the codes of a first group, share by share
 share-at : (κ : Encoding) (b g i p : ℕ) → p ≡ sequenceBits κ b i + b → field g p (shareBits κ i) ≡ share κ b g i
 unfolding share
 share-at κ b g i p e = rw e
 
-pub trit-code : (b g : ℕ) {c0 c1 c2 c3 c4 : ℕ} → c0 ≡ field g b 2 → c1 ≡ field g (2 * b + 2) 2 → c2 ≡ field g (3 * b + 4) 1 → c3 ≡ field g (4 * b + 5) 2
-    → c4 ≡ field g (5 * b + 7) 1 → c0 + c1 * 4 + c2 * 16 + c3 * 32 + c4 * 128 ≡ codeAt Trits b g 0
-unfolding codeAt stream sequenceBits
-trit-code b g e0 e1 e2 e3 e4 =
-    let s0 = e0 ∙ share-at Trits b g 0 b (omega arith) in
-    let s1 = e1 ∙ share-at Trits b g 1 (2 * b + 2) (omega arith) in
-    let s2 = e2 ∙ share-at Trits b g 2 (3 * b + 4) (omega arith) in
-    let s3 = e3 ∙ share-at Trits b g 3 (4 * b + 5) (omega arith) in
-    let s4 = e4 ∙ share-at Trits b g 4 (5 * b + 7) (omega arith) in
-    omega (arith, s0, s1, s2, s3, s4)
+-- a share that stands at its place in the code once so many numbers are shifted out
+shifted-share : (κ : Encoding) (b g i n c w : ℕ) {x : ℕ} → x ≡ g / 2 ^ n → n + c ≡ sequenceBits κ b i + b → w ≡ shareBits κ i → x % 2 ^ (w + c) / 2 ^ c ≡ share κ b g i
+unfolding field
+shifted-share κ b g i n c w {x} e p q =
+    Pow.field x w c ∙ ap (λ (y : ℕ). y / 2 ^ c % 2 ^ w) e ∙ ap (λ (y : ℕ). y % 2 ^ w) (shr-shr g n c) ∙ ap (λ (y : ℕ). g / 2 ^ (n + c) % 2 ^ y) q ∙ share-at κ b g i (n + c) p
 
-pub quint-code : (b g : ℕ) {c0 c1 c2 : ℕ} → c0 ≡ field g b 3 → c1 ≡ field g (2 * b + 3) 2 → c2 ≡ field g (3 * b + 5) 2
-    → c0 + c1 * 8 + c2 * 32 ≡ codeAt Quints b g 0
+down : (g n b : ℕ) {x y : ℕ} → x ≡ g / 2 ^ n → y ≡ x / 2 ^ b → y ≡ g / 2 ^ (n + b)
+down g n b e f = f ∙ ap (λ (z : ℕ). z / 2 ^ b) e ∙ shr-shr g n b
+
+-- the bits of number k, once so many numbers are shifted out
+own-at : (κ : Encoding) (b g k n c : ℕ) {x v : ℕ} → v ≡ field x c b → x ≡ g / 2 ^ n → n + c ≡ sequenceBits κ b k → v ≡ field g (sequenceBits κ b k) b
+unfolding field
+own-at κ b g k n c e q p = e ∙ ap (λ (y : ℕ). y / 2 ^ c % 2 ^ b) q ∙ ap (λ (y : ℕ). y % 2 ^ b) (shr-shr g n c) ∙ ap (λ (y : ℕ). g / 2 ^ y % 2 ^ b) p
+
+pub five-own : (b g : ℕ) {g1 g2 g3 g4 v0 v1 v2 v3 v4 : ℕ} → g1 ≡ g / 2 ^ b → g2 ≡ g1 / 2 ^ b → g3 ≡ g2 / 2 ^ b → g4 ≡ g3 / 2 ^ b
+    → v0 ≡ field g 0 b → v1 ≡ field g1 2 b → v2 ≡ field g2 4 b → v3 ≡ field g3 5 b → v4 ≡ field g4 7 b
+    → v0 + v1 * 256 + v2 * 65536 + v3 * 16777216 + v4 * 4294967296 ≡ stream (λ k. 8 * k) (λ k. field g (sequenceBits Trits b k) b) 5
+unfolding stream sequenceBits
+five-own b g e1 e2 e3 e4 f0 f1 f2 f3 f4 =
+    let d2 = down g b b e1 e2 in
+    let d3 = down g (b + b) b d2 e3 in
+    let d4 = down g (b + b + b) b d3 e4 in
+    omega (arith, own-at Trits b g 0 0 0 f0 (sym (div-one g)) (omega arith), own-at Trits b g 1 b 2 f1 e1 (omega arith), own-at Trits b g 2 (b + b) 4 f2 d2 (omega arith), own-at Trits b g 3 (b + b + b) 5 f3 d3 (omega arith), own-at Trits b g 4 (b + b + b + b) 7 f4 d4 (omega arith))
+
+pub three-own : (b g : ℕ) {g1 g2 v0 v1 v2 : ℕ} → g1 ≡ g / 2 ^ b → g2 ≡ g1 / 2 ^ b → v0 ≡ field g 0 b → v1 ≡ field g1 3 b → v2 ≡ field g2 5 b
+    → v0 + v1 * 256 + v2 * 65536 ≡ stream (λ k. 8 * k) (λ k. field g (sequenceBits Quints b k) b) 3
+unfolding stream sequenceBits
+three-own b g e1 e2 f0 f1 f2 =
+    omega (arith, own-at Quints b g 0 0 0 f0 (sym (div-one g)) (omega arith), own-at Quints b g 1 b 3 f1 e1 (omega arith), own-at Quints b g 2 (b + b) 5 f2 (down g b b e1 e2) (omega arith))
+
+pub trit-code : (b g : ℕ) {g1 g2 g3 g4 g5 : ℕ} → g1 ≡ g / 2 ^ b → g2 ≡ g1 / 2 ^ b → g3 ≡ g2 / 2 ^ b → g4 ≡ g3 / 2 ^ b → g5 ≡ g4 / 2 ^ b
+    → g1 % 4 + g2 % 16 / 4 * 4 + g3 % 32 / 16 * 16 + g4 % 128 / 32 * 32 + g5 % 256 / 128 * 128 ≡ codeAt Trits b g 0
 unfolding codeAt stream sequenceBits
-quint-code b g e0 e1 e2 =
-    let s0 = e0 ∙ share-at Quints b g 0 b (omega arith) in
-    let s1 = e1 ∙ share-at Quints b g 1 (2 * b + 3) (omega arith) in
-    let s2 = e2 ∙ share-at Quints b g 2 (3 * b + 5) (omega arith) in
-    omega (arith, s0, s1, s2)
+trit-code b g {g1} {g2} {g3} {g4} {g5} e1 e2 e3 e4 e5 =
+    let d2 = down g b b e1 e2 in
+    let d3 = down g (b + b) b d2 e3 in
+    let d4 = down g (b + b + b) b d3 e4 in
+    let d5 = down g (b + b + b + b) b d4 e5 in
+    rw (
+      sym (div-one (g1 % 4)) ∙ shifted-share Trits b g 0 b 0 2 e1 (omega arith) refl,
+      shifted-share Trits b g 1 (b + b) 2 2 d2 (omega arith) refl,
+      shifted-share Trits b g 2 (b + b + b) 4 1 d3 (omega arith) refl,
+      shifted-share Trits b g 3 (b + b + b + b) 5 2 d4 (omega arith) refl,
+      shifted-share Trits b g 4 (b + b + b + b + b) 7 1 d5 (omega arith) refl,
+    )
+    (omega arith)
+
+pub quint-code : (b g : ℕ) {g1 g2 g3 : ℕ} → g1 ≡ g / 2 ^ b → g2 ≡ g1 / 2 ^ b → g3 ≡ g2 / 2 ^ b
+    → g1 % 8 + g2 % 32 / 8 * 8 + g3 % 128 / 32 * 32 ≡ codeAt Quints b g 0
+unfolding codeAt stream sequenceBits
+quint-code b g {g1} {g2} {g3} e1 e2 e3 =
+    let d2 = down g b b e1 e2 in
+    let d3 = down g (b + b) b d2 e3 in
+    rw (
+      sym (div-one (g1 % 8)) ∙ shifted-share Quints b g 0 b 0 3 e1 (omega arith) refl,
+      shifted-share Quints b g 1 (b + b) 3 2 d2 (omega arith) refl,
+      shifted-share Quints b g 2 (b + b + b) 5 2 d3 (omega arith) refl,
+    )
+    (omega arith)
 
 -- ---- what a number of a byte asks
 
-pub digit-fits : (d m b : ℕ) → d < 2 ^ m → m + b ≤ 8 → (d + 1) * 2 ^ b ≤ 256
-digit-fits d m b h l =
-    let e : 2 ^ m * 2 ^ b ≡ 2 ^ (m + b) = sym (pow-add 2 m b) in
-    let p : (d + 1) * 2 ^ b ≤ 2 ^ m * 2 ^ b = mul-le-mul-right (2 ^ b) (omega arith) in
-    let q : 2 ^ (m + b) ≤ 2 ^ 8 = pow-mono {i = m + b} {j = 8} l in
-    omega arith
+fits : (r b m : ℕ) → b ≤ m → r * 2 ^ m ≤ 256 → r * 2 ^ b ≤ 256
+fits r b m h l = let p : r * 2 ^ b ≤ r * 2 ^ m = mul-le-mul-left r (pow-mono {i = b} {j = m} h) in omega arith
+
+pub trits-narrow : (b : ℕ) → b ≤ 6 → Narrow Trits b
+trits-narrow b h = fits 3 b 6 h (omega arith)
+
+pub quints-narrow : (b : ℕ) → b ≤ 5 → Narrow Quints b
+quints-narrow b h = fits 5 b 5 h (omega arith)
+
+pub number-byte : (κ : Encoding) (b s : ℕ) → Narrow κ b → (i : ℕ) → number κ b s i < 2 ^ 8
+number-byte κ b s h i = lt-of-lt-of-le (number-lt κ b s i) h
+
+-- number k in the numbers of its group
+pub in-group : (κ : Encoding) (b g : ℕ) {x : ℕ} → Narrow κ b → x ≡ groupNumbers κ b g → (k : ℕ) → k < groupSize κ → x / 2 ^ (8 * k) % 256 ≡ number κ b g k
+unfolding groupNumbers field
+in-group κ b g h e k l = rw e (stream-at (λ k. 8 * k) (λ k. 8) (λ i. omega arith) (number κ b g) (number-byte κ b g h) (groupSize κ) k l)
 
 -- the bits that fit a byte below a trit or a quint
 below-radix : (r b m : ℕ) → r * 2 ^ b ≤ 256 → 256 < r * 2 ^ suc m → b ≤ m
@@ -192,18 +206,8 @@ narrow-trits b h = below-radix 3 b 6 h (omega arith)
 pub narrow-quints : (b : ℕ) → Narrow Quints b → b ≤ 5
 narrow-quints b h = below-radix 5 b 5 h (omega arith)
 
--- ---- lists of five
-
-pub five : (f : ℕ → ℕ) {v0 v1 v2 v3 v4 : ℕ} → v0 ≡ f 0 → v1 ≡ f 1 → v2 ≡ f 2 → v3 ≡ f 3 → v4 ≡ f 4 → _≡_ {A = List ℕ} (v0 ∷ v1 ∷ v2 ∷ v3 ∷ v4 ∷ []) (padded 5 5 f 0)
-unfolding padded tab tabFrom
-five f e0 e1 e2 e3 e4 = rw (e0, e1, e2, e3, e4)
-
-pub three : (f : ℕ → ℕ) {v0 v1 v2 : ℕ} → v0 ≡ f 0 → v1 ≡ f 1 → v2 ≡ f 2 → _≡_ {A = List ℕ} (v0 ∷ v1 ∷ v2 ∷ 0 ∷ 0 ∷ []) (padded 5 3 f 0)
-unfolding padded tab tabFrom
-three f e0 e1 e2 = rw (e0, e1, e2)
-
 -- ---- numbers with no digit
 
-pub number-bits : (b g : ℕ) {v : ℕ} → v ≡ 0 * 2 ^ b + field g 0 b → v ≡ number Bits b g 0
+pub number-bits : (b g : ℕ) {v : ℕ} → v ≡ field g 0 b → v ≡ number Bits b g 0
 unfolding number digit sequenceBits
-number-bits b g e = let z : sequenceBits Bits b 0 ≡ 0 = omega (arith, zero-mul b) in rw (e, z)
+number-bits b g e = let z : sequenceBits Bits b 0 ≡ 0 = omega (arith, zero-mul b) in let y : 0 * 2 ^ b + field g 0 b ≡ field g 0 b = omega (arith, zero-mul (2 ^ b)) in rw (e, z, y)

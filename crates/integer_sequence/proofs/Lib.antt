@@ -5,3 +5,4 @@ pub mod Search
 pub mod Groups
 pub mod Turns
 pub mod Ranged
+pub mod CodeTables

@@ -3,13 +3,13 @@
 use mathlib.Core.Path.{_≡_, sym, ap, _∙_, subst}
 use mathlib.Core.List.{List}
 use mathlib.Core.Logic.{_⊎_, ⊎-elim}
-use Prim.Native.Nat.{ℕ, _+_, _*_, _/_, _^_, _≤_, _<_, min}
-use native.Mathlib.Nat.{zero-div, zero-mul, div-one, lt-of-lt-of-le}
+use Prim.Native.Nat.{ℕ, _+_, _*_, _/_, _%_, _^_, _≤_, _<_, min}
+use native.Mathlib.Nat.{zero-div, zero-mul, div-one}
 use native.Mathlib.Omega.{arith}
 use lib.Pow.{shr-shr}
-use lib.ListN.{getD, set}
+use lib.ListN.{set}
 use Rattle.laws.specs.Table.{tab, padded}
-use Rattle.laws.proofs.Filling.{padded-none, padded-more, padded-here}
+use Rattle.laws.proofs.Filling.{padded-none, padded-more}
 use Rattle.bits.specs.Field.{field}
 use Rattle.bits.specs.Block.{blockNumber}
 use Rattle.bits.specs.declared.PhysicalBlock.{PhysicalBlock}
@@ -17,10 +17,10 @@ use Rattle.encoding.specs.declared.Encoding.{Encoding}
 use Rattle.encoding.specs.declared.Encoding.the-variants.{Bits, Trits, Quints}
 use Rattle.encoding.specs.declared.Stored.{Stored}
 use Rattle.encoding.specs.Encoding.{groupSize, sequenceBits}
-use Rattle.encoding.proofs.Laws.{size-le}
-use Rattle.integer_sequence.specs.Reading.{number, numbers, stored}
+use Rattle.integer_sequence.specs.inner.Entries.{groupNumbers}
+use Rattle.integer_sequence.specs.Reading.{number, numbers, stored, Narrow}
 use Rattle.integer_sequence.proofs.Places.{bits-zero}
-use Rattle.integer_sequence.proofs.Groups.{place-group, number-in}
+use Rattle.integer_sequence.proofs.Groups.{place-group, number-in, in-group}
 
 -- whole groups, and one more
 pub groups-next : (κ : Encoding) (i : ℕ) → i / groupSize κ * groupSize κ ≡ i → (i + groupSize κ) / groupSize κ * groupSize κ ≡ i + groupSize κ
@@ -59,10 +59,10 @@ module _ (κ : Encoding) (b s n : ℕ) where
       let f : i / groupSize κ * groupSize κ + k ≡ m = omega (arith, t .whole) in
       ap (λ (w : ℕ). number κ b w k) (sym g) ∙ sym (number-in κ b s (i / groupSize κ) h k l) ∙ ap (number κ b s) f
 
-  -- the same from the group of that word
-  pub turn-element : {i m word : ℕ} {out : List Stored} {rest : PhysicalBlock} {group : List ℕ} → sequenceBits κ b (groupSize κ) ≤ 64 → word ≡ field (blockNumber rest) 0 64 → Turn i out rest
-      → group ≡ padded 5 (groupSize κ) (number κ b word) 0 → (k : ℕ) → k < groupSize κ → m ≡ i + k → getD group k 0 ≡ number κ b s m
-  turn-element h e t g k l q = rw g (padded-here _ 0 5 (groupSize κ) k 0 (lt-of-lt-of-le l (size-le κ)) l) ∙ turn-number h e t k l q
+  -- the same from the numbers of that word's group
+  pub turn-element : {i m word x : ℕ} {out : List Stored} {rest : PhysicalBlock} → Narrow κ b → sequenceBits κ b (groupSize κ) ≤ 64 → word ≡ field (blockNumber rest) 0 64
+      → Turn i out rest → x ≡ groupNumbers κ b word → (k : ℕ) → k < groupSize κ → m ≡ i + k → x / 2 ^ (8 * k) % 256 ≡ number κ b s m
+  turn-element {word = word} w h e t g k l q = in-group κ b word w g k l ∙ turn-number h e t k l q
 
   -- number k is put in its place where it is one of the n
   pub put : {k m v : ℕ} {out new : List Stored} → n ≤ 64 → out ≡ soFar k → v ≡ number κ b s k → m ≡ k + 1 → k < n → new ≡ set out k (stored v) → new ≡ soFar m

@@ -22,7 +22,7 @@ use Rattle.quantization.proofs.Ranges.{bits-le}
 use Rattle.integer_sequence.specs.Reading.{number, sequenceAt, stored}
 use Rattle.integer_sequence.proofs.Ranged.{bits-small}
 use Rattle.sequence_numbers.specs.declared.StoredEight.{StoredEight}
-use Rattle.sequence_numbers.specs.inner.Eight.{placeAt, Eight}
+use Rattle.sequence_numbers.specs.inner.Eight.{Eight}
 use Rattle.weight_grid.specs.Cell.{level}
 use Rattle.color_endpoint.specs.Modes.{noLevel, pairOf}
 use Rattle.color_endpoint.specs.Table.{numberCount, startOf, numbersFrom, tableBy, tableOf}
@@ -65,26 +65,13 @@ pub cut-out : (range n B from : ℕ) {w s : ℕ} → w ≡ rangeBits range n →
 unfolding rangeBits sequenceAt
 cut-out range n B from ew es = es ∙ ap (λ (k : ℕ). field B from k) ew
 
--- eight places one after the other
-run : (start j : ℕ) → j < 8 → placeAt start 1 2 4 j ≡ start + j
-unfolding placeAt
-run start zero h = omega arith
-run start (suc zero) h = omega arith
-run start (suc (suc zero)) h = omega arith
-run start (suc (suc (suc zero))) h = omega arith
-run start (suc (suc (suc (suc zero)))) h = omega arith
-run start (suc (suc (suc (suc (suc zero))))) h = omega arith
-run start (suc (suc (suc (suc (suc (suc zero)))))) h = omega arith
-run start (suc (suc (suc (suc (suc (suc (suc zero))))))) h = omega arith
-run start (suc (suc (suc (suc (suc (suc (suc (suc j)))))))) h = absurd (omega arith)
-
 -- the levels of what was read from place start on
-pub levels-read : (range s start count : ℕ) {q : ℕ} {xs : StoredEight} {r : List Level} → count ≤ 8 → q ≡ s
-    → Eight count (λ j. number (encodingAt range) (bitsAt range) q (placeAt start 1 2 4 j)) xs
+pub levels-read : (range s start count : ℕ) {q : ℕ} {xs : StoredEight} {r : List Level} → q ≡ s
+    → Eight count (λ j. number (encodingAt range) (bitsAt range) q (start + j)) xs
     → r ≡ padded 18 count (λ k. level (unquantEndpoint range (xs .0 / 2 ^ (8 * k) % 256))) (level 0)
     → r ≡ padded 18 count (λ k. level (unquantEndpoint range (number (encodingAt range) (bitsAt range) s (start + k)))) (level 0)
 unfolding padded
-levels-read range s start count {q} {xs} h es ex er =
+levels-read range s start count {q} {xs} es ex er =
     er
     ∙ tab-ext (λ k. pick (ltb k count) (level (unquantEndpoint range (xs .0 / 2 ^ (8 * k) % 256))) (level 0)) (λ k. pick (ltb k count) (level (unquantEndpoint range (number (encodingAt range) (bitsAt range) s (start + k)))) (level 0)) (level 0) 18 same
   where
@@ -94,7 +81,7 @@ levels-read range s start count {q} {xs} h es ex er =
         elim (decLt k count) [
           | yes p ↦
               ap (λ (x : ℕ). pick (ltb k count) (level (unquantEndpoint range x)) (level 0))
-              (ex .at k p ∙ ap₂ (λ (m i : ℕ). number (encodingAt range) (bitsAt range) m i) es (run start k (omega arith)))
+              (ex .at k p ∙ ap (λ (m : ℕ). number (encodingAt range) (bitsAt range) m (start + k)) es)
           | no p ↦ let z : ltb k count ≡ false = le-ltb k count (omega arith) in rw z
         ]
 

@@ -77,7 +77,7 @@ fn own_levels(
     let s = bits::part(block, from as u32, w);
     levels_in(
         range,
-        sequence_numbers::numbers_at(s, range, start, 1, 2, 4, count),
+        sequence_numbers::numbers_from(s, range, start, count),
         count,
     )
 }

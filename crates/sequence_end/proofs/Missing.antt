@@ -19,7 +19,7 @@ use Rattle.encoding.specs.declared.Encoding.the-variants.{Bits, Trits, Quints}
 use Rattle.encoding.specs.Encoding.{groupSize, sequenceBits}
 use Rattle.encoding.proofs.Laws.{size-pos}
 use Rattle.integer_sequence.specs.Codes.{digit}
-use Rattle.integer_sequence.specs.inner.Entries.{digitWidth, digitsEntry}
+use Rattle.integer_sequence.specs.inner.Entries.{digitsEntry}
 use Rattle.integer_sequence.specs.Reading.{codeAt, number}
 use Rattle.integer_sequence.proofs.Codes.{codes}
 use Rattle.integer_sequence.proofs.Places.{code-lt}
@@ -40,7 +40,7 @@ same-is false false t = refl
 -- the digits of the code t from digit j on are 0 exactly when its entry has nothing from there on
 right : Encoding → ℕ → Bool
 unfolding digitsEntry digit tab tabFrom
-right κ t = all (λ j. same (allZero (tab (λ i. digit κ t (j + i)) (groupSize κ - j))) (eqb (digitsEntry κ t / 2 ^ (digitWidth κ * j)) 0)) (groupSize κ)
+right κ t = all (λ j. same (allZero (tab (λ i. digit κ t (j + i)) (groupSize κ - j))) (eqb (digitsEntry κ t / 2 ^ (8 * j)) 0)) (groupSize κ)
 
 right-bits : T (all (right Bits) 256)
 unfolding right
@@ -60,11 +60,11 @@ right-all Trits = right-trits
 right-all Quints = right-quints
 
 entry-zero : (κ : Encoding) (t j : ℕ) → t < 256 → j < groupSize κ
-    → allZero (tab (λ i. digit κ t (j + i)) (groupSize κ - j)) ≡ eqb (digitsEntry κ t / 2 ^ (digitWidth κ * j)) 0
+    → allZero (tab (λ i. digit κ t (j + i)) (groupSize κ - j)) ≡ eqb (digitsEntry κ t / 2 ^ (8 * j)) 0
 unfolding right
 entry-zero κ t j h l =
     same-is _ _
-    (each (λ j. same (allZero (tab (λ i. digit κ t (j + i)) (groupSize κ - j))) (eqb (digitsEntry κ t / 2 ^ (digitWidth κ * j)) 0)) (groupSize κ)
+    (each (λ j. same (allZero (tab (λ i. digit κ t (j + i)) (groupSize κ - j))) (eqb (digitsEntry κ t / 2 ^ (8 * j)) 0)) (groupSize κ)
     (each (right κ) 256 (right-all κ) t h) j l)
 
 -- ---- digits of a group by itself
@@ -90,7 +90,7 @@ module _ (κ : Encoding) (b s n : ℕ) {p word : ℕ} (small : sequenceBits κ b
 
   -- whether the missing digits are 0, from the code's entry
   pub missing-cut : {code x : ℕ} → code ≡ codeAt κ b word 0 → x ≡ digitsEntry κ code → (n % groupSize κ ≡ 0 → ⊥)
-      → eqb (x / 2 ^ (digitWidth κ * (n % groupSize κ))) 0 ≡ missingZero κ b s n
+      → eqb (x / 2 ^ (8 * (n % groupSize κ))) 0 ≡ missingZero κ b s n
   unfolding missing
   missing-cut ec ex h =
       rw (ex, ec, ne-eqb (n % groupSize κ) 0 h)

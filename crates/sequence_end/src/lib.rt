@@ -25,11 +25,10 @@ fn trits_zero(s: PhysicalBlock, b: u32, n: u32) -> bool
     if k == 0 {
         return true;
     }
-    let table = integer_sequence::tables::trits();
     let word = bits::word_at(s, n / 5 * (5 * b + 8));
-    let code = integer_sequence::reading::trit_code(word, b) as usize;
-    let digits = integer_sequence::reading::wide(table[code]);
-    digits >> (2 * k) == 0
+    let code = integer_sequence::reading::trit_code(word, b);
+    let digits = integer_sequence::tables::trit_digits(code);
+    digits >> (8 * k) == 0
 }
 
 fn quints_zero(s: PhysicalBlock, b: u32, n: u32) -> bool
@@ -40,11 +39,10 @@ fn quints_zero(s: PhysicalBlock, b: u32, n: u32) -> bool
     if k == 0 {
         return true;
     }
-    let table = integer_sequence::tables::quints();
     let word = bits::word_at(s, n / 3 * (3 * b + 7));
-    let code = (integer_sequence::reading::quint_code(word, b) % 128) as usize;
-    let digits = integer_sequence::reading::wide(table[code]);
-    digits >> (3 * k) == 0
+    let code = integer_sequence::reading::quint_code(word, b);
+    let digits = integer_sequence::tables::quint_digits(code);
+    digits >> (8 * k) == 0
 }
 
 fn missing_zero(s: PhysicalBlock, e: Encoding, b: u8, n: u32) -> bool

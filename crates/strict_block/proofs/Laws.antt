@@ -27,6 +27,9 @@ use Rattle.block_fault.proofs.ByKind.{fault-hdr}
 use Rattle.block_fault.proofs.Verdicts.{settings-verdict, told-fault, told-void, told-coded, coded-header, coded-numbers}
 use Rattle.texel.specs.Meaning.{errorTexel, channel}
 use Rattle.texel.specs.BlockTexel.{blockTexel, blockChannel, blockInto}
+use Rattle.block_core.specs.inner.Shows.{Shows}
+use Rattle.block_core.specs.declared.Decoded.{Decoded}
+use Rattle.block_core.specs.declared.Decoded.the-variants.{Uniform, Buffered}
 use Rattle.block_buffer.specs.Painted.{numberIn, painted}
 use Rattle.block_core.proofs.Shows.{shows-fault}
 use Rattle.block_reading.specs.declared.Reading.the-variants.{Strict}
@@ -150,3 +153,8 @@ module _ (fp : ℕ) (kind : Kind) (B : ℕ) where
     pub same-into : (old l : List ℕ) → l ≡ blockInto fp kind B old → l ≡ intoIn Strict fp kind B old
     unfolding blockInto blockChannel intoIn channelIn
     same-into old l p = p ∙ replaced-ext 0 _ _ (4 * texelsOf fp) old (λ k h. ap (λ (u : Texel). channel u (k % 4)) (same-texel _ _ _))
+
+-- an answer holds for what is equal
+pub shows-as : (d : Decoded) (fp : ℕ) (old new : List ℕ) {f g : ℕ} {m n : List ℕ → List ℕ} → f ≡ g → ((l : List ℕ) → m l ≡ n l) → Shows f m fp d old new → Shows g n fp d old new
+shows-as (Uniform u) fp old new e same s = (sym e ∙ s .0, s .1, λ l. sym (same l) ∙ s .2 l)
+shows-as Buffered fp old new e same s = (sym e ∙ s .0, λ h. s .1 h ∙ same _)

@@ -1,5 +1,7 @@
 // The canonical form of a block, its strict fault, and a block decoded in either reading.
 use bits::PhysicalBlock;
+use block_core::Decoded;
+use block_core::UniformBlock;
 use block_fault::Settings;
 use block_fault::Verdict;
 use block_reading::Reading;
@@ -17,6 +19,7 @@ ghost use Rattle.block_reading.specs.Faults.{canonicalOf, strictFault, faultIn}
 ghost use Rattle.block_reading.specs.Shown.{intoIn};
 ghost use Rattle.block_reading.specs.Canonical.{canonicalIn};
 ghost use Rattle.block_reading.specs.declared.Reading.the-variants.{Strict};
+ghost use Rattle.block_core.specs.inner.Shows.{Shows};
 ghost use Rattle.strict_block.specs.inner.Read.{Read};
 
 // Whether two blocks are the same 128 bits.
@@ -79,20 +82,43 @@ pub fn strict_fault(hdr: bool, fp: u8, volume: bool, b: PhysicalBlock) -> u8
 }
 
 // A block in the strict reading: fault 21 shows the error colour.
-fn decode_strict(b: PhysicalBlock, fp: u8, volume: bool, kind: Kind, out: &mut [u16; 864]) -> u8
+fn decode_strict(
+    b: PhysicalBlock,
+    fp: u8,
+    volume: bool,
+    kind: Kind,
+    out: &mut [u16; 864],
+) -> Decoded
     requires { ⌜ (fp ≤ 23) × (volume ≡ isVolume fp) ⌝ }
-    ensures { λ r. ⌜ r ≡ strictFault (takesHdr kind) fp (blockNumber b) ⌝ }
-    ensures { λ r. ⌜ (length (now (out .entry)) ≡ 864 → now (out .exit) ≡ intoIn Strict fp kind (blockNumber b) (now (out .entry))) ⌝ }
+    ensures { λ r. ⌜ Shows (strictFault (takesHdr kind) fp (blockNumber b)) (intoIn Strict fp kind (blockNumber b)) fp r (now (out .entry)) (now (out .exit)) ⌝ }
 {
     let fault = strict_fault(interpolation::takes_hdr(kind), fp, volume, b);
     if fault == 21 {
-        block_core::flood(block_core::error_texel(kind), fp, out);
-        return 21;
+        let texel = block_core::error_texel(kind);
+        return Decoded::Uniform(UniformBlock { texel, fault });
     }
-    block_core::decode_into(b, fp, volume, kind, out)
+    block_core::decode_some(b, fp, volume, kind, out)
 }
 
-// What `block_core::decode_into` does, in a reading; whether the footprint is a volume is said beside it.
+// What `block_core::decode_some` does, in a reading; whether the footprint is a volume is said beside it.
+pub fn decode_some_in(
+    reading: Reading,
+    b: PhysicalBlock,
+    fp: u8,
+    volume: bool,
+    kind: Kind,
+    out: &mut [u16; 864],
+) -> Decoded
+    requires { ⌜ (fp ≤ 23) × (volume ≡ isVolume fp) ⌝ }
+    ensures { λ r. ⌜ Shows (faultIn reading (takesHdr kind) fp (blockNumber b)) (intoIn reading fp kind (blockNumber b)) fp r (now (out .entry)) (now (out .exit)) ⌝ }
+{
+    match reading {
+        Reading::Ordinary => block_core::decode_some(b, fp, volume, kind, out),
+        Reading::Strict => decode_strict(b, fp, volume, kind, out),
+    }
+}
+
+// What `block_core::decode_into` does, in a reading.
 pub fn decode_in(
     reading: Reading,
     b: PhysicalBlock,
@@ -105,8 +131,6 @@ pub fn decode_in(
     ensures { λ r. ⌜ r ≡ faultIn reading (takesHdr kind) fp (blockNumber b) ⌝ }
     ensures { λ r. ⌜ (length (now (out .entry)) ≡ 864 → now (out .exit) ≡ intoIn reading fp kind (blockNumber b) (now (out .entry))) ⌝ }
 {
-    match reading {
-        Reading::Ordinary => block_core::decode_into(b, fp, volume, kind, out),
-        Reading::Strict => decode_strict(b, fp, volume, kind, out),
-    }
+    let d = decode_some_in(reading, b, fp, volume, kind, out);
+    block_core::buffered(d, fp, out)
 }

@@ -76,18 +76,6 @@ fn most_by(test: bool, yes: u16, no: u16) -> u16
 
 // ---- lists: the first n numbers are at most `most`, the others 0
 
-fn four_within(xs: [u16; 4], n: usize, most: u16) -> bool
-    ensures { λ r. ⌜ r ≡ within 4 n most (λ k. getD xs k 0) ⌝ }
-{
-    let mut ok = true;
-    let mut i: usize = 0;
-    while i < 4 {
-        ok = both(xs[i] <= most_by(i < n, most, 0), ok);
-        i += 1;
-    }
-    ok
-}
-
 fn six_within(xs: [u16; 6], n: usize, most: u16) -> bool
     ensures { λ r. ⌜ r ≡ within 6 n most (λ k. getD xs k 0) ⌝ }
 {
@@ -98,6 +86,12 @@ fn six_within(xs: [u16; 6], n: usize, most: u16) -> bool
         i += 1;
     }
     ok
+}
+
+fn four_within(xs: [u16; 4], n: usize, most: u16) -> bool
+    ensures { λ r. ⌜ r ≡ within 4 n most (λ k. getD xs k 0) ⌝ }
+{
+    six_within([xs[0], xs[1], xs[2], xs[3], 0, 0], n, most)
 }
 
 fn modes_within(modes: [u8; 4], n: usize, most: u16) -> bool

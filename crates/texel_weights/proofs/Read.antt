@@ -20,7 +20,7 @@ use Rattle.quantization.specs.Ranges.{encodingAt, bitsAt, rangeBits}
 use Rattle.quantization.specs.Unquantise.{unquantWeight}
 use Rattle.integer_sequence.specs.Reading.{number, sequenceAt, stored}
 use Rattle.sequence_numbers.specs.declared.StoredEight.{StoredEight}
-use Rattle.sequence_numbers.specs.inner.Eight.{placeAt, Eight}
+use Rattle.sequence_numbers.specs.inner.Eight.{Eight}
 use Rattle.weight_grid.specs.Cell as cell
 use Rattle.weight_grid.specs.Cell.{level}
 use Rattle.weight_grid.specs.Bilinear.{blendOf}
@@ -83,38 +83,26 @@ module _ (B : ℕ) (h : Header) (l : Limits (h .grid)) (room : weightCount (h .g
     unfolding pointOf
     point-told ea eb er = er ∙ both (eqb planes 2) refl ea eb ∙ sym listed
 
-  -- the numbers that were read, at their places
-  module _ (n right below s : ℕ) (xs : StoredEight) (es : s ≡ sequence)
-      (ex : Eight (4 * planes) (λ j. number (encodingAt range) (bitsAt range) s (placeAt (n * planes) (right * planes) (below * planes) 1 j)) xs) where
-    read : (j i : ℕ) → j < 4 * planes → placeAt (n * planes) (right * planes) (below * planes) 1 j ≡ i → stored (xs .0 / 2 ^ (8 * j) % 256) ≡ stored (number (encodingAt range) (bitsAt range) sequence i)
+  -- the numbers that were read from point m on
+  module _ (m from s : ℕ) (xs : StoredEight) (ef : from ≡ m * planes) (es : s ≡ sequence) (ex : Eight (2 * planes) (λ j. number (encodingAt range) (bitsAt range) s (from + j)) xs) where
+    read : (j i : ℕ) → j < 2 * planes → from + j ≡ i → stored (xs .0 / 2 ^ (8 * j) % 256) ≡ stored (number (encodingAt range) (bitsAt range) sequence i)
     read j i h e = ap stored (ex .at j h ∙ ap₂ (λ (q k : ℕ). number (encodingAt range) (bitsAt range) q k) es e)
 
-    -- point j of the four
-    point : (j k : ℕ) {r : LevelPair} → j < 4 → k < h .grid .width * h .grid .height * h .grid .depth → placeAt (n * planes) (right * planes) (below * planes) 1 j ≡ k * planes
-        → placeAt (n * planes) (right * planes) (below * planes) 1 (4 + j) ≡ k * planes + 1
-        → r ≡ levelPair (unquantWeight range (xs .0 / 2 ^ (8 * j) % 256)) (pick (eqb planes 2) (unquantWeight range (xs .0 / 2 ^ (8 * (4 + j)) % 256)) 0) → r ≡ getD (pointsAt B h) k noPoint
-    point j k hj inside e1 e2 er =
-        point-told k inside (read j (k * planes) (omega (arith, l .planes-low)) e1) (λ two. read (4 + j) (k * planes + 1) (omega (arith, two)) e2) er
+    -- that point, or its right neighbour
+    pub point-in : (right k at : ℕ) (r : LevelPair) → right ≤ 1 → k ≡ m + right → at ≡ right * planes → k < h .grid .width * h .grid .height * h .grid .depth
+        → r ≡ levelPair (unquantWeight range (xs .0 / 2 ^ (8 * at) % 256)) (pick (eqb planes 2) (unquantWeight range (xs .0 / 2 ^ (8 * (at + 1)) % 256)) 0) → r ≡ getD (pointsAt B h) k noPoint
+    point-in right k at r one ek ea inside er =
+        let u : right * planes ≤ 1 * planes = mul-le-mul-right planes one in
+        let e : from + at ≡ k * planes = rw (ef, ek, ea) (sym (add-mul m right planes)) in
+        point-told k inside (read at (k * planes) (omega (arith, l .planes-low, u, ea)) e) (λ two. read (at + 1) (k * planes + 1) (omega (arith, two, u, ea)) (omega (arith, e))) er
 
-    -- the four points
-    pub points-told : {r0 r1 r2 r3 : LevelPair} → n + below + right < h .grid .width * h .grid .height * h .grid .depth
-        → r0 ≡ levelPair (unquantWeight range (xs .0 / 2 ^ (8 * 0) % 256)) (pick (eqb planes 2) (unquantWeight range (xs .0 / 2 ^ (8 * (4 + 0)) % 256)) 0)
-        → r1 ≡ levelPair (unquantWeight range (xs .0 / 2 ^ (8 * 1) % 256)) (pick (eqb planes 2) (unquantWeight range (xs .0 / 2 ^ (8 * (4 + 1)) % 256)) 0)
-        → r2 ≡ levelPair (unquantWeight range (xs .0 / 2 ^ (8 * 2) % 256)) (pick (eqb planes 2) (unquantWeight range (xs .0 / 2 ^ (8 * (4 + 2)) % 256)) 0)
-        → r3 ≡ levelPair (unquantWeight range (xs .0 / 2 ^ (8 * 3) % 256)) (pick (eqb planes 2) (unquantWeight range (xs .0 / 2 ^ (8 * (4 + 3)) % 256)) 0)
-        → _≡_ {A = List LevelPair} (r0 ∷ r1 ∷ r2 ∷ r3 ∷ [])
-        (getD (pointsAt B h) n noPoint ∷ getD (pointsAt B h) (n + right) noPoint ∷ getD (pointsAt B h) (n + below) noPoint ∷ getD (pointsAt B h) (n + below + right) noPoint ∷ [])
-    unfolding placeAt
-    points-told inside e0 e1 e2 e3 =
-        let a = add-mul n right planes in
-        let b = add-mul n below planes in
-        let c = add-mul (n + below) right planes in
-        rw (
-          point 0 n (omega arith) (omega arith) (omega arith) (omega arith) e0,
-          point 1 (n + right) (omega arith) (omega arith) (omega (arith, a)) (omega (arith, a)) e1,
-          point 2 (n + below) (omega arith) (omega arith) (omega (arith, b)) (omega (arith, b)) e2,
-          point 3 (n + below + right) (omega arith) (omega arith) (omega (arith, b, c)) (omega (arith, b, c)) e3,
-        )
+pub step-one : (place points : ℕ) → stepOf place points 1 ≤ 1
+unfolding stepOf
+step-one place points = at (ltb (place / 16 + 1) points)
+  where
+    at : (t : Bool) → pick t 1 0 ≤ 1
+    at true = omega arith
+    at false = omega arith
 
 -- a plane of what is read, from the four points
 pub read-told : (plane : LevelPair → ℕ) (points : List LevelPair) (width height gs gt : ℕ) {n right below v : ℕ} {p : List LevelPair} → n ≡ gt / 16 * width + gs / 16

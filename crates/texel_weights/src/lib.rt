@@ -30,13 +30,13 @@ fn weight_sequence(block: PhysicalBlock, g: WeightGrid) -> PhysicalBlock
     bits::part(bits::reversed(block), 0, w)
 }
 
-// Point j of the four, by its range's words: the weights of both planes.
-fn point_of(words: &[u64; 4], planes: u8, xs: StoredEight, j: u32) -> LevelPair
-    requires { ⌜ j < 4 ⌝ }
-    ensures { λ r. ⌜ ((level : ℕ → ℕ) → RightWords level (now (words .entry)) → r ≡ levelPair (level (xs .0 / 2 ^ (8 * j) % 256)) (pick (eqb planes 2) (level (xs .0 / 2 ^ (8 * (4 + j)) % 256)) 0)) ⌝ }
+// The point whose stored weights stand from place j of a row on, by its range's words: the weights of both planes.
+fn point_of(words: &[u64; 4], planes: u8, row: StoredEight, j: u32) -> LevelPair
+    requires { ⌜ j < 7 ⌝ }
+    ensures { λ r. ⌜ ((level : ℕ → ℕ) → RightWords level (now (words .entry)) → r ≡ levelPair (level (row .0 / 2 ^ (8 * j) % 256)) (pick (eqb planes 2) (level (row .0 / 2 ^ (8 * (j + 1)) % 256)) 0)) ⌝ }
 {
-    let low = sequence_numbers::stored_in(xs, j);
-    let high = sequence_numbers::stored_in(xs, 4 + j);
+    let low = sequence_numbers::stored_in(row, j);
+    let high = sequence_numbers::stored_in(row, j + 1);
     quantization::weight_pair(words, planes, low, high)
 }
 
@@ -49,7 +49,7 @@ fn points_at(
     below: usize,
 ) -> [LevelPair; 4]
     requires { ⌜ Limits (h .grid) × (weightCount (h .grid) ≤ 64) ⌝ }
-    requires { ⌜ n + below + right < h .grid .width * h .grid .height * h .grid .depth ⌝ }
+    requires { ⌜ (n + below + right < h .grid .width * h .grid .height * h .grid .depth) × (right ≤ 1) ⌝ }
     ensures { λ r. ⌜ r ≡ getD (pointsAt (blockNumber block) h) n noPoint ∷ getD (pointsAt (blockNumber block) h) (n + right) noPoint ∷ getD (pointsAt (blockNumber block) h) (n + below) noPoint ∷ getD (pointsAt (blockNumber block) h) (n + below + right) noPoint ∷ [] ⌝ }
 {
     let g = h.grid;
@@ -60,12 +60,12 @@ fn points_at(
     let first = (n * each) as u32;
     let across = (right * each) as u32;
     let down = (below * each) as u32;
-    let xs = sequence_numbers::numbers_at(s, range, first, across, down, 1, 4 * (planes as u32));
+    let rows = sequence_numbers::rows_from(s, range, first, down, 2 * (planes as u32));
     let words = quantization::weight_words(range);
-    let p00 = point_of(&words, planes, xs, 0);
-    let p01 = point_of(&words, planes, xs, 1);
-    let p10 = point_of(&words, planes, xs, 2);
-    let p11 = point_of(&words, planes, xs, 3);
+    let p00 = point_of(&words, planes, rows.upper, 0);
+    let p01 = point_of(&words, planes, rows.upper, across);
+    let p10 = point_of(&words, planes, rows.lower, 0);
+    let p11 = point_of(&words, planes, rows.lower, across);
     [p00, p01, p10, p11]
 }
 

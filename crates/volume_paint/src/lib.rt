@@ -3,12 +3,9 @@ use block_buffer::place;
 use block_buffer::put;
 use encoding::LevelPair;
 use interpolation::Kind;
-use interpolation::Texel;
 ghost use mathlib.Core.Path.{_≡_};
 ghost use Prim.Native.Nat.{_+_, _*_, _≤_};
 ghost use lib.ListN.{length};
-ghost use Rattle.encoding.specs.Levels.{firstLevel, secondLevel};
-ghost use Rattle.half_line.specs.inner.Line.{texelOn};
 ghost use Rattle.volume_infill.specs.inner.Way.{ByteLevels};
 ghost use Rattle.block_buffer.specs.Painted.{painted};
 ghost use Rattle.volume_paint.specs.Volume.{volumeTexel, byRows, InVolume};
@@ -21,17 +18,6 @@ pub struct VolumeFrame {
     pub across: u16,
     pub down: u16,
     pub inward: u16,
-}
-
-// The texel of a kind on the numbers of its pair.
-fn mix(kind: Kind, line: [u16; 10], both: LevelPair, component: u8) -> Texel
-    ensures { λ r. ⌜ r ≡ texelOn kind line (firstLevel both) (secondLevel both) component ⌝ }
-{
-    if interpolation::takes_hdr(kind) {
-        half_line::mix_half(line, both, component)
-    } else {
-        interpolation::mix_line(kind, line, both, component)
-    }
 }
 
 // Row y of layer z, in layers of `height` rows.
@@ -85,7 +71,7 @@ pub fn paint_volume(
                 let p3 = points[n3];
                 let both = volume_infill::blend_pairs(k.w0, k.w1, k.w2, k.w3, p0, p1, p2, p3);
                 let line = lines[which[x as usize] as usize];
-                let t = mix(kind, line, both, component);
+                let t = half_line::mix(kind, line, both, component);
                 put(out, place(f.width, x, q), t.r, t.g, t.b, t.a);
                 x += 1;
             }

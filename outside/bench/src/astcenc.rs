@@ -1,4 +1,4 @@
-//! Arm's codec by the C interface of its version 4, loaded when the benchmark runs; nothing links to it.
+//! Arm's codec by the C interface of its versions 4 and 5 (4.2.0 and 5.3.0 were run), loaded when the benchmark runs; nothing links to it.
 
 use std::ffi::{CString, c_char, c_int, c_void};
 use std::mem::transmute;
@@ -20,8 +20,11 @@ struct Image {
     layers: *mut *mut c_void,
 }
 
-type ConfigInit = unsafe extern "C" fn(u32, u32, u32, u32, f32, u32, *mut [u64; 64]) -> c_int;
-type ContextAlloc = unsafe extern "C" fn(*const [u64; 64], u32, *mut *mut c_void) -> c_int;
+/// Room for a configuration, whose fields Arm's library alone writes and reads: 120 bytes in 5.3.0.
+type Config = [u64; 64];
+
+type ConfigInit = unsafe extern "C" fn(u32, u32, u32, u32, f32, u32, *mut Config) -> c_int;
+type ContextAlloc = unsafe extern "C" fn(*const Config, u32, *mut *mut c_void) -> c_int;
 type Decompress = unsafe extern "C" fn(*mut c_void, *const u8, usize, *mut Image, *const [u32; 4], u32) -> c_int;
 
 #[derive(Clone, Copy)]
@@ -41,6 +44,9 @@ impl Library {
     }
 
     /// One thread that decodes square images: kind 1 to sRGB bytes, kinds 0 and 2 to half floats, HDR blocks in kind 2 only.
+    ///
+    /// Version 5 rounds by the texels it is to write, bytes as its `decode_unorm8` and half floats as its `decode_fp16`: here that agrees with ours.
+    /// Its flag ASTCENC_FLG_USE_DECODE_UNORM8 is the encoder's (decoding does not read it, and HDR profiles refuse it): it stays unset.
     pub fn decoder<T>(self, (w, h): (usize, usize), side: usize, kind: u8) -> impl Fn(&[u8], &mut [T]) {
         let profile = [1, 0, 3][kind as usize];
         let texels = if kind == 1 { 0 } else { 1 };

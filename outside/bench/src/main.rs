@@ -90,8 +90,8 @@ Times the library's calls against the reference's in one process, and feeding a 
 thread CPU time. ROUNDS of each measure, 61 unless given. It is no test: it fails only where the two do not show the same.
 
 --only=WORDS      rows of the image calls that have these words in their name, such as \"pictures 4x4\"; \"kind\" stands in all of them
---astcenc[=FILE]  Arm's codec decodes the images too, on one thread: libastcenc of Debian's package libastcenc3d, or the shared library FILE
-                  with the C interface of version 4; kind 0 as half floats, the nearest that it has";
+--astcenc[=FILE]  Arm's codec decodes the images too, on one thread: libastcenc of Debian's package libastcenc3d, or the shared library FILE,
+                  a path with a slash, of version 4 or 5; kind 0 as half floats, the nearest that it has";
 
 fn usage() -> ! {
     eprintln!("{HELP}");

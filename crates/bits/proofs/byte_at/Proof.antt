@@ -13,7 +13,7 @@ wide-requires : tie.Need-wide-requires
 wide-requires c κs = search needs
 
 returns : tie.Need-returns
-returns c = c .wide .ensures ∙ sym (byte-here (now (c .before .before .before .before .args .s)) (λ i. c .before .before .before .shared-slice-known .given i .fits) (c .before .before .before .before .args .k) (omega arith))
+returns c = c .wide .ensures .0 ∙ sym (byte-here (now (c .before .before .before .before .args .s)) (λ i. c .before .before .before .shared-slice-known .given i .fits) (c .before .before .before .before .args .k) (omega arith))
 
 returns-2 : tie.Need-returns-2
 returns-2 c = sym (byte-past (now (c .before .before .args .s)) (λ i. c .before .shared-slice-known .given i .fits) (c .before .before .args .k) (c .if1 .left))

@@ -35,30 +35,6 @@ numbers-are : (c : tie.After-read-settings) → c .read-settings .result .verdic
     → (c .read-settings .result .numbers ≡ endpointCount (c .read-settings .result .header)) × (c .read-settings .result .range ≡ endpointRangeOf (c .read-settings .result .header))
 numbers-are c = rw (settings-are c) (coded-numbers (taken c) (c .before .before .args .fp) (number c))
 
-takes-hdr-requires : tie.Need-takes-hdr-requires
-takes-hdr-requires c κs = search needs
-
-read-settings-requires : tie.Need-read-settings-requires
-read-settings-requires c κs = search needs
-
-enum-known-v : tie.Need-enum-known-v
-enum-known-v c = search needs
-
-flood-requires : tie.Need-flood-requires
-flood-requires c κs = search needs
-
-enum-told : tie.Need-enum-told
-enum-told c = search needs
-
-colours-requires : tie.Need-colours-requires
-colours-requires c κs = search needs
-
-flood-requires-2 : tie.Need-flood-requires-2
-flood-requires-2 c κs = search needs
-
-enum-told-2 : tie.Need-enum-told-2
-enum-told-2 c = search needs
-
 paint-coded-requires : tie.Need-paint-coded-requires
 paint-coded-requires c κs =
     let r = c .before .before .before in
@@ -68,36 +44,34 @@ paint-coded-requires c κs =
 
 returns : tie.Need-returns
 returns c =
-    let r = c .before .before .before .before .before .before in
-    let k = told-fault _ _ _ _ (verdict-is r ∙ c .before .before .before .before .v .given .1) in
-    (sym (k .0), λ e. painted-into _ _ _ _ _ (λ x q. c .before .before .error-texel .ensures ∙ shows-fault _ _ _ x _ _ (k .1)) (c .flood .ensures e))
+    let r = c .before .before .before .before in
+    let k = told-fault _ _ _ _ (verdict-is r ∙ c .before .before .v .given .1) in
+    (k .0, refl, λ l. sym (painted-into _ _ _ _ l (λ x q. c .error-texel .ensures ∙ shows-fault _ _ _ x _ _ (k .1)) refl))
 
 returns-2 : tie.Need-returns-2
 returns-2 c =
-    let r = c .before .before .before .before .before in
-    let k = told-void _ _ _ (verdict-is r ∙ c .before .before .before .enum-told .given .1) in
-    (sym (k .0), λ e. painted-into _ _ _ _ _ (λ x q. c .before .before .colours .ensures ∙ shows-void _ _ _ x _ _ (k .0) (k .1)) (c .flood2 .ensures e))
+    let r = c .before .before .before in
+    let k = told-void _ _ _ (verdict-is r ∙ c .before .enum-told .given .1) in
+    (k .0, refl, λ l. sym (painted-into _ _ _ _ l (λ x q. c .colours .ensures ∙ shows-void _ _ _ x _ _ (k .0) (k .1)) refl))
 
 returns-3 : tie.Need-returns-3
 returns-3 c =
     let r = c .before .before .before .before in
     let v = c .before .before .enum-told2 .given .1 in
     let k = told-coded _ _ _ (verdict-is r ∙ v) in
-    (sym (k .0), λ e. painted-into _ _ _ _ _ (λ x q. shows-coded _ _ _ x _ _ (k .0) (k .1) _ (header-is r v)) (c .paint-coded .ensures e))
+    (k .0, λ e. painted-into _ _ _ _ _ (λ x q. shows-coded _ _ _ x _ _ (k .0) (k .1) _ (header-is r v)) (c .paint-coded .ensures e))
 
 pub decode-halves-spec : {M : Type 1} → statement M
 decode-halves-spec =
     tie.close
     (tie.spec
-    takes-hdr-requires
-    read-settings-requires
-    enum-known-v
     (λ c κs. search needs)
-    flood-requires
-    enum-told
-    colours-requires
-    flood-requires-2
-    enum-told-2
+    (λ c κs. search needs)
+    (λ c. search needs)
+    (λ c κs. search needs)
+    (λ c. search needs)
+    (λ c κs. search needs)
+    (λ c. search needs)
     paint-coded-requires
     returns
     returns-2

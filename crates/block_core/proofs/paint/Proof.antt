@@ -1,4 +1,4 @@
-use mathlib.Core.Path.{_≡_, refl, ap, _∙_}
+use mathlib.Core.Path.{_≡_, refl, ap}
 use mathlib.Core.List.{List}
 use Prim.Native.Nat.{ℕ, _+_, _-_, _*_, _/_, _≤_, _<_}
 use native.Mathlib.Nat.{mul-le-mul}
@@ -8,7 +8,6 @@ use denote.Ref.{now}
 use borrow.Author.Needs.{needs}
 use Rattle.block_core.specs.inner.Prepared.{texelIn}
 use Rattle.partition.proofs.Rows.{which-lt}
-use Rattle.half_line.proofs.Line.{on-line}
 use Rattle.block_buffer.proofs.Painting.{Laid, laid-texel, laid-as, laid-none, laid-done, row-end, place-fits}
 use Rattle.block_core.proofs.Painting.{reach, told, room-for}
 use Rattle.block_core.proofs.paint.Statement.{statement}
@@ -32,44 +31,44 @@ abbrev μ-loop : tie.MeasureT-loop
 -- ---- where the row lies
 
 down-le : (c : tie.After-grid-place Inv-loop2 μ-loop2 Inv-loop μ-loop) → c .grid-place .result ≤ 16 * (c .before .before .before .before .before .args .g .height - 1)
-down-le c = let s = c .before .before .before .before .before in rw (c .grid-place .ensures) (s .pre .1 .0 .rows (c .before .before .before .loop .y) (c .before .if1 .taken))
+down-le c = let s = c .before .before .before .before .before in rw (c .grid-place .ensures) (s .pre .0 .rows (c .before .before .before .loop .y) (c .before .if1 .taken))
 
 from-le : (c : tie.After-grid-place Inv-loop2 μ-loop2 Inv-loop μ-loop) → c .grid-place .result / 16 * c .before .before .before .before .before .args .g .width ≤ 11 * 12
 from-le c =
     let s = c .before .before .before .before .before in
-    mul-le-mul {n₂ = 11} {m₂ = 12} (omega (arith, down-le c, s .pre .1 .0 .limits .height-most)) (s .pre .1 .0 .limits .width-most)
+    mul-le-mul {n₂ = 11} {m₂ = 12} (omega (arith, down-le c, s .pre .0 .limits .height-most)) (s .pre .0 .limits .width-most)
 
 -- ---- where the texel lies
 
 across-le : (c : tie.After-grid-place2 Inv-loop2 μ-loop2 Inv-loop μ-loop) → c .grid-place2 .result ≤ 16 * (c .before .before .before .before .before .before .before .before .before .before .before .args .g .width - 1)
-across-le c = let s = c .before .before .before .before .before .before .before .before .before .before .before in rw (c .grid-place2 .ensures) (s .pre .1 .0 .columns (c .before .before .before .loop2 .x) (c .before .if2 .taken))
+across-le c = let s = c .before .before .before .before .before .before .before .before .before .before .before in rw (c .grid-place2 .ensures) (s .pre .0 .columns (c .before .before .before .loop2 .x) (c .before .if2 .taken))
 
 room : (c : tie.After-step2 Inv-loop2 μ-loop2 Inv-loop μ-loop) → c .before .before .before .before .before .before .before .grid-place .result / 16 * c .before .before .before .before .before .before .before .before .before .before .before .before .args .g .width + c .before .grid-place2 .result / 16 + c .before .before .before .before .before .before .step .result + c .step2 .result < 64
 room c =
     let s = c .before .before .before .before .before .before .before .before .before .before .before .before in
-    rw (c .step2 .ensures, c .before .before .before .before .before .before .step .ensures) (reach (s .args .g) _ _ (s .pre .1 .0 .limits) (s .pre .1 .0 .count) (across-le (c .before)) (down-le (c .before .before .before .before .before .before .before)))
+    rw (c .step2 .ensures, c .before .before .before .before .before .before .step .ensures) (reach (s .args .g) _ _ (s .pre .0 .limits) (s .pre .0 .count) (across-le (c .before)) (down-le (c .before .before .before .before .before .before .before)))
 
 -- a row of a block is not wider than the row of partitions
 narrow : (c : tie.After-infill-both Inv-loop2 μ-loop2 Inv-loop μ-loop) → c .before .before .before .before .before .before .before .before .before .loop2 .x < 16
-narrow c = omega (arith, c .before .before .before .before .before .before .before .if2 .taken, c .before .before .before .before .before .before .before .before .before .before .before .before .before .before .before .before .before .pre .1 .0 .width-most)
+narrow c = omega (arith, c .before .before .before .before .before .before .before .if2 .taken, c .before .before .before .before .before .before .before .before .before .before .before .before .before .before .before .before .before .pre .0 .width-most)
 
 -- the partition that is found has a line
 which-line : (c : tie.After-infill-both Inv-loop2 μ-loop2 Inv-loop μ-loop) → getD (c .before .before .before .before .before .before .before .before .before .before .row-partitions .result) (c .before .before .before .before .before .before .before .before .before .loop2 .x) 0 < 4
 which-line c = let a = c .before .before .before .before .before .before .before .before .before .before .before .before .before .before .before .before .before .args in which-lt (a .seeds) (a .partitions) (c .before .before .before .before .before .before .before .before .before .before .before .before .before .before .before .loop .y) _ (c .before .before .before .before .before .before .before .before .before .before .row-partitions .ensures) (narrow c)
 
 -- the texel at the place
-shown : (d : tie.After-place Inv-loop2 μ-loop2 Inv-loop μ-loop) → d .before .before .mix-line .result
+shown : (d : tie.After-place Inv-loop2 μ-loop2 Inv-loop μ-loop) → d .before .before .mix .result
     ≡ texelIn (d .before .before .before .before .before .before .before .before .before .before .before .before .before .before .before .before .before .before .before .before .before .args .kind) (d .before .before .before .before .before .before .before .before .before .before .before .before .before .before .before .before .before .before .before .before .before .args .g) (d .before .before .before .before .before .before .before .before .before .before .before .before .before .before .before .before .before .before .before .before .before .args .component) (d .before .before .before .before .before .before .before .before .before .before .before .before .before .before .before .before .before .before .before .before .before .args .t4) (now (d .before .before .before .before .before .before .before .before .before .before .before .before .before .before .before .before .before .before .before .before .before .args .lines)) (d .before .before .before .before .before .before .before .before .before .before .before .before .before .before .before .before .before .before .before .before .before .args .seeds) (d .before .before .before .before .before .before .before .before .before .before .before .before .before .before .before .before .before .before .before .before .before .args .partitions) (d .before .before .before .before .before .before .before .before .before .before .before .before .before .before .before .before .before .before .before .before .before .args .f) (d .before .before .before .before .before .before .before .before .before .before .before .before .before .loop2 .x) (d .before .before .before .before .before .before .before .before .before .before .before .before .before .before .before .before .before .before .before .loop .y)
 shown d =
     let a = d .before .before .before .before .before .before .before .before .before .before .before .before .before .before .before .before .before .before .before .before .before .args in
     let i = d .before .before .before .before in
     told (a .kind) (a .g) (a .component) (a .t4) (now (a .lines)) (a .seeds) (a .partitions) (a .f) (d .before .before .before .before .before .before .before .before .before .before .before .before .before .loop2 .x) (d .before .before .before .before .before .before .before .before .before .before .before .before .before .before .before .before .before .before .before .loop .y) (i .infill-both .result) (narrow i)
     (d .before .before .before .before .before .before .before .before .before .before .before .before .before .before .row-partitions .ensures) refl (d .before .before .before .before .before .before .before .before .before .before .grid-place2 .ensures) (d .before .before .before .before .before .before .before .before .before .before .before .before .before .before .before .before .grid-place .ensures) refl (d .before .before .before .before .before .before .before .before .before .step2 .ensures) (d .before .before .before .before .before .before .before .before .before .before .before .before .before .before .before .step .ensures)
-    (i .infill-both .ensures .0) (i .infill-both .ensures .1) (d .before .before .mix-line .ensures .0 ∙ on-line _ _ _ _ _ (d .before .before .before .before .before .before .before .before .before .before .before .before .before .before .before .before .before .before .before .before .before .pre .0))
+    (i .infill-both .ensures .0) (i .infill-both .ensures .1) (d .before .before .mix .ensures)
 
 -- it lies in the buffer
 fits : (d : tie.After-place Inv-loop2 μ-loop2 Inv-loop μ-loop) → 4 * (d .before .before .before .before .before .before .before .before .before .before .before .before .before .before .before .before .before .before .before .loop .y * d .before .before .before .before .before .before .before .before .before .before .before .before .before .before .before .before .before .before .before .before .before .args .f .width + d .before .before .before .before .before .before .before .before .before .before .before .before .before .loop2 .x) + 4 ≤ 864
-fits d = let s = d .before .before .before .before .before .before .before .before .before .before .before .before .before .before .before .before .before .before .before .before .before in place-fits (s .args .f .width) (s .args .f .height) _ _ (room-for (s .args .f .width) (s .args .f .height) (s .pre .1 .0 .width-most) (s .pre .1 .0 .height-most)) (d .before .before .before .before .before .before .before .before .before .before .before .if2 .taken) (d .before .before .before .before .before .before .before .before .before .before .before .before .before .before .before .before .before .if1 .taken)
+fits d = let s = d .before .before .before .before .before .before .before .before .before .before .before .before .before .before .before .before .before .before .before .before .before in place-fits (s .args .f .width) (s .args .f .height) _ _ (room-for (s .args .f .width) (s .args .f .height) (s .pre .0 .width-most) (s .pre .0 .height-most)) (d .before .before .before .before .before .before .before .before .before .before .before .if2 .taken) (d .before .before .before .before .before .before .before .before .before .before .before .before .before .before .before .before .before .if1 .taken)
 
 loop2-again : tie.Need-loop2-again Inv-loop2 μ-loop2 Inv-loop μ-loop
 loop2-again c =
@@ -113,7 +112,7 @@ paint-spec =
     (λ c. (omega arith, λ old e w. laid-as _ _ _ _ (omega arith) w))
     (λ c κs. search needs)
     (λ c. search needs)
-    (λ c. omega (arith, from-le (c .before .before .before .before .before .before), across-le c, c .before .before .before .before .before .before .before .before .before .before .before .pre .1 .0 .limits .width-most))
+    (λ c. omega (arith, from-le (c .before .before .before .before .before .before), across-le c, c .before .before .before .before .before .before .before .before .before .before .before .pre .0 .limits .width-most))
     (λ c κs. search needs)
     (λ c. omega (arith, room c))
     (λ c. omega (arith, room c))
@@ -127,7 +126,7 @@ paint-spec =
     (λ c. omega (arith, room (c .before .before .before)))
     (λ c. omega (arith, room (c .before .before .before)))
     (λ c. omega (arith, room (c .before .before .before)))
-    (λ c κs. let h = c .before .before .before .before .before .before .before .before .before .before .before .before .before .before .before .before .pre .1 .1 in (h _, h _, h _, h _))
+    (λ c κs. let h = c .before .before .before .before .before .before .before .before .before .before .before .before .before .before .before .before .pre .1 in (h _, h _, h _, h _))
     (λ c. search needs)
     (λ c. omega (arith, narrow c))
     narrow
@@ -137,10 +136,10 @@ paint-spec =
     (λ c κs. search needs)
     (λ c κs. search needs)
     (λ c κs. rw (c .place .ensures) (fits c))
-    (λ c. omega (arith, c .before .before .before .before .before .before .before .before .before .before .before .before .if2 .taken, c .before .before .before .before .before .before .before .before .before .before .before .before .before .before .before .before .before .before .before .before .before .before .pre .1 .0 .width-most))
+    (λ c. omega (arith, c .before .before .before .before .before .before .before .before .before .before .before .before .if2 .taken, c .before .before .before .before .before .before .before .before .before .before .before .before .before .before .before .before .before .before .before .before .before .before .pre .0 .width-most))
     (λ c. omega (arith, c .before .before .before .before .before .before .before .before .before .before .before .before .if2 .taken))
     loop2-again
-    (λ c. omega (arith, c .before .before .before .before .before .before .if1 .taken, c .before .before .before .before .before .before .before .before .before .before .pre .1 .0 .height-most))
+    (λ c. omega (arith, c .before .before .before .before .before .before .if1 .taken, c .before .before .before .before .before .before .before .before .before .before .pre .0 .height-most))
     (λ c. omega (arith, c .before .before .before .before .before .before .if1 .taken))
     loop-again
     returns)

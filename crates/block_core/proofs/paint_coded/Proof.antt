@@ -3,9 +3,12 @@ use mathlib.Core.Path.{_≡_, sym, _∙_}
 use Rattle.bits.specs.Block.{blockNumber}
 use Rattle.footprint.specs.Footprint.{isVolume}
 use Rattle.block_fault.specs.Bits.{weightAt}
-use Rattle.half_line.proofs.Line.{half-kind}
-use Rattle.block_core.specs.inner.Prepared.{Inside, ByteLevels}
+use Rattle.block_core.specs.inner.Prepared.{frameOf, Inside, ByteLevels}
+use Rattle.block_levels.proofs.Levels.{layer-le}
 use Rattle.block_core.proofs.Frames.{inside, in-volume}
+use Rattle.block_core.proofs.Painting.{point-told, room-for}
+use native.Mathlib.Nat.{mul-comm}
+use native.Mathlib.Omega.{arith}
 use Rattle.block_core.proofs.Shows.{byte-levels, flat-told, volume-told}
 use borrow.Author.Needs.{needs}
 use Rattle.block_core.proofs.paint_coded.Statement.{statement}
@@ -35,11 +38,22 @@ paint-volume-requires c κs = let f = c .before .before in
     let s = start q in
     (rw (f .volume-frame .ensures) (in-volume (s .args .fp) (s .args .s .header .grid) (s .pre .1 .1 .1 .0) (s .pre .1 .0 .0)), levels q)
 
-paint-half-requires : tie.Need-paint-half-requires
-paint-half-requires c κs = ready (c .before .before .before .before)
+mul-count : tie.Need-mul-count
+mul-count c = omega (arith, room-for _ _ (ready (c .before .before .before .before) .0 .width-most) (ready (c .before .before .before .before) .0 .height-most))
+
+-- what is known of a grid with a point for each texel
+same : (c : tie.Then2) → (start (c .before .before .before .before .before) .args .s .header .partitions ≡ 1) × ((start (c .before .before .before .before .before) .args .s .header .grid .width ≡ c .before .before .frame-of .result .width) × (start (c .before .before .before .before .before) .args .s .header .grid .height ≡ c .before .before .frame-of .result .height))
+same c = c .before .on-points .ensures (c .if2 .taken)
+
+paint-points-requires : tie.Need-paint-points-requires
+paint-points-requires c κs =
+    let q = c .before .before .before .before in
+    let e = same q .1 in
+    let i = ready (q .before .before) .0 in
+    rw (← e .0, ← e .1) (omega (arith, layer-le _ (i .limits) (i .count), mul-comm (start (q .before .before .before .before .before) .args .s .header .grid .width) (start (q .before .before .before .before .before) .args .s .header .grid .height)))
 
 paint-requires : tie.Need-paint-requires
-paint-requires c κs = (sym (c .before .before .before .takes-hdr .ensures) ∙ c .before .before .if2 .left, ready (c .before .before .before .before))
+paint-requires c κs = ready (c .before .before .before .before)
 
 returns : tie.Need-returns
 unfolding weightAt
@@ -51,16 +65,17 @@ returns c = let f = c .before .before .before in
     (sym (s .pre .0) ∙ f .before .if1 .taken) (f .volume-frame .ensures) (c .paint-volume .ensures e)
 
 returns-2 : tie.Need-returns-2
-unfolding weightAt
-returns-2 c = let t = c .before .before .before .before in
-    let f = t .before in
+unfolding weightAt frameOf
+returns-2 c = let t = c .before .before .before .before .before in
+    let f = t .before .before in
     let d = f .before in
     let q = d .before .before in
     let s = start q in
-    let k = half-kind (s .args .kind) (sym (t .takes-hdr .ensures) ∙ c .before .before .before .if2 .taken) in
+    let z = same t in
     λ e. flat-told (s .args .fp) (s .args .kind) (blockNumber (s .args .block)) (s .args .s .header) _ (s .pre .1 .1 .1 .0) (s .pre .1 .0 .0)
     (q .before .before .before .points-of .ensures) (q .before .before .lines-of .ensures) (q .before .is-small .ensures) (q .second-component .ensures)
-    (flat (d .before)) (s .pre .1 .1 .1 .1 (flat (d .before))) (d .partition-seeds .ensures .0) (f .frame-of .ensures) (rw (← k) at (c .paint-half .ensures e))
+    (flat (d .before)) (s .pre .1 .1 .1 .1 (flat (d .before))) (d .partition-seeds .ensures .0) (f .frame-of .ensures)
+    (c .paint-points .ensures _ _ (rw (f .frame-of .ensures) (point-told _ _ _ _ _ _ (s .args .fp) _ (flat (d .before)) (z .0) (rw (f .frame-of .ensures) at (z .1 .0)) (rw (f .frame-of .ensures) at (z .1 .1)))) e)
 
 returns-3 : tie.Need-returns-3
 unfolding weightAt
@@ -86,7 +101,10 @@ paint-coded-spec =
     (λ c κs. search needs)
     (λ c κs. search needs)
     (λ c κs. search needs)
-    paint-half-requires
+    (λ c. search needs)
+    (λ c. search needs)
+    mul-count
+    paint-points-requires
     paint-requires
     returns-2
     returns-3)

@@ -49,6 +49,11 @@ module _ (kind : Kind) (g : WeightGrid) (component : ℕ) (points : List LevelPa
   texelIn seeds partitions f x y =
       texelAt (pick (eqb partitions 1) 0 (selectBy seeds x y)) (gridPlace (f .across) x (g .width)) (gridPlace (f .down) y (g .height))
 
+-- the texel of partition 0 at the weights of point t
+unfoldable pub pointTexel : Kind → ℕ → List LevelPair → List (List ℕ) → ℕ → Texel
+pointTexel kind component points lines t =
+    texelOn kind (getD lines 0 []) (firstLevel (getD points t noPoint)) (secondLevel (getD points t noPoint)) component
+
 -- the levels of each point are bytes
 abbrev pub ByteLevels : List LevelPair → Type 0
 ByteLevels points = (k : ℕ) → Bytes (getD points k noPoint)

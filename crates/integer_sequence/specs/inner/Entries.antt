@@ -1,19 +1,23 @@
--- The entries of the constant tables: a code's digits packed in one number.
+-- What the tables of the codes hold, and a group's numbers as one number: a byte for each.
 -- Assumes nothing.
-use Prim.Native.Nat.{ℕ, _*_}
+use Prim.Native.Nat.{ℕ, _+_, _*_}
 use Rattle.bits.specs.Field.{stream}
 use Rattle.encoding.specs.Encoding.{groupSize}
 use Rattle.encoding.specs.declared.Encoding.{Encoding}
-use Rattle.encoding.specs.declared.Encoding.the-variants.{Bits, Trits, Quints}
 use Rattle.integer_sequence.specs.Codes.{digit}
+use Rattle.integer_sequence.specs.Reading.{number}
 
--- the bits that hold a digit in the constant tables of the code
-abbrev pub digitWidth : Encoding → ℕ
-digitWidth Bits = 0
-digitWidth Trits = 2
-digitWidth Quints = 3
-
--- all digits of a code as one number, digit k at bit k * digitWidth: an entry of the constant tables
+-- all digits of a code, digit k in byte k
 unfoldable pub digitsEntry : Encoding → ℕ → ℕ
 unfolding stream digit
-digitsEntry e t = stream (λ k. digitWidth e * k) (digit e t) (groupSize e)
+digitsEntry e t = stream (λ k. 8 * k) (digit e t) (groupSize e)
+
+-- those of four codes between each other, each `step` bits above the one before
+unfoldable pub fourEntries : Encoding → ℕ → ℕ → ℕ
+unfolding stream digitsEntry
+fourEntries e step i = stream (λ j. step * j) (λ j. digitsEntry e (4 * i + j)) 4
+
+-- the numbers of the first group of g, number k in byte k
+unfoldable pub groupNumbers : Encoding → ℕ → ℕ → ℕ
+unfolding stream number
+groupNumbers e b g = stream (λ k. 8 * k) (number e b g) (groupSize e)

@@ -13,8 +13,8 @@ cast-w c = omega (arith, c .range-bits .ensures, range-small (c .before .args .r
 part-requires : tie.Need-part-requires
 part-requires c κs = search needs
 
-numbers-at-requires : tie.Need-numbers-at-requires
-numbers-at-requires c κs = search needs
+numbers-from-requires : tie.Need-numbers-from-requires
+numbers-from-requires c κs = search needs
 
 levels-in-requires : tie.Need-levels-in-requires
 levels-in-requires c κs = search needs
@@ -24,7 +24,7 @@ returns c =
     let q = c .before .before in
     let s = q .before .before in
     let a = s .args in
-    levels-read (a .range) _ (a .start) (a .count) (s .pre .1) (cut-out (a .range) (a .n) _ (a .from) (q .before .range-bits .ensures) (q .part .ensures)) (c .before .numbers-at .ensures) (c .levels-in .ensures)
+    levels-read (a .range) _ (a .start) (a .count) (cut-out (a .range) (a .n) _ (a .from) (q .before .range-bits .ensures) (q .part .ensures)) (c .before .numbers-from .ensures) (c .levels-in .ensures)
 
 pub own-levels-spec : {M : Type 1} → statement M
 own-levels-spec =
@@ -33,6 +33,6 @@ own-levels-spec =
     range-bits-requires
     cast-w
     part-requires
-    numbers-at-requires
+    numbers-from-requires
     levels-in-requires
     returns)

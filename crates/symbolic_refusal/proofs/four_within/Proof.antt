@@ -1,60 +1,17 @@
-use mathlib.Core.Path.{_≡_, refl}
-use Prim.Native.Nat.{_-_, _≤_}
-use native.Mathlib.Numerals.{add-one}
-use lib.ListN.{getD}
+use native.Mathlib.Omega.{arith}
+use lib.Dec.{ltb}
+use borrow.Author.Tests.{le-leb}
+use Rattle.laws.specs.Choice.{pick}
 use Rattle.symbolic_block.specs.Refusals.{within}
 use borrow.Author.Needs.{needs}
-use native.Mathlib.Omega.{arith}
 use Rattle.symbolic_refusal.proofs.four_within.Statement.{statement}
 use Rattle.symbolic_refusal.proofs.four_within.Tie as tie
 
-abbrev Inv-loop : tie.InvT-loop
-Inv-loop n most xs ok₀ i₀ ok i = (i ≤ 4) × (ok ≡ within i n most (λ k. getD xs k 0))
-
-abbrev μ-loop : tie.MeasureT-loop
-μ-loop n most xs ok₀ i₀ ok i = 4 - i
-
-loop-holds : tie.Need-loop-holds Inv-loop μ-loop
+-- 0 is within any limit
+returns : tie.Need-returns
 unfolding within
-loop-holds c = (omega arith, refl)
-
-mul-both : tie.Need-mul-both Inv-loop μ-loop
-mul-both c = omega arith
-
-array-read-both : tie.Need-array-read-both Inv-loop μ-loop
-array-read-both c = omega arith
-
-most-by-requires : tie.Need-most-by-requires Inv-loop μ-loop
-most-by-requires c κs = search needs
-
-both-requires : tie.Need-both-requires Inv-loop μ-loop
-both-requires c κs = search needs
-
-add-i : tie.Need-add-i Inv-loop μ-loop
-add-i c = omega arith
-
-loop-less : tie.Need-loop-less Inv-loop μ-loop
-loop-less c = omega arith
-
-loop-again : tie.Need-loop-again Inv-loop μ-loop
-unfolding within
-loop-again c = (omega arith, rw (c .both .ensures, c .before .most-by .ensures, c .before .before .before .loop .inv .1, add-one))
-
-returns : tie.Need-returns Inv-loop μ-loop
-returns c = let z : c .before .loop .i ≡ 4 = omega arith in rw z at (c .before .loop .inv .1)
+returns c = let a = c .before .args in
+    rw (le-leb 0 (pick (ltb 5 (a .n)) (a .most) 0) (omega arith), le-leb 0 (pick (ltb 4 (a .n)) (a .most) 0) (omega arith)) at (c .six-within .ensures)
 
 pub four-within-spec : {M : Type 1} → statement M
-four-within-spec =
-    tie.close
-    (tie.spec
-    Inv-loop
-    μ-loop
-    loop-holds
-    mul-both
-    array-read-both
-    most-by-requires
-    both-requires
-    add-i
-    loop-less
-    loop-again
-    returns)
+four-within-spec = tie.close (tie.spec (λ c. search needs) (λ c. search needs) (λ c. search needs) (λ c. search needs) (λ c κs. search needs) returns)

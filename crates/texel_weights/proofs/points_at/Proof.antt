@@ -1,11 +1,11 @@
-use mathlib.Core.Path.{refl}
+use mathlib.Core.Path.{refl, sym}
 use Prim.Native.Nat.{_+_}
-use native.Mathlib.Nat.{add-mul}
+use native.Mathlib.Nat.{add-mul, zero-mul, mul-le-mul-right}
 use native.Mathlib.Omega.{arith}
 use Rattle.bits.specs.Block.{blockNumber}
 use Rattle.quantization.specs.Unquantise.{unquantWeight}
 use Rattle.block_levels.proofs.Levels.{points-le}
-use Rattle.texel_weights.proofs.Read.{small, points-told}
+use Rattle.texel_weights.proofs.Read.{small, point-in}
 use borrow.Author.Needs.{needs}
 use Rattle.texel_weights.proofs.points_at.Statement.{statement}
 use Rattle.texel_weights.proofs.points_at.Tie as tie
@@ -17,37 +17,37 @@ cast-each : tie.Need-cast-each
 cast-each c = search needs
 
 mul-first : tie.Need-mul-first
-mul-first c = let s = c .before .before in let a = s .args in let m = points-le (a .h .grid) (s .pre .0 .0) (s .pre .0 .1) in omega (arith, s .pre .1, m, small (a .n) (a .h .grid .planes) (omega (arith, s .pre .1, m)) (s .pre .0 .0 .planes-most))
+mul-first c = let s = c .before .before in let a = s .args in let m = points-le (a .h .grid) (s .pre .0 .0) (s .pre .0 .1) in omega (arith, s .pre .1 .0, m, small (a .n) (a .h .grid .planes) (omega (arith, s .pre .1 .0, m)) (s .pre .0 .0 .planes-most))
 
 cast-first : tie.Need-cast-first
-cast-first c = let s = c .before .before in let a = s .args in let m = points-le (a .h .grid) (s .pre .0 .0) (s .pre .0 .1) in omega (arith, s .pre .1, m, small (a .n) (a .h .grid .planes) (omega (arith, s .pre .1, m)) (s .pre .0 .0 .planes-most))
+cast-first c = let s = c .before .before in let a = s .args in let m = points-le (a .h .grid) (s .pre .0 .0) (s .pre .0 .1) in omega (arith, s .pre .1 .0, m, small (a .n) (a .h .grid .planes) (omega (arith, s .pre .1 .0, m)) (s .pre .0 .0 .planes-most))
 
 mul-across : tie.Need-mul-across
-mul-across c = let s = c .before .before in let a = s .args in let m = points-le (a .h .grid) (s .pre .0 .0) (s .pre .0 .1) in omega (arith, s .pre .1, m, small (a .right) (a .h .grid .planes) (omega (arith, s .pre .1, m)) (s .pre .0 .0 .planes-most))
+mul-across c = let s = c .before .before in let a = s .args in let m = points-le (a .h .grid) (s .pre .0 .0) (s .pre .0 .1) in omega (arith, s .pre .1 .0, m, small (a .right) (a .h .grid .planes) (omega (arith, s .pre .1 .0, m)) (s .pre .0 .0 .planes-most))
 
 cast-across : tie.Need-cast-across
-cast-across c = let s = c .before .before in let a = s .args in let m = points-le (a .h .grid) (s .pre .0 .0) (s .pre .0 .1) in omega (arith, s .pre .1, m, small (a .right) (a .h .grid .planes) (omega (arith, s .pre .1, m)) (s .pre .0 .0 .planes-most))
+cast-across c = let s = c .before .before in let a = s .args in let m = points-le (a .h .grid) (s .pre .0 .0) (s .pre .0 .1) in omega (arith, s .pre .1 .0, m, small (a .right) (a .h .grid .planes) (omega (arith, s .pre .1 .0, m)) (s .pre .0 .0 .planes-most))
 
 mul-down : tie.Need-mul-down
-mul-down c = let s = c .before .before in let a = s .args in let m = points-le (a .h .grid) (s .pre .0 .0) (s .pre .0 .1) in omega (arith, s .pre .1, m, small (a .below) (a .h .grid .planes) (omega (arith, s .pre .1, m)) (s .pre .0 .0 .planes-most))
+mul-down c = let s = c .before .before in let a = s .args in let m = points-le (a .h .grid) (s .pre .0 .0) (s .pre .0 .1) in omega (arith, s .pre .1 .0, m, small (a .below) (a .h .grid .planes) (omega (arith, s .pre .1 .0, m)) (s .pre .0 .0 .planes-most))
 
 cast-down : tie.Need-cast-down
-cast-down c = let s = c .before .before in let a = s .args in let m = points-le (a .h .grid) (s .pre .0 .0) (s .pre .0 .1) in omega (arith, s .pre .1, m, small (a .below) (a .h .grid .planes) (omega (arith, s .pre .1, m)) (s .pre .0 .0 .planes-most))
+cast-down c = let s = c .before .before in let a = s .args in let m = points-le (a .h .grid) (s .pre .0 .0) (s .pre .0 .1) in omega (arith, s .pre .1 .0, m, small (a .below) (a .h .grid .planes) (omega (arith, s .pre .1 .0, m)) (s .pre .0 .0 .planes-most))
 
-cast-numbers-at : tie.Need-cast-numbers-at
-cast-numbers-at c = search needs
+cast-rows-from : tie.Need-cast-rows-from
+cast-rows-from c = search needs
 
-mul-numbers-at : tie.Need-mul-numbers-at
-mul-numbers-at c = search needs
+mul-rows-from : tie.Need-mul-rows-from
+mul-rows-from c = search needs
 
-numbers-at-requires : tie.Need-numbers-at-requires
-numbers-at-requires c κs =
+rows-from-requires : tie.Need-rows-from-requires
+rows-from-requires c κs =
     let s = c .before .before in
     let a = s .args in
     let l = s .pre .0 .0 in
     let m = points-le (a .h .grid) l (s .pre .0 .1) in
     let p = a .h .grid .planes in
-    (omega (arith, small (a .n + a .below + a .right) p (omega (arith, s .pre .1, m)) (l .planes-most), add-mul (a .n) (a .below) p, add-mul (a .n + a .below) (a .right) p), omega (arith, l .planes-most))
+    (omega (arith, small (a .n + a .below) p (omega (arith, s .pre .1 .0, m)) (l .planes-most), add-mul (a .n) (a .below) p), omega (arith, l .planes-most))
 
 weight-words-requires : tie.Need-weight-words-requires
 weight-words-requires c κs = search needs
@@ -56,13 +56,13 @@ point-of-requires : tie.Need-point-of-requires
 point-of-requires c κs = search needs
 
 point-of-requires-2 : tie.Need-point-of-requires-2
-point-of-requires-2 c κs = search needs
+point-of-requires-2 c κs = let s = c .before .before .before .before .before .before .before in omega (arith, mul-le-mul-right (s .args .h .grid .planes) (s .pre .1 .1), s .pre .0 .0 .planes-most)
 
 point-of-requires-3 : tie.Need-point-of-requires-3
 point-of-requires-3 c κs = search needs
 
 point-of-requires-4 : tie.Need-point-of-requires-4
-point-of-requires-4 c κs = search needs
+point-of-requires-4 c κs = let s = c .before .before .before .before .before .before .before .before .before .before .before in omega (arith, mul-le-mul-right (s .args .h .grid .planes) (s .pre .1 .1), s .pre .0 .0 .planes-most)
 
 returns : tie.Need-returns
 returns c =
@@ -72,11 +72,16 @@ returns c =
     let w = p00 .before .before in
     let s = w .before .before .before .before in
     let a = s .args in
+    let p = a .h .grid .planes in
     let f = unquantWeight (a .h .grid .range) in
-    points-told (blockNumber (a .block)) (a .h) (s .pre .0 .0) (s .pre .0 .1) (a .n) (a .right) (a .below) _ (w .before .numbers-at .result)
-    (w .before .before .weight-sequence .ensures) (w .before .numbers-at .ensures) (s .pre .1)
-    (p00 .point-of .ensures f (w .weight-words .ensures)) (p01 .point-of2 .ensures f (w .weight-words .ensures))
-    (p10 .point-of3 .ensures f (w .weight-words .ensures)) (c .point-of4 .ensures f (w .weight-words .ensures))
+    let upper = point-in (blockNumber (a .block)) (a .h) (s .pre .0 .0) (s .pre .0 .1) (a .n) _ _ (w .before .rows-from .result .upper) refl (w .before .before .weight-sequence .ensures) (w .before .rows-from .ensures .0) in
+    let lower = point-in (blockNumber (a .block)) (a .h) (s .pre .0 .0) (s .pre .0 .1) (a .n + a .below) _ _ (w .before .rows-from .result .lower) (sym (add-mul (a .n) (a .below) p)) (w .before .before .weight-sequence .ensures) (w .before .rows-from .ensures .1) in
+    rw (
+      upper 0 (a .n) 0 _ (omega arith) (omega arith) (sym (zero-mul p)) (omega (arith, s .pre .1 .0)) (p00 .point-of .ensures f (w .weight-words .ensures)),
+      upper (a .right) (a .n + a .right) _ _ (s .pre .1 .1) refl refl (omega (arith, s .pre .1 .0)) (p01 .point-of2 .ensures f (w .weight-words .ensures)),
+      lower 0 (a .n + a .below) 0 _ (omega arith) (omega arith) (sym (zero-mul p)) (omega (arith, s .pre .1 .0)) (p10 .point-of3 .ensures f (w .weight-words .ensures)),
+      lower (a .right) (a .n + a .below + a .right) _ _ (s .pre .1 .1) refl refl (s .pre .1 .0) (c .point-of4 .ensures f (w .weight-words .ensures)),
+    )
 
 pub points-at-spec : {M : Type 1} → statement M
 points-at-spec =
@@ -90,9 +95,9 @@ points-at-spec =
     cast-across
     mul-down
     cast-down
-    cast-numbers-at
-    mul-numbers-at
-    numbers-at-requires
+    cast-rows-from
+    mul-rows-from
+    rows-from-requires
     weight-words-requires
     point-of-requires
     point-of-requires-2

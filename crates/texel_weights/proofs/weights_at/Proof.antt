@@ -8,7 +8,7 @@ use Rattle.weight_grid.specs.inner.Points.{stepOf}
 use Rattle.weight_grid.proofs.Reading.{read-lt}
 use Rattle.block_levels.proofs.Levels.{points-le}
 use Rattle.texel_weights.specs.inner.Points.{pointsAt}
-use Rattle.texel_weights.proofs.Read.{read-told, bytes-told}
+use Rattle.texel_weights.proofs.Read.{step-one, read-told, bytes-told}
 use borrow.Author.Needs.{needs}
 use Rattle.texel_weights.proofs.weights_at.Statement.{statement}
 use Rattle.texel_weights.proofs.weights_at.Tie as tie
@@ -46,7 +46,7 @@ step-requires-2 : tie.Need-step-requires-2
 step-requires-2 c κs = search needs
 
 points-at-requires : tie.Need-points-at-requires
-points-at-requires c κs = let s = c .before .before .before in (s .pre .0, omega (arith, reach s, c .before .step .ensures, c .step2 .ensures))
+points-at-requires c κs = let s = c .before .before .before in (s .pre .0, (omega (arith, reach s, c .before .step .ensures, c .step2 .ensures), rw (c .before .step .ensures) (step-one (s .args .gs) (s .args .h .grid .width))))
 
 array-copy-out-infill-both : tie.Need-array-copy-out-infill-both
 array-copy-out-infill-both c = search needs

@@ -4,7 +4,7 @@ use native.Mathlib.Omega.{arith}
 use Rattle.bits.specs.Block.{blockNumber}
 use Rattle.encoding.specs.declared.Encoding.the-variants.{Bits}
 use Rattle.encoding.specs.Encoding.{sequenceBits}
-use Rattle.integer_sequence.proofs.Groups.{digit-fits, number-bits}
+use Rattle.integer_sequence.proofs.Groups.{number-bits}
 use Rattle.integer_sequence.proofs.Turns.{Turn, turn-first, turn-number, put, turn-next, turn-last}
 use borrow.Author.Needs.{needs}
 use Rattle.integer_sequence.proofs.reading.read_bits.Statement.{statement}
@@ -25,8 +25,8 @@ loop-holds c = (omega arith, turn-first Bits _ _ _ (c .no-numbers .ensures) refl
 word-at-requires : tie.Need-word-at-requires Inv-loop μ-loop
 word-at-requires c κs = search needs
 
-number-of-requires : tie.Need-number-of-requires Inv-loop μ-loop
-number-of-requires c κs = (omega arith, omega arith, digit-fits 0 0 _ (omega arith) (omega arith))
+cut-requires : tie.Need-cut-requires Inv-loop μ-loop
+cut-requires c κs = (omega arith, omega arith)
 
 array-set-from-out : tie.Need-array-set-from-out Inv-loop μ-loop
 array-set-from-out c = omega arith
@@ -44,7 +44,7 @@ loop-again : tie.Need-loop-again Inv-loop μ-loop
 unfolding sequenceBits
 loop-again c =
     let t = c .before .before .before .before .loop .inv .1 in
-    (omega arith, turn-next Bits _ _ _ t (omega arith) (put Bits _ _ _ (omega arith) (t .done) (number-bits _ _ (c .before .number-of .ensures) ∙ turn-number Bits _ _ _ (omega arith) (c .before .before .word-at .ensures) t 0 (omega arith) (omega arith)) refl (omega arith) refl) (c .later .ensures))
+    (omega arith, turn-next Bits _ _ _ t (omega arith) (put Bits _ _ _ (omega arith) (t .done) (number-bits _ _ (c .before .cut .ensures .0) ∙ turn-number Bits _ _ _ (omega arith) (c .before .before .word-at .ensures) t 0 (omega arith) (omega arith)) refl (omega arith) refl) (c .later .ensures))
 
 returns : tie.Need-returns Inv-loop μ-loop
 returns c = turn-last Bits _ _ _ (omega arith) (c .before .loop .inv .1)
@@ -58,7 +58,8 @@ read-bits-spec =
     no-numbers-requires
     loop-holds
     word-at-requires
-    number-of-requires
+    cut-requires
+    (λ c. omega arith)
     array-set-from-out
     later-requires
     add-i

@@ -1,102 +1,28 @@
+use mathlib.Core.Path.{refl}
 use Rattle.integer_sequence.proofs.Groups.{trit-code}
 use borrow.Author.Needs.{needs}
 use Rattle.integer_sequence.proofs.reading.trit_code.Statement.{statement}
 use Rattle.integer_sequence.proofs.reading.trit_code.Tie as tie
 
-cut-requires : tie.Need-cut-requires
-cut-requires c κs = search needs
-
-mul-cut : tie.Need-mul-cut
-mul-cut c = search needs
-
-add-cut : tie.Need-add-cut
-add-cut c = search needs
-
-cut-requires-2 : tie.Need-cut-requires-2
-cut-requires-2 c κs = search needs
-
-mul-result : tie.Need-mul-result
-mul-result c = search needs
-
-add-result : tie.Need-add-result
-add-result c = search needs
-
-mul-cut-2 : tie.Need-mul-cut-2
-mul-cut-2 c = search needs
-
-add-cut-2 : tie.Need-add-cut-2
-add-cut-2 c = search needs
-
-cut-requires-3 : tie.Need-cut-requires-3
-cut-requires-3 c κs = search needs
-
-mul-result-2 : tie.Need-mul-result-2
-mul-result-2 c = search needs
-
-add-result-2 : tie.Need-add-result-2
-add-result-2 c = search needs
-
-mul-cut-3 : tie.Need-mul-cut-3
-mul-cut-3 c = search needs
-
-add-cut-3 : tie.Need-add-cut-3
-add-cut-3 c = search needs
-
-cut-requires-4 : tie.Need-cut-requires-4
-cut-requires-4 c κs = search needs
-
-mul-result-3 : tie.Need-mul-result-3
-mul-result-3 c = search needs
-
-add-result-3 : tie.Need-add-result-3
-add-result-3 c = search needs
-
-mul-cut-4 : tie.Need-mul-cut-4
-mul-cut-4 c = search needs
-
-add-cut-4 : tie.Need-add-cut-4
-add-cut-4 c = search needs
-
-cut-requires-5 : tie.Need-cut-requires-5
-cut-requires-5 c κs = search needs
-
-mul-result-4 : tie.Need-mul-result-4
-mul-result-4 c = search needs
-
-add-result-4 : tie.Need-add-result-4
-add-result-4 c = search needs
-
-cast-result : tie.Need-cast-result
-cast-result c = search needs
-
 returns : tie.Need-returns
-returns c =
-    trit-code _ _ (c .before .before .before .before .cut .ensures .0) (c .before .before .before .cut2 .ensures .0) (c .before .before .cut3 .ensures .0) (c .before .cut4 .ensures .0) (c .cut5 .ensures .0)
+returns c = trit-code (c .args .b) (c .args .g) refl refl refl refl refl
 
 pub trit-code-spec : {M : Type 1} → statement M
 trit-code-spec =
     tie.close
     (tie.spec
-    cut-requires
-    mul-cut
-    add-cut
-    cut-requires-2
-    mul-result
-    add-result
-    mul-cut-2
-    add-cut-2
-    cut-requires-3
-    mul-result-2
-    add-result-2
-    mul-cut-3
-    add-cut-3
-    cut-requires-4
-    mul-result-3
-    add-result-3
-    mul-cut-4
-    add-cut-4
-    cut-requires-5
-    mul-result-4
-    add-result-4
-    cast-result
+    (λ c. search needs)
+    (λ c. search needs)
+    (λ c. search needs)
+    (λ c. search needs)
+    (λ c. search needs)
+    (λ c. search needs)
+    (λ c. search needs)
+    (λ c. search needs)
+    (λ c. search needs)
+    (λ c. search needs)
+    (λ c. search needs)
+    (λ c. search needs)
+    (λ c. search needs)
+    (λ c. search needs)
     returns)

@@ -1,0 +1,40 @@
+-- A block that shows one texel everywhere, row by row, as if it were copied from a buffer.
+-- Assumes nothing.
+use mathlib.Core.Path.{_≡_, sym, _∙_}
+use mathlib.Core.List.{List}
+use Prim.Native.Nat.{ℕ, _+_, _*_, _≤_, _<_}
+use native.Mathlib.Omega.{arith}
+use lib.ListN.{length, getD}
+use Rattle.laws.proofs.Filling.{length-tab, replaced-here}
+use Rattle.footprint.specs.Footprint.{widthOf, texelsOf}
+use Rattle.footprint.proofs.Laws.{texels-le}
+use Rattle.interpolation.specs.declared.Kind.{Kind}
+use Rattle.interpolation.specs.declared.Texel.{Texel}
+use Rattle.block_buffer.specs.Painted.{numberIn, painted}
+use Rattle.block_reading.specs.declared.Reading.{Reading}
+use Rattle.block_reading.specs.Shown.{channelIn, intoIn}
+use Rattle.block_reading.proofs.Shows.{held}
+use Rattle.picture_regions.proofs.Regions.{Pasted}
+use Rattle.image_layout.specs.declared.ImageGrid.{ImageGrid}
+use Rattle.image_layout.specs.declared.Part.{Part}
+use Rattle.image_layout.specs.declared.Run.{Run}
+use Rattle.image_layout.proofs.Parts.{Fits, RunOf, RunFits, PlacedRows, placed-row}
+use Rattle.texel_fill.specs.Everywhere.{everywhere}
+use Rattle.texel_fill.proofs.Filling.{number-at, from-any}
+
+-- a row more
+pub row-filled : (show : ℕ → ℕ) (t : Texel) (g : ImageGrid) (p : Part) (dy : ℕ) (r : Run) (m : ℕ) (old l new : List ℕ) → Fits g p → RunOf g p dy r → RunFits r 864 m
+    → PlacedRows show g p dy (everywhere t) old l → Pasted show (everywhere t) 0 (4 * p .columns) l (r .at) new → PlacedRows show g p (dy + 1) (everywhere t) old new
+row-filled show t g p dy r m old l new f o s pl q =
+    placed-row show g p dy r (everywhere t) old l new f o pl (from-any show t (r .from) (r .n) l (r .at) new (omega (arith, o .from)) (s .in-source) (rw (← o .n) at q))
+
+-- the numbers of such a block are the texel's
+pub uniform-held : (reading : Reading) (fp : ℕ) (kind : Kind) (B : ℕ) (t : Texel) → ((l : List ℕ) → intoIn reading fp kind B l ≡ painted (widthOf fp) (λ x y. t) (texelsOf fp) l)
+    → (k : ℕ) → k < 4 * texelsOf fp → getD (everywhere t) k 0 ≡ channelIn reading fp kind B k
+unfolding everywhere painted numberIn
+uniform-held reading fp kind B t into k h =
+    let n : length (everywhere t) ≡ 864 = length-tab _ 864 in
+    let f : k < 864 = omega (arith, h, texels-le fp) in
+    number-at t k f
+    ∙ sym (replaced-here 0 (numberIn (widthOf fp) (λ x y. t)) (4 * texelsOf fp) (everywhere t) k h (omega (arith, f, n)))
+    ∙ held reading fp kind B (everywhere t) (painted (widthOf fp) (λ x y. t) (texelsOf fp) (everywhere t)) n (sym (into (everywhere t))) .holds k h

@@ -1,0 +1,64 @@
+// One texel over a run of a picture: what a row of a block shows that has one colour, or a fault. Two texels at a time.
+use interpolation::Texel;
+ghost use mathlib.Core.Path.{_≡_};
+ghost use Prim.Native.Nat.{_+_, _*_, _/_, _≤_};
+ghost use lib.ListN.{length};
+ghost use Rattle.laws.specs.Table.{putFour};
+ghost use Rattle.interpolation.specs.declared.Kind.the-variants.{Unorm16, Srgb8};
+ghost use Rattle.interpolation.specs.Expansion.{shownOf};
+ghost use Rattle.picture_regions.proofs.Regions.{Pasted};
+ghost use Rattle.texel_fill.specs.Everywhere.{everywhere};
+
+// A texel's numbers at place i.
+fn put_numbers(out: &mut [u16], i: usize, t: Texel)
+    requires { ⌜ i + 4 ≤ length (now out) ⌝ }
+    ensures { λ _. ⌜ now (out .exit) ≡ putFour (now (out .entry)) i (t .r) (t .g) (t .b) (t .a) ⌝ }
+{
+    out[i] = t.r;
+    out[i + 1] = t.g;
+    out[i + 2] = t.b;
+    out[i + 3] = t.a;
+}
+
+// So many times from place `at` on.
+pub fn fill_numbers(t: Texel, at: usize, n: usize, out: &mut [u16])
+    requires { ⌜ (n ≤ 216) × (at + 4 * n ≤ length (now out)) ⌝ }
+    ensures { λ _. ⌜ Pasted (shownOf Unorm16) (everywhere t) 0 (4 * n) (now (out .entry)) at (now (out .exit)) ⌝ }
+{
+    let mut i: usize = 0;
+    while i + 1 < n {
+        put_numbers(out, at + 4 * i, t);
+        put_numbers(out, at + 4 * (i + 1), t);
+        i += 2;
+    }
+    if i < n {
+        put_numbers(out, at + 4 * i, t);
+    }
+}
+
+// A texel's bytes at place i, the top bytes of its numbers.
+fn put_bytes(out: &mut [u8], i: usize, t: Texel)
+    requires { ⌜ i + 4 ≤ length (now out) ⌝ }
+    ensures { λ _. ⌜ now (out .exit) ≡ putFour (now (out .entry)) i (t .r / 256) (t .g / 256) (t .b / 256) (t .a / 256) ⌝ }
+{
+    out[i] = interpolation::top_byte(t.r);
+    out[i + 1] = interpolation::top_byte(t.g);
+    out[i + 2] = interpolation::top_byte(t.b);
+    out[i + 3] = interpolation::top_byte(t.a);
+}
+
+// The same in bytes.
+pub fn fill_bytes(t: Texel, at: usize, n: usize, out: &mut [u8])
+    requires { ⌜ (n ≤ 216) × (at + 4 * n ≤ length (now out)) ⌝ }
+    ensures { λ _. ⌜ Pasted (shownOf Srgb8) (everywhere t) 0 (4 * n) (now (out .entry)) at (now (out .exit)) ⌝ }
+{
+    let mut i: usize = 0;
+    while i + 1 < n {
+        put_bytes(out, at + 4 * i, t);
+        put_bytes(out, at + 4 * (i + 1), t);
+        i += 2;
+    }
+    if i < n {
+        put_bytes(out, at + 4 * i, t);
+    }
+}
