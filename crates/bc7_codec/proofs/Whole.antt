@@ -22,7 +22,7 @@ use Rattle.bc7_block.specs.Fields.{valueIn}
 use Rattle.bc7_block.specs.Refusals.{unknownMode, fitsAt, someMisfit, refusals, refusalOf}
 use Rattle.bc7_block.specs.Writing.{blockOf}
 use Rattle.bc7_block.proofs.Fits.{Fitting, fitting}
-use Rattle.bc7_codec.specs.Numbers.{numberIn}
+use Rattle.bc7_codec.specs.Numbers.{sheetNumber}
 use Rattle.bc7_codec.specs.inner.Pieces.{FieldsFit}
 
 -- the fields of a block in its own mode and partition
@@ -81,6 +81,6 @@ module _ (s : Bc7Block) where
   refused-field h e = rw (le-ltb 7 (s .mode) h, e)
 
 -- past the mode, a sheet's numbers are its fields
-pub numbered : (s : Bc7Block) (k : ℕ) → (k ≡ 0 → ⊥) → valueIn s k ≡ numberIn s k
-unfolding numberIn
+pub numbered : (s : Bc7Block) (k : ℕ) → (k ≡ 0 → ⊥) → valueIn s k ≡ sheetNumber s k
+unfolding sheetNumber
 numbered s k h = ap (λ (b : Bool). pick b (s .mode) (valueIn s k)) (sym (ne-eqb k 0 h))

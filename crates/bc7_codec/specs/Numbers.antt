@@ -7,6 +7,6 @@ use Rattle.bc7_block.specs.declared.Bc7Block.{Bc7Block}
 use Rattle.bc7_block.specs.Fields.{valueIn}
 
 -- the mode, then the fields in the block's order
-unfoldable pub numberIn : Bc7Block → ℕ → ℕ
+unfoldable pub sheetNumber : Bc7Block → ℕ → ℕ
 unfolding valueIn
-numberIn s k = pick (eqb k 0) (s .mode) (valueIn s k)
+sheetNumber s k = pick (eqb k 0) (s .mode) (valueIn s k)

@@ -18,7 +18,7 @@ ghost use Rattle.bc7_block.specs.Fields.{valueIn};
 ghost use Rattle.bc7_block.specs.Refusals.{refusalOf};
 ghost use Rattle.bc7_block.specs.Reading.{bc7Block};
 ghost use Rattle.bc7_block.specs.Writing.{blockOf};
-ghost use Rattle.bc7_codec.specs.Numbers.{numberIn};
+ghost use Rattle.bc7_codec.specs.Numbers.{sheetNumber};
 ghost use Rattle.bc7_codec.specs.inner.Pieces.{FieldsFit};
 
 // The plan of partition p of a mode.
@@ -124,7 +124,7 @@ fn mark_of(m: u8) -> u8
 // Number k of a sheet as a list of sixty: its mode, then its fields in the block's order.
 pub fn number_in(s: Bc7Block, k: usize) -> u8
     requires { ⌜ k < 60 ⌝ }
-    ensures { λ r. ⌜ r ≡ numberIn s k ⌝ }
+    ensures { λ r. ⌜ r ≡ sheetNumber s k ⌝ }
 {
     if k == 0 {
         return s.mode;

@@ -12,7 +12,7 @@ use lib.ListN.{getD}
 use borrow.Author.Tests.{eqb-true, eqb-false, eq-eqb, ne-eqb}
 use Rattle.laws.specs.Choice.{pick}
 use Rattle.bc7_block.specs.Picture.{mixed, rotated, endOf, mixedAt}
-use Rattle.bc7_ends.specs.inner.Lanes.{lanes, packed, colourLane, alphaLane, threeOf, lineOf, Line255, sumOn, laneByte}
+use Rattle.bc7_ends.specs.inner.Lanes.{lanes, byLane, colourLane, alphaLane, threeOf, lineOf, Line255, sumOn, laneByte}
 
 -- ---- lanes
 
@@ -44,7 +44,7 @@ lane : (f g a b x y : ℕ) → ℕ
 lane f g a b x y = a * (64 - f) + b * f + (x * (64 - g) + y * g) + 32
 
 sum-lanes : (f g : ℕ) (a b x y : ℕ → ℕ)
-    → packed a * (64 - f) + packed b * f + (packed x * (64 - g) + packed y * g) + 9007336695791648 ≡ packed (λ c. lane f g (a c) (b c) (x c) (y c))
+    → byLane a * (64 - f) + byLane b * f + (byLane x * (64 - g) + byLane y * g) + 9007336695791648 ≡ byLane (λ c. lane f g (a c) (b c) (x c) (y c))
 unfolding lane
 sum-lanes f g a b x y =
     ap (λ (n : ℕ). n + 9007336695791648)
@@ -142,7 +142,7 @@ module _ (m : ℕ) (v : ℕ → ℕ) (j f g : ℕ) where
       lane-one (eqb k 3) f g (endOf m v j 0 k) (endOf m v j 1 k) (endOf m v j 0 3) (endOf m v j 1 3)
       ∙ ap₂ (sum (pick (eqb k 3) g f)) (alpha-here 0 k) (alpha-here 1 k)
 
-  line-sum : sumOn (lineOf m v j) f g ≡ packed channel
+  line-sum : sumOn (lineOf m v j) f g ≡ byLane channel
   unfolding sumOn lineOf
   line-sum =
       sum-lanes f g (colourLane (v 2) (endOf m v j 0)) (colourLane (v 2) (endOf m v j 1)) (alphaLane (v 2) (endOf m v j 0 3)) (alphaLane (v 2) (endOf m v j 1 3))
@@ -176,36 +176,36 @@ module _ (m : ℕ) (v : ℕ → ℕ) (j f g : ℕ) where
 -- ---- the lanes of a rotation, from three colours and alpha
 
 module _ (r x y z : ℕ) where
-  pub lanes-still : r ≡ 0 → lanes x y z 0 ≡ packed (colourLane r (threeOf x y z))
+  pub lanes-still : r ≡ 0 → lanes x y z 0 ≡ byLane (colourLane r (threeOf x y z))
   unfolding colourLane rotated threeOf
   lanes-still e = rw e
 
-  pub lanes-red : r ≡ 1 → lanes 0 y z x ≡ packed (colourLane r (threeOf x y z))
+  pub lanes-red : r ≡ 1 → lanes 0 y z x ≡ byLane (colourLane r (threeOf x y z))
   unfolding colourLane rotated threeOf
   lanes-red e = rw e
 
-  pub lanes-green : r ≡ 2 → lanes x 0 z y ≡ packed (colourLane r (threeOf x y z))
+  pub lanes-green : r ≡ 2 → lanes x 0 z y ≡ byLane (colourLane r (threeOf x y z))
   unfolding colourLane rotated threeOf
   lanes-green e = rw e
 
-  pub lanes-blue : r ≡ 3 → lanes x y 0 z ≡ packed (colourLane r (threeOf x y z))
+  pub lanes-blue : r ≡ 3 → lanes x y 0 z ≡ byLane (colourLane r (threeOf x y z))
   unfolding colourLane rotated threeOf
   lanes-blue e = rw e
 
 module _ (r a : ℕ) where
-  pub alpha-still : r ≡ 0 → lanes 0 0 0 a ≡ packed (alphaLane r a)
+  pub alpha-still : r ≡ 0 → lanes 0 0 0 a ≡ byLane (alphaLane r a)
   unfolding alphaLane rotated
   alpha-still e = rw e
 
-  pub alpha-red : r ≡ 1 → lanes a 0 0 0 ≡ packed (alphaLane r a)
+  pub alpha-red : r ≡ 1 → lanes a 0 0 0 ≡ byLane (alphaLane r a)
   unfolding alphaLane rotated
   alpha-red e = rw e
 
-  pub alpha-green : r ≡ 2 → lanes 0 a 0 0 ≡ packed (alphaLane r a)
+  pub alpha-green : r ≡ 2 → lanes 0 a 0 0 ≡ byLane (alphaLane r a)
   unfolding alphaLane rotated
   alpha-green e = rw e
 
-  pub alpha-blue : r ≡ 3 → lanes 0 0 a 0 ≡ packed (alphaLane r a)
+  pub alpha-blue : r ≡ 3 → lanes 0 0 a 0 ≡ byLane (alphaLane r a)
   unfolding alphaLane rotated
   alpha-blue e = rw e
 
@@ -222,7 +222,7 @@ lane-are : (t : Bool) (k : ℕ) (f g : ℕ → ℕ) → eqb k 3 ≡ t → k < 4 
 lane-are true k f g e l h = refl
 lane-are false k f g e l h = h k (let z = eqb-false k 3 e in omega (arith, z))
 
-pub colours-are : (r x y z : ℕ) (g : ℕ → ℕ) → ((c : ℕ) → c < 4 → rotated r c < 4) → x ≡ g 0 → y ≡ g 1 → z ≡ g 2 → packed (colourLane r (threeOf x y z)) ≡ packed (colourLane r g)
+pub colours-are : (r x y z : ℕ) (g : ℕ → ℕ) → ((c : ℕ) → c < 4 → rotated r c < 4) → x ≡ g 0 → y ≡ g 1 → z ≡ g 2 → byLane (colourLane r (threeOf x y z)) ≡ byLane (colourLane r g)
 unfolding colourLane
 colours-are r x y z g turn ex ey ez =
     let one : (c : ℕ) → c < 4 → colourLane r (threeOf x y z) c ≡ colourLane r g c =
@@ -230,17 +230,17 @@ colours-are r x y z g turn ex ey ez =
     λ t. lanes (one 0 (omega arith) t) (one 1 (omega arith) t) (one 2 (omega arith) t) (one 3 (omega arith) t)
 
 -- the ends of subset j, given one by one; end x is end x % 2 of subset x / 2
-pub line-is : (m : ℕ) (v : ℕ → ℕ) (r j a b c d x y : ℕ) → r ≡ v 2 → a ≡ packed (colourLane r (endOf m v (2 * j / 2) (2 * j % 2)))
-    → b ≡ packed (colourLane r (endOf m v ((2 * j + 1) / 2) ((2 * j + 1) % 2))) → x ≡ endOf m v (2 * j / 2) (2 * j % 2) 3 → c ≡ packed (alphaLane r x)
-    → y ≡ endOf m v ((2 * j + 1) / 2) ((2 * j + 1) % 2) 3 → d ≡ packed (alphaLane r y) → _≡_ {A = List ℕ} (a ∷ b ∷ c ∷ d ∷ []) (lineOf m v j)
+pub line-is : (m : ℕ) (v : ℕ → ℕ) (r j a b c d x y : ℕ) → r ≡ v 2 → a ≡ byLane (colourLane r (endOf m v (2 * j / 2) (2 * j % 2)))
+    → b ≡ byLane (colourLane r (endOf m v ((2 * j + 1) / 2) ((2 * j + 1) % 2))) → x ≡ endOf m v (2 * j / 2) (2 * j % 2) 3 → c ≡ byLane (alphaLane r x)
+    → y ≡ endOf m v ((2 * j + 1) / 2) ((2 * j + 1) % 2) 3 → d ≡ byLane (alphaLane r y) → _≡_ {A = List ℕ} (a ∷ b ∷ c ∷ d ∷ []) (lineOf m v j)
 unfolding lineOf
 line-is m v r j a b c d x y er ea eb ex ec ey ed =
     let j0 : 2 * j / 2 ≡ j = omega arith in
     let e0 : 2 * j % 2 ≡ 0 = omega arith in
     let j1 : (2 * j + 1) / 2 ≡ j = omega arith in
     let e1 : (2 * j + 1) % 2 ≡ 1 = omega arith in
-    let qa : a ≡ packed (colourLane (v 2) (endOf m v j 0)) = ea ∙ (λ t. packed (colourLane (er t) (endOf m v (j0 t) (e0 t)))) in
-    let qb : b ≡ packed (colourLane (v 2) (endOf m v j 1)) = eb ∙ (λ t. packed (colourLane (er t) (endOf m v (j1 t) (e1 t)))) in
-    let qc : c ≡ packed (alphaLane (v 2) (endOf m v j 0 3)) = ec ∙ (λ t. packed (alphaLane (er t) ((ex ∙ (λ s. endOf m v (j0 s) (e0 s) 3)) t))) in
-    let qd : d ≡ packed (alphaLane (v 2) (endOf m v j 1 3)) = ed ∙ (λ t. packed (alphaLane (er t) ((ey ∙ (λ s. endOf m v (j1 s) (e1 s) 3)) t))) in
+    let qa : a ≡ byLane (colourLane (v 2) (endOf m v j 0)) = ea ∙ (λ t. byLane (colourLane (er t) (endOf m v (j0 t) (e0 t)))) in
+    let qb : b ≡ byLane (colourLane (v 2) (endOf m v j 1)) = eb ∙ (λ t. byLane (colourLane (er t) (endOf m v (j1 t) (e1 t)))) in
+    let qc : c ≡ byLane (alphaLane (v 2) (endOf m v j 0 3)) = ec ∙ (λ t. byLane (alphaLane (er t) ((ex ∙ (λ s. endOf m v (j0 s) (e0 s) 3)) t))) in
+    let qd : d ≡ byLane (alphaLane (v 2) (endOf m v j 1 3)) = ed ∙ (λ t. byLane (alphaLane (er t) ((ey ∙ (λ s. endOf m v (j1 s) (e1 s) 3)) t))) in
     λ t. qa t ∷ qb t ∷ qc t ∷ qd t ∷ []

@@ -1,4 +1,4 @@
-// A BC7 block's settings, read once for each block, and its ends, expanded once and packed so that one product mixes four channels.
+// A BC7 block's settings, read once for each block, and its ends, expanded once and byLane so that one product mixes four channels.
 use bc7_layout::Mode;
 use bits::PhysicalBlock;
 ghost use mathlib.Core.Path.{_≡_};
@@ -13,7 +13,7 @@ ghost use Rattle.bc7_layout.specs.Modes.{modeRow, subsets, colourBits};
 ghost use Rattle.bc7_layout.specs.Layout.{placeOf, modeAt, fieldAt};
 ghost use Rattle.bc7_block.specs.Picture.{asByte, storedEnd, pBitOf, hasPBit, widenedEnd, endOf};
 ghost use Rattle.bc7_ends.specs.inner.Frame.{Framed, channelBits};
-ghost use Rattle.bc7_ends.specs.inner.Lanes.{lanes, packed, colourLane, alphaLane, threeOf, lineOf};
+ghost use Rattle.bc7_ends.specs.inner.Lanes.{lanes, byLane, colourLane, alphaLane, threeOf, lineOf};
 
 // What a block's mode and partition fix: the mode's row and the partition's plan, where endpoints, P bits and indices begin, and the bits that one
 // colour of all ends takes.
@@ -200,7 +200,7 @@ fn pack(a: u64, b: u64, c: u64, d: u64) -> u64
 // Three colours in the lanes that rotation r leaves them.
 fn colour_lanes(r: u8, x: u64, y: u64, z: u64) -> u64
     requires { ⌜ (r < 4) × (x ≤ 255) × (y ≤ 255) × (z ≤ 255) ⌝ }
-    ensures { λ s. ⌜ (s ≡ packed (colourLane r (threeOf x y z))) × (s ≤ 71777214294589695) ⌝ }
+    ensures { λ s. ⌜ (s ≡ byLane (colourLane r (threeOf x y z))) × (s ≤ 71777214294589695) ⌝ }
 {
     if r == 0 {
         return pack(x, y, z, 0);
@@ -217,7 +217,7 @@ fn colour_lanes(r: u8, x: u64, y: u64, z: u64) -> u64
 // Alpha in the lane where rotation r takes it.
 fn alpha_lanes(r: u8, a: u64) -> u64
     requires { ⌜ (r < 4) × (a ≤ 255) ⌝ }
-    ensures { λ s. ⌜ (s ≡ packed (alphaLane r a)) × (s ≤ 71777214294589695) ⌝ }
+    ensures { λ s. ⌜ (s ≡ byLane (alphaLane r a)) × (s ≤ 71777214294589695) ⌝ }
 {
     if r == 0 {
         return pack(0, 0, 0, a);
@@ -234,7 +234,7 @@ fn alpha_lanes(r: u8, a: u64) -> u64
 // The colours of end x.
 fn end_colours(b: PhysicalBlock, f: Frame, r: u8, x: u32) -> u64
     requires { ⌜ Framed (blockNumber b) f × (x < 2 * subsets (modeAt (blockNumber b))) × (r < 4) ⌝ }
-    ensures { λ s. ⌜ (s ≡ packed (colourLane r (endOf (modeAt (blockNumber b)) (fieldAt (blockNumber b)) (x / 2) (x % 2)))) × (s ≤ 71777214294589695) ⌝ }
+    ensures { λ s. ⌜ (s ≡ byLane (colourLane r (endOf (modeAt (blockNumber b)) (fieldAt (blockNumber b)) (x / 2) (x % 2)))) × (s ≤ 71777214294589695) ⌝ }
 {
     let red = colour_of(b, f, x, 0);
     let green = colour_of(b, f, x, 1);

@@ -12,7 +12,7 @@ use Rattle.image_layout.specs.declared.ImageAnswer.{ImageAnswer}
 use Rattle.image_layout.specs.declared.ImageAnswer.the-variants.{Refused, Decoded}
 use Rattle.image_layout.specs.declared.CheckedImage.the-variants.{Rejected, Accepted}
 use Rattle.image_layout.specs.declared.Tally.{Tally}
-use Rattle.image_layout.specs.Geometry.{gridOf}
+use Rattle.image_layout.specs.Geometry.{imageGrid}
 use Rattle.image_layout.specs.Faulty.{tallyOf}
 use Rattle.image_layout.specs.Call.{imageRefusal, checkedOf, toldOf}
 use Rattle.image_layout.proofs.Calls.{rejected, accepted}
@@ -37,12 +37,12 @@ module _ (w h : ℕ) (s old : List ℕ) where
   -- an accepted one
   pub decoded : (g : ImageGrid) (t : Tally) (new : List ℕ) → checkedOf 0 w h (length s) (length old) ≡ Accepted g
       → t ≡ tallyOf (bc7FaultAt s) (g .down * g .across) → new ≡ bc7Numbers (g .width) (g .height) s → Promised (Decoded t) new
-  unfolding bc7Answer bc7Told bc7Out bc7Tally gridOf blocksOf
+  unfolding bc7Answer bc7Told bc7Out bc7Tally imageGrid blocksOf
   decoded g t new q e n =
       let p = accepted 0 w h (length s) (length old) g q in
       let t′ : t ≡ bc7Tally w h s = rw (p .layout) at e in
       rw (p .none) (ap Decoded t′, (ap (λ (t : Tally). toldOf (Decoded t)) t′, rw (p .layout) at n))
 
 pub grid-0 : (w h bytes places : ℕ) (g : ImageGrid) → checkedOf 0 w h bytes places ≡ Accepted g → g .footprint ≡ 0
-unfolding gridOf
+unfolding imageGrid
 grid-0 w h bytes places g q = ap (λ (g : ImageGrid). g .footprint) (accepted 0 w h bytes places g q .layout)

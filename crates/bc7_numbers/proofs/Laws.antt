@@ -15,7 +15,7 @@ use Rattle.block_answer.specs.declared.Answer.the-variants.{Refused, Done}
 use Rattle.bc7_block.specs.declared.Bc7Block.{Bc7Block}
 use Rattle.bc7_block.specs.Refusals.{refusalOf}
 use Rattle.bc7_block.specs.Reading.{bc7Block}
-use Rattle.bc7_codec.specs.Numbers.{numberIn}
+use Rattle.bc7_codec.specs.Numbers.{sheetNumber}
 use Rattle.bc7_calls.specs.declared.Reading.{Reading}
 use Rattle.bc7_calls.specs.declared.Writing.{Writing}
 use Rattle.bc7_calls.specs.Calls.{readingOf, refusedWith, writingOf}
@@ -31,7 +31,7 @@ module _ (s old : List ℕ) where
 
     pub list-kept : old ≡ readNumbers s old
     unfolding readNumbers
-    list-kept = ap (λ (b : Bool). pick b (tab (numberIn (readingOf s .block)) 60) old) (sym (ne-eqb (length old) 60 h))
+    list-kept = ap (λ (b : Bool). pick b (tab (sheetNumber (readingOf s .block)) 60) old) (sym (ne-eqb (length old) 60 h))
 
   module _ (h : length old ≡ 60) (r : Reading) (e : r ≡ readingOf s) where
     pub read-told : numberTold (r .answer) ≡ readNumber s (length old)
@@ -40,11 +40,11 @@ module _ (s old : List ℕ) where
         ap (λ (x : Reading). numberTold (x .answer)) e
         ∙ ap (λ (b : Bool). pick b (numberTold (readingOf s .answer)) (pick (eqb (length s) 16) 5 4)) (sym (eq-eqb (length old) 60 h))
 
-    pub list-read : tab (numberIn (r .block)) 60 ≡ readNumbers s old
+    pub list-read : tab (sheetNumber (r .block)) 60 ≡ readNumbers s old
     unfolding readNumbers
     list-read =
-        ap (λ (x : Reading). tab (numberIn (x .block)) 60) e
-        ∙ ap (λ (b : Bool). pick b (tab (numberIn (readingOf s .block)) 60) old) (sym (eq-eqb (length old) 60 h))
+        ap (λ (x : Reading). tab (sheetNumber (x .block)) 60) e
+        ∙ ap (λ (b : Bool). pick b (tab (sheetNumber (readingOf s .block)) 60) old) (sym (eq-eqb (length old) 60 h))
 
 -- ---- the writer
 

@@ -9,7 +9,7 @@ use Rattle.laws.specs.Table.{tab}
 use Rattle.block_answer.specs.Told.{numberTold}
 use Rattle.bc7_block.specs.declared.Bc7Block.{Bc7Block}
 use Rattle.bc7_block.specs.Reading.{bc7Block}
-use Rattle.bc7_codec.specs.Numbers.{numberIn}
+use Rattle.bc7_codec.specs.Numbers.{sheetNumber}
 use Rattle.bc7_calls.specs.Calls.{readingOf, writingOf}
 
 -- ---- the reader
@@ -21,8 +21,8 @@ readNumber s n = pick (eqb n 60) (numberTold (readingOf s .answer)) (pick (eqb (
 
 -- the list after the call: the sheet, zeros with 4 and 71; what it held where it is not of sixty
 unfoldable pub readNumbers : List ℕ → List ℕ → List ℕ
-unfolding readingOf numberIn tab
-readNumbers s old = pick (eqb (length old) 60) (tab (numberIn (readingOf s .block)) 60) old
+unfolding readingOf sheetNumber tab
+readNumbers s old = pick (eqb (length old) 60) (tab (sheetNumber (readingOf s .block)) 60) old
 
 -- ---- the writer
 

@@ -5,12 +5,12 @@ ghost use lib.Dec.{eqb};
 ghost use lib.ListN.{length, getD};
 ghost use Rattle.laws.specs.Choice.{pick};
 ghost use Rattle.laws.specs.Table.{tab};
-ghost use Rattle.bc7_codec.specs.Numbers.{numberIn};
+ghost use Rattle.bc7_codec.specs.Numbers.{sheetNumber};
 ghost use Rattle.bc7_numbers.specs.Calls.{readNumber, readNumbers, writeNumber, writeBlock};
 
 fn put(s: Bc7Block, numbers: &mut [u8])
     requires { ⌜ length (now numbers) ≡ 60 ⌝ }
-    ensures { λ _. ⌜ now (numbers .exit) ≡ tab (numberIn s) 60 ⌝ }
+    ensures { λ _. ⌜ now (numbers .exit) ≡ tab (sheetNumber s) 60 ⌝ }
 {
     let mut k: usize = 0;
     while k < 60 {

@@ -11,18 +11,18 @@ use lib.ListN.{length, getD}
 use Rattle.laws.specs.Table.{putFour}
 use Rattle.laws.proofs.Filling.{Replacing, replacing-start, replacing-four, replacing-done, replaced-ext}
 use Rattle.interpolation.specs.declared.Texel.{Texel}
-use Rattle.block_buffer.specs.Painted.{fourOf, numberIn, painted}
+use Rattle.block_buffer.specs.Painted.{fourOf, texelNumber, painted}
 
 -- the buffer `old` with the first n numbers of texels given by their place: the invariant of painting
 abbrev pub Laid : ℕ → (ℕ → ℕ → Texel) → List ℕ → List ℕ → ℕ → Type 0
-Laid width texel old l n = Replacing (numberIn width texel) 0 old l n
+Laid width texel old l n = Replacing (texelNumber width texel) 0 old l n
 
 quarter : (t c : ℕ) → c < 4 → ((4 * t + c) / 4 ≡ t) × ((4 * t + c) % 4 ≡ c)
 quarter t c h = (omega arith, omega arith)
 
 -- number c of texel t
-number-of : (width t c : ℕ) (texel : ℕ → ℕ → Texel) → c < 4 → getD (fourOf (texel (t % width) (t / width))) c 0 ≡ numberIn width texel (4 * t + c)
-unfolding numberIn
+number-of : (width t c : ℕ) (texel : ℕ → ℕ → Texel) → c < 4 → getD (fourOf (texel (t % width) (t / width))) c 0 ≡ texelNumber width texel (4 * t + c)
+unfolding texelNumber
 number-of width t c texel h = rw (quarter t c h .0, quarter t c h .1)
 
 -- one texel more
@@ -31,7 +31,7 @@ pub laid-more : (width : ℕ) (texel : ℕ → ℕ → Texel) (old l : List ℕ)
 laid-more width texel old l t {u} s h e w =
     let z : 4 * t + 4 ≡ 4 * (t + 1) = omega arith in
     let y : 4 * t ≡ 4 * t + 0 = omega arith in
-    let f = numberIn width texel in
+    let f = texelNumber width texel in
     subst (Replacing f 0 old (putFour l (4 * t) (u .r) (u .g) (u .b) (u .a))) z
     (replacing-four f 0 old l (4 * t) (u .r) (u .g) (u .b) (u .a) (omega (arith, s)) w
     (ap (λ (v : Texel). getD (fourOf v) 0 0) e ∙ number-of width t 0 texel (omega arith) ∙ ap f (sym y))
@@ -59,12 +59,12 @@ pub row-end : (width x y : ℕ) → x ≡ width → 4 * (y * width + x) ≡ 4 * 
 row-end width x y e = omega (arith, add-mul y 1 width)
 
 pub laid-none : (width : ℕ) (texel : ℕ → ℕ → Texel) (old : List ℕ) {n : ℕ} → n ≡ 0 → Laid width texel old old n
-laid-none width texel old e = laid-as width texel old old (sym e) (replacing-start (numberIn width texel) 0 old)
+laid-none width texel old e = laid-as width texel old old (sym e) (replacing-start (texelNumber width texel) 0 old)
 
 -- all that is asked for
 pub laid-done : (width : ℕ) (texel : ℕ → ℕ → Texel) (old l : List ℕ) (n : ℕ) {k : ℕ} → k ≡ 4 * n → Laid width texel old l k → l ≡ painted width texel n old
 unfolding painted
-laid-done width texel old l n e w = replacing-done (numberIn width texel) 0 old l (4 * n) (laid-as width texel old l e w)
+laid-done width texel old l n e w = replacing-done (texelNumber width texel) 0 old l (4 * n) (laid-as width texel old l e w)
 
 -- a place of a row lies in the buffer
 pub place-fits : (width rows x y : ℕ) → rows * width ≤ 216 → x < width → y < rows → 4 * (y * width + x) + 4 ≤ 864
@@ -83,7 +83,7 @@ one-of a b h = elim (decLt 0 a) [
 
 pub painted-ext : (width rows : ℕ) (s t : ℕ → ℕ → Texel) (old : List ℕ) → ((x y : ℕ) → x < width → y < rows → s x y ≡ t x y)
     → painted width s (width * rows) old ≡ painted width t (width * rows) old
-unfolding painted numberIn
+unfolding painted texelNumber
 painted-ext width rows s t old e = replaced-ext 0 _ _ (4 * (width * rows)) old (λ k h.
     let q : k / 4 < width * rows = omega (arith, h) in
     let p : 0 < width = one-of width rows q in

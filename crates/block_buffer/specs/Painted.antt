@@ -11,9 +11,9 @@ abbrev pub fourOf : Texel → List ℕ
 fourOf t = t .r ∷ t .g ∷ t .b ∷ t .a ∷ []
 
 -- number k of texels given by their column and row: number k % 4 of texel k / 4, rows first
-unfoldable pub numberIn : ℕ → (ℕ → ℕ → Texel) → ℕ → ℕ
-numberIn width texel k = getD (fourOf (texel (k / 4 % width) (k / 4 / width))) (k % 4) 0
+unfoldable pub texelNumber : ℕ → (ℕ → ℕ → Texel) → ℕ → ℕ
+texelNumber width texel k = getD (fourOf (texel (k / 4 % width) (k / 4 / width))) (k % 4) 0
 
 -- the buffer `old` with the numbers of the first n texels in front
 unfoldable pub painted : ℕ → (ℕ → ℕ → Texel) → ℕ → List ℕ → List ℕ
-painted width texel n old = replaced 0 (numberIn width texel) (4 * n) old
+painted width texel n old = replaced 0 (texelNumber width texel) (4 * n) old

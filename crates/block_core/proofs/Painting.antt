@@ -28,7 +28,7 @@ use Rattle.interpolation.specs.declared.Texel.{Texel}
 use Rattle.interpolation.specs.declared.Kind.{Kind}
 use Rattle.half_line.specs.inner.Line.{texelOn}
 use Rattle.block_core.specs.declared.Frame.{Frame}
-use Rattle.block_core.specs.inner.Prepared.{frameOf, texelAt, texelIn, pointTexel}
+use Rattle.block_core.specs.inner.Prepared.{frameOf, texelOnGrid, texelIn, pointTexel}
 use Rattle.block_buffer.proofs.Painting.{one-of}
 use Rattle.block_core.proofs.Frames.{on-column, on-row}
 
@@ -49,7 +49,7 @@ pub told : (kind : Kind) (g : WeightGrid) (component : ℕ) (points : List Level
     → secondLevel both ≡ blendOf (gs % 16) (gt % 16) (secondLevel (getD points n noPoint)) (secondLevel (getD points (n + right) noPoint))
     (secondLevel (getD points (n + below) noPoint)) (secondLevel (getD points (n + below + right) noPoint))
     → t ≡ texelOn kind (getD lines p []) (firstLevel both) (secondLevel both) component → t ≡ texelIn kind g component points lines seeds partitions f x y
-unfolding texelIn texelAt readOf
+unfolding texelIn texelOnGrid readOf
 told kind g component points lines seeds partitions f x y both h ew ep es et en er eb e1 e2 el =
     rw (el, e1, e2, er, eb, en, es, et, ep ∙ which-told seeds partitions y x ew h)
 
@@ -67,7 +67,7 @@ read-point plane points width height x y =
 pub point-told : (kind : Kind) (g : WeightGrid) (component : ℕ) (points : List LevelPair) (lines : List (List ℕ)) (seeds : Seeds) (fp partitions : ℕ)
     → isVolume fp ≡ false → partitions ≡ 1 → g .width ≡ widthOf fp → g .height ≡ heightOf fp → (t : ℕ) → t < heightOf fp * widthOf fp
     → pointTexel kind component points lines t ≡ texelIn kind g component points lines seeds partitions (frameOf fp) (t % widthOf fp) (t / widthOf fp)
-unfolding texelIn texelAt pointTexel frameOf
+unfolding texelIn texelOnGrid pointTexel frameOf
 point-told kind g component points lines seeds fp partitions flat one ew eh t h =
     let w = widthOf fp in
     let k : t < w * heightOf fp = omega (arith, h, mul-comm w (heightOf fp)) in

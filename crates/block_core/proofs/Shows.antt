@@ -54,7 +54,7 @@ use Rattle.half_line.specs.inner.Line.{halfLineOf, halfTexelOn, texelOn}
 use Rattle.half_line.proofs.Line.{half-line}
 use Rattle.block_levels.specs.inner.Lines.{linesBy, linesIn}
 use Rattle.interpolation.proofs.Lines.{line-texel}
-use Rattle.block_header.specs.declared.Header.{Header}
+use Rattle.block_header.specs.declared.BlockHeader.{BlockHeader}
 use Rattle.block_header.specs.Counts.{weightCount, endpointRangeOf}
 use Rattle.block_mode.specs.declared.BlockMode.{BlockMode}
 use Rattle.block_mode.specs.declared.BlockMode.the-variants.{VoidExtent, Reserved, Grid}
@@ -71,15 +71,15 @@ use Rattle.block_fault.proofs.Verdicts.{settings-verdict, told-fault, coded-lim
 use Rattle.texel.specs.Meaning.{endpointLevels, weightLevels, planeWeight, secondWeight, secondComponent, partitionTexel, mixedTexel, texelFrom, solidTexel, errorTexel, channel}
 use Rattle.texel.specs.BlockTexel.{soundTexel, blockTexel, inRow, blockChannel, blockInto}
 use Rattle.block_core.specs.declared.Frame.{Frame}
-use Rattle.block_core.specs.inner.Prepared.{frameOf, volumeFrameOf, texelAt, texelIn, ByteLevels}
-use Rattle.block_buffer.specs.Painted.{numberIn, painted}
+use Rattle.block_core.specs.inner.Prepared.{frameOf, volumeFrameOf, texelOnGrid, texelIn, ByteLevels}
+use Rattle.block_buffer.specs.Painted.{texelNumber, painted}
 use Rattle.block_buffer.proofs.Painting.{painted-ext, one-of}
 use Rattle.block_core.specs.inner.Held.{Held}
 use Rattle.block_core.proofs.Frames.{texels-by-layers, inside, in-volume}
 use Rattle.block_levels.proofs.Levels.{layer-le}
 
 -- the line of a texel's partition
-pub which-is : (h : Header) (small : Bool) (x y : ℕ)
+pub which-is : (h : BlockHeader) (small : Bool) (x y : ℕ)
     → pick (eqb (h .partitions) 1) 0 (selectBy (seedsOf (h .index) (h .partitions) small) x y) ≡ partitionOf (h .index) (h .partitions) small x y 0
 which-is h small x y = row-is (h .index) (h .partitions) small x y 0 _ (agrees (h .index) (h .partitions) small x y)
 
@@ -109,15 +109,15 @@ no-second Unorm16 modes count ends p first second third = refl
 no-second Srgb8 modes count ends p first second third = refl
 no-second Float16 modes count ends p first second third = refl
 
-module _ (h : Header) (stored : ℕ → ℕ) where
+module _ (h : BlockHeader) (stored : ℕ → ℕ) where
   abbrev weights : List Level
   weights = weightLevels (h .grid .range) stored
 
   abbrev points : List LevelPair
   points = pointsOf weights (h .grid .planes) (h .grid .width * h .grid .height * h .grid .depth)
 
-  most : (k : ℕ) → cell.weightAt weights k ≤ 64
-  unfolding weightLevels cell.weightAt
+  most : (k : ℕ) → cell.levelIn weights k ≤ 64
+  unfolding weightLevels cell.levelIn
   most k = tab-all (λ x. x .0 ≤ 64) (λ i. level (unquantWeight (h .grid .range) (stored i))) (level 0) (λ i. weight-le (h .grid .range) (stored i)) (omega arith) 64 k
 
   -- the two levels of a point are bytes
@@ -130,7 +130,7 @@ module _ (h : Header) (stored : ℕ → ℕ) where
     two : (a b : ℕ) → a ≤ 64 → b ≤ 64 → pairs.Bytes (levelPair a b)
     two a b p q = record { first = omega arith; second = omega arith }
 
-    second : (i : ℕ) (t : Bool) → pick t (cell.weightAt weights (i * h .grid .planes + 1)) 0 ≤ 64
+    second : (i : ℕ) (t : Bool) → pick t (cell.levelIn weights (i * h .grid .planes + 1)) 0 ≤ 64
     second i true = most (i * h .grid .planes + 1)
     second i false = omega arith
 
@@ -142,7 +142,7 @@ module _ (h : Header) (stored : ℕ → ℕ) where
 
 -- ---- a texel from its weights
 
-module _ (fp : ℕ) (kind : Kind) (h : Header) (ends : List Level) (stored : ℕ → ℕ) (x y z : ℕ) where
+module _ (fp : ℕ) (kind : Kind) (h : BlockHeader) (ends : List Level) (stored : ℕ → ℕ) (x y z : ℕ) where
   abbrev which : ℕ
   which = partitionOf (h .index) (h .partitions) (isSmall fp) x y z
 
@@ -168,13 +168,13 @@ module _ (fp : ℕ) (kind : Kind) (h : Header) (ends : List Level) (stored : ℕ
         ∙ second-told (eqb (h .grid .planes) 2) refl
 
     -- and by its partition's line
-    by-line : ((k : ℕ) → modes.level ends k ≤ 255) → first ≤ 64 → second ≤ 64
+    by-line : ((k : ℕ) → modes.levelAt ends k ≤ 255) → first ≤ 64 → second ≤ 64
         → texelOn kind (getD (linesIn kind h ends) which []) first second (secondComponent fp kind h ends (weights h stored) x y z) ≡ mixedTexel fp kind h ends (weights h stored) x y z
     by-line bytes f s =
         let four = partition-lt-4 (h .index) (h .partitions) (isSmall fp) x y z in
         on-kind (h .modes) (h .partitions) ends which four (table-bytes (h .modes) (h .partitions) ends bytes which noPair four) first second _ f s kind ∙ by-pair
 
-module _ (fp : ℕ) (kind : Kind) (h : Header) (ends : List Level) (stored : ℕ → ℕ) (l : Limits (h .grid)) (n : weightCount (h .grid) ≤ 64) where
+module _ (fp : ℕ) (kind : Kind) (h : BlockHeader) (ends : List Level) (stored : ℕ → ℕ) (l : Limits (h .grid)) (n : weightCount (h .grid) ≤ 64) where
   -- ---- of a flat block
 
   module _ (flat : isVolume fp ≡ false) (one : h .grid .depth ≡ 1) (x y : ℕ) (hx : x < widthOf fp) (hy : y < heightOf fp) where
@@ -223,10 +223,10 @@ module _ (fp : ℕ) (kind : Kind) (h : Header) (ends : List Level) (stored : ℕ
     flat-pair = by-pair fp kind h ends stored x y 0 first-is second-is
 
     -- what is left to do for a texel gives the texel
-    pub prepared : ((k : ℕ) → modes.level ends k ≤ 255)
+    pub prepared : ((k : ℕ) → modes.levelAt ends k ≤ 255)
         → texelIn kind (h .grid) (secondComponent fp kind h ends (weights h stored) x y 0) (points h stored) (linesIn kind h ends) (seedsOf (h .index) (h .partitions) (isSmall fp)) (h .partitions) (frameOf fp) x y
         ≡ mixedTexel fp kind h ends (weights h stored) x y 0
-    unfolding texelIn texelAt frameOf
+    unfolding texelIn texelOnGrid frameOf
     prepared bytes = rw (which-is h (isSmall fp) x y) (by-line fp kind h ends stored x y 0 first-is second-is bytes first-most last-most)
 
   -- ---- of a volume
@@ -250,7 +250,7 @@ module _ (fp : ℕ) (kind : Kind) (h : Header) (ends : List Level) (stored : ℕ
     unfolding planeWeight
     simplex plane = rw volume
 
-    pub volume-prepared : ((k : ℕ) → modes.level ends k ≤ 255)
+    pub volume-prepared : ((k : ℕ) → modes.levelAt ends k ≤ 255)
         → volumeTexel kind (h .grid .width) (h .grid .height) (h .grid .depth) (secondComponent fp kind h ends (weights h stored) x y z) (points h stored) (linesIn kind h ends)
         (h .index) (h .partitions) (isSmall fp) (volumeFrameOf fp) x y z
         ≡ mixedTexel fp kind h ends (weights h stored) x y z
@@ -276,7 +276,7 @@ one-deep fp e = flat-depth fp (omega (arith, ltb-false 13 fp e))
 
 pub painted-into : (fp : ℕ) (kind : Kind) (B : ℕ) (t : ℕ → ℕ → Texel) (old : List ℕ) {l : List ℕ} → ((x q : ℕ) → t x q ≡ inRow fp (blockTexel fp kind B) x q)
     → l ≡ painted (widthOf fp) t (texelsOf fp) old → l ≡ blockInto fp kind B old
-unfolding painted numberIn blockInto blockChannel channel
+unfolding painted texelNumber blockInto blockChannel channel
 painted-into fp kind B t old e p = p ∙ replaced-ext 0 _ _ (4 * texelsOf fp) old (λ k h. ap (λ (u : Texel). channel u (k % 4)) (e _ _))
 
 -- what a buffer of 864 numbers holds then
@@ -289,11 +289,11 @@ held fp kind B old l s e = record {
 
 -- ---- the steps of a coded block
 
-pub ends-le : (range : ℕ) (f : ℕ → ℕ) (k : ℕ) → modes.level (endpointLevels range f) k ≤ 255
+pub ends-le : (range : ℕ) (f : ℕ → ℕ) (k : ℕ) → modes.levelAt (endpointLevels range f) k ≤ 255
 unfolding endpointLevels
 ends-le range f k = tab-all (λ x. x .0 ≤ 255) (λ i. level (unquantEndpoint range (f i))) (level 0) (λ i. endpoint-le range (f i)) (omega arith) 18 k
 
-module _ (fp : ℕ) (kind : Kind) (B : ℕ) (h : Header) (old : List ℕ) {l : List ℕ} (i : Limits (h .grid)) (n : weightCount (h .grid) ≤ 64)
+module _ (fp : ℕ) (kind : Kind) (B : ℕ) (h : BlockHeader) (old : List ℕ) {l : List ℕ} (i : Limits (h .grid)) (n : weightCount (h .grid) ≤ 64)
     {points : List LevelPair} {lines : List (List ℕ)} {small : Bool} {component : ℕ}
     (el : points ≡ pointsOf (weightLevels (h .grid .range) (weightAt B h)) (h .grid .planes) (h .grid .width * h .grid .height * h .grid .depth))
     (et : lines ≡ linesIn kind h (endpointLevels (endpointRangeOf h) (endpointAt B h)))
@@ -337,7 +337,7 @@ module _ (fp : ℕ) (kind : Kind) (B : ℕ) (x y z : ℕ) where
   unfolding blockTexel soundTexel
   shows-void e v = rw (eq-eqb _ 0 e, v)
 
-  pub shows-coded : faultOf (takesHdr kind) fp B ≡ 0 → isVoid (modeAt fp B) ≡ false → (h : Header) → h ≡ headerAt fp B
+  pub shows-coded : faultOf (takesHdr kind) fp B ≡ 0 → isVoid (modeAt fp B) ≡ false → (h : BlockHeader) → h ≡ headerAt fp B
       → texelFrom fp kind h (endpointAt B h) (weightAt B h) x y z ≡ blockTexel fp kind B x y z
   unfolding blockTexel soundTexel
   shows-coded e v h q = rw (eq-eqb _ 0 e, v, q)

@@ -14,7 +14,7 @@ use Rattle.laws.specs.Table.{padded}
 use Rattle.bits.specs.Field.{field}
 use Rattle.bits.proofs.Fields.{field-lt}
 use Rattle.block_header.specs.Counts.{extraBits, componentBits, indexBits, selectorBits, weightBits}
-use Rattle.block_header.specs.declared.Header.{Header}
+use Rattle.block_header.specs.declared.BlockHeader.{BlockHeader}
 use Rattle.block_mode.specs.declared.WeightGrid.{WeightGrid}
 use Rattle.laws.specs.Reasons.{firstOf}
 use Rattle.footprint.specs.Footprint.{isVolume}
@@ -94,10 +94,10 @@ pub made : (B : ℕ) (g : WeightGrid) (partitions selector : ℕ) {xw cw iw sw w
     → xw ≡ extraBits partitions selector → cw ≡ componentBits (g .planes) → iw ≡ indexBits partitions → sw ≡ selectorBits partitions → ww ≡ weightBits g
     → extra ≡ field B (128 - ww - xw) xw → base ≡ field B (13 + iw + sw) 4 → component ≡ field B (128 - ww - xw - cw) cw → index ≡ field B 13 iw
     → modes ≡ padded 4 partitions (modeOf partitions selector (extra * 16 + base)) 0
-    → _≡_ {A = Header} (record { grid = g; component = component; partitions = partitions; index = index; selector = selector; modes = modes }) (headerWith B g partitions selector)
+    → _≡_ {A = BlockHeader} (record { grid = g; component = component; partitions = partitions; index = index; selector = selector; modes = modes }) (headerWith B g partitions selector)
 unfolding headerWith indexAt baseAt extraAt componentAt
 made B g partitions selector ex ec ei es ew e1 e2 e3 e4 e5 = rw (e5, e1, e2, e3, e4, ew, ex, ec, ei, es)
 
-pub made-grid : (B : ℕ) (g : WeightGrid) (partitions selector : ℕ) {h : Header} → h ≡ headerWith B g partitions selector → h .grid ≡ g
+pub made-grid : (B : ℕ) (g : WeightGrid) (partitions selector : ℕ) {h : BlockHeader} → h ≡ headerWith B g partitions selector → h .grid ≡ g
 unfolding headerWith
-made-grid B g partitions selector e = ap (λ (h : Header). h .grid) e
+made-grid B g partitions selector e = ap (λ (h : BlockHeader). h .grid) e

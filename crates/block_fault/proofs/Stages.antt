@@ -11,7 +11,7 @@ use Rattle.laws.specs.Choice.{pick, both}
 use Rattle.block_mode.specs.declared.WeightGrid.{WeightGrid}
 use Rattle.block_mode.specs.declared.BlockMode.{BlockMode}
 use Rattle.block_mode.specs.declared.BlockMode.the-variants.{VoidExtent, Reserved, Grid}
-use Rattle.block_header.specs.declared.Header.{Header}
+use Rattle.block_header.specs.declared.BlockHeader.{BlockHeader}
 use Rattle.quantization.specs.Ranges.{endpointRange}
 use Rattle.block_header.specs.Counts.{endpointCount, bitsLeft, endpointRangeOf}
 use Rattle.block_header.specs.Reasons.{gridTooLarge, tooManyWeights, weightBitsOutside, fourWithTwoPlanes, tooManyEndpoints, tooFewEndpointBits, someHdr, gridFault, endpointFault, gridReasons, endpointReasons}
@@ -31,7 +31,7 @@ use Rattle.block_fault.specs.inner.Stages.{verdictFrom, voidSettings}
 
 -- ---- what the settings of a coded block carry
 
-pub carried : {h : Header} {n left k : ℕ} → n ≡ endpointCount h → left ≡ bitsLeft h → k ≡ endpointRange n left
+pub carried : {h : BlockHeader} {n left k : ℕ} → n ≡ endpointCount h → left ≡ bitsLeft h → k ≡ endpointRange n left
     → _≡_ {A = Settings} (record { verdict = verdict.Coded; header = h; numbers = n; range = k }) (withHeader verdict.Coded h)
 unfolding endpointRangeOf
 carried en el ek = rw (ek, el, en)
@@ -107,16 +107,16 @@ module _ (hdr : Bool) (fp B : ℕ) (g : WeightGrid) (m : modeAt fp B ≡ Grid g)
         go true e = absurd (omega arith)
         go false e = refl
 
-      pub header-read : {h : Header} → h ≡ headerWith B g p (selectorAt B p) → h ≡ headerAt fp B
+      pub header-read : {h : BlockHeader} → h ≡ headerWith B g p (selectorAt B p) → h ≡ headerAt fp B
       header-read e = e ∙ rw ep (sym header-is)
 
-      pub stop-ends : {h : Header} {k : ℕ} {st : Stage} {v : Verdict} {r : Settings} → h ≡ headerWith B g p (selectorAt B p) → st ≡ stageOf (endpointFault hdr h)
+      pub stop-ends : {h : BlockHeader} {k : ℕ} {st : Stage} {v : Verdict} {r : Settings} → h ≡ headerWith B g p (selectorAt B p) → st ≡ stageOf (endpointFault hdr h)
           → st ≡ Stopped k → v ≡ verdictFrom st → r ≡ bareOf v → r ≡ settingsOf hdr fp B
       stop-ends {h} {k} eh es et ev er =
           let q = stage-stopped (endpointFault hdr h) k (sym es ∙ et) in
           rw (er, ev, et) (settled-fault k (ends-fault ∙ ap (endpointFault hdr) (sym (header-read eh)) ∙ q .0) (λ z. q .1 (q .0 ∙ z)))
 
-      pub pass-ends : {h : Header} {st : Stage} → h ≡ headerWith B g p (selectorAt B p) → st ≡ stageOf (endpointFault hdr h)
+      pub pass-ends : {h : BlockHeader} {st : Stage} → h ≡ headerWith B g p (selectorAt B p) → st ≡ stageOf (endpointFault hdr h)
           → st ≡ Passed → withHeader verdict.Coded h ≡ settingsOf hdr fp B
       pass-ends {h} eh es et =
           rw (header-read eh) (settled-coded (ends-fault ∙ ap (endpointFault hdr) (sym (header-read eh)) ∙ stage-passed (endpointFault hdr h) (sym es ∙ et)))

@@ -14,7 +14,7 @@ use Rattle.block_mode.specs.declared.BlockMode.the-variants.{VoidExtent, Reserv
 use Rattle.block_mode.specs.Back2D.{Limits}
 use Rattle.footprint.specs.Footprint.{isVolume}
 use Rattle.volume_mode.proofs.Modes.{any-limits}
-use Rattle.block_header.specs.declared.Header.{Header}
+use Rattle.block_header.specs.declared.BlockHeader.{BlockHeader}
 use Rattle.block_header.specs.Counts.{weightCount, endpointCount, endpointRangeOf}
 use Rattle.block_header.specs.Reasons.{gridTooLarge, tooManyWeights, weightBitsOutside, fourWithTwoPlanes, tooManyEndpoints, tooFewEndpointBits, someHdr}
 use Rattle.laws.specs.Reasons.{firstOf}
@@ -24,7 +24,7 @@ use Rattle.block_fault.specs.Bits.{modeAt, isVoid, isReserved, gridIn, h
 use Rattle.block_fault.specs.Faults.{modeReasons, faultOf}
 use Rattle.block_fault.specs.Settings.{verdictOf, withHeader, settingsOf}
 
-header-verdict : (v : Verdict) (h : Header) → withHeader v h .verdict ≡ v
+header-verdict : (v : Verdict) (h : BlockHeader) → withHeader v h .verdict ≡ v
 header-verdict verdict.Coded h = refl
 header-verdict verdict.VoidExtent h = refl
 header-verdict (verdict.Fault n) h = refl

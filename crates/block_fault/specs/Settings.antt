@@ -5,7 +5,7 @@ use mathlib.Core.Bool.{Bool}
 use mathlib.Core.List.{[], _∷_}
 use lib.Dec.{eqb}
 use Rattle.laws.specs.Choice.{pick}
-use Rattle.block_header.specs.declared.Header.{Header}
+use Rattle.block_header.specs.declared.BlockHeader.{BlockHeader}
 use Rattle.block_header.specs.Counts.{endpointCount, endpointRangeOf}
 use Rattle.block_fault.specs.declared.Verdict.{Verdict}
 use Rattle.block_fault.specs.declared.Verdict.the-variants.{Coded, VoidExtent, Fault}
@@ -16,7 +16,7 @@ use Rattle.block_fault.specs.Faults.{faultOf}
 unfoldable pub verdictOf : Bool → ℕ → ℕ → Verdict
 verdictOf hdr fp B = pick (eqb (faultOf hdr fp B) 0) (pick (isVoid (modeAt fp B)) VoidExtent Coded) (Fault (faultOf hdr fp B))
 
-abbrev pub zeroHeader : Header
+abbrev pub zeroHeader : BlockHeader
 zeroHeader = record {
   grid = record { width = 0; height = 0; depth = 0; range = 0; planes = 0 };
   component = 0;
@@ -30,7 +30,7 @@ zeroHeader = record {
 abbrev pub bareOf : Verdict → Settings
 bareOf v = record { verdict = v; header = zeroHeader; numbers = 0; range = 0 }
 
-abbrev pub withHeader : Verdict → Header → Settings
+abbrev pub withHeader : Verdict → BlockHeader → Settings
 withHeader Coded h = record { verdict = Coded; header = h; numbers = endpointCount h; range = endpointRangeOf h }
 withHeader VoidExtent h = bareOf VoidExtent
 withHeader (Fault n) h = bareOf (Fault n)

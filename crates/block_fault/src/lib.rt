@@ -1,6 +1,6 @@
 // What a block's bits say: its fault, or its settings, read once.
 use bits::PhysicalBlock;
-use block_header::Header;
+use block_header::BlockHeader;
 use block_header::Stage;
 use block_mode::BlockMode;
 use block_mode::WeightGrid;
@@ -34,7 +34,7 @@ pub enum Verdict {
 // The settings of a coded block without fault, how many endpoint numbers it has and their quantisation range; all 0 for any other.
 pub struct Settings {
     pub verdict: Verdict,
-    pub header: Header,
+    pub header: BlockHeader,
     pub numbers: u8,
     pub range: u8,
 }
@@ -49,7 +49,7 @@ fn bare(verdict: Verdict) -> Settings
         range: 0,
         planes: 0,
     };
-    let header = Header {
+    let header = BlockHeader {
         grid,
         component: 0,
         partitions: 0,
@@ -143,7 +143,7 @@ fn header_with(
     weights: u32,
     partitions: u8,
     selector: u8,
-) -> Header
+) -> BlockHeader
     requires { ⌜ (partitions ≤ 4) × (selector ≤ 3) × (g .planes ≤ 2) × (weights ≡ weightBits g) × (weights ≤ 96) ⌝ }
     ensures { λ r. ⌜ r ≡ headerWith (blockNumber b) g partitions selector ⌝ }
 {
@@ -157,7 +157,7 @@ fn header_with(
     let component = bits::field_at(b, extra_from - component_width, component_width) as u8;
     let index = bits::field_at(b, 13, index_width) as u16;
     let modes = modes_for(partitions, selector, extra * 16 + base);
-    Header {
+    BlockHeader {
         grid: g,
         component,
         partitions,
@@ -189,7 +189,7 @@ fn planes_stage(planes: u8, partitions: u8) -> Stage
 }
 
 // The header of a block whose mode is the grid g.
-fn header_at(b: PhysicalBlock, g: WeightGrid, weights: u32, partitions: u8) -> Header
+fn header_at(b: PhysicalBlock, g: WeightGrid, weights: u32, partitions: u8) -> BlockHeader
     requires { ⌜ (partitions ≤ 4) × (g .planes ≤ 2) × (weights ≡ weightBits g) × (weights ≤ 96) ⌝ }
     ensures { λ r. ⌜ r ≡ headerWith (blockNumber b) g partitions (selectorAt (blockNumber b) partitions) ⌝ }
 {

@@ -17,7 +17,7 @@ use lib.Dec.{ltb}
 use Rattle.laws.specs.Choice.{pick, either}
 use Rattle.footprint.specs.Footprint.{widthOf, heightOf, depthOf}
 use Rattle.block_mode.specs.declared.WeightGrid.{WeightGrid}
-use Rattle.block_header.specs.declared.Header.{Header}
+use Rattle.block_header.specs.declared.BlockHeader.{BlockHeader}
 use Rattle.block_header.specs.Counts.{weightCount, weightBits, endpointCount, bitsLeft}
 use Rattle.color_endpoint.specs.Modes.{isHdr}
 use Rattle.block_header.specs.Reasons.{gridTooLarge, tooManyWeights, weightBitsOutside, tooManyEndpoints, tooFewEndpointBits, someHdr, hdrRefused, gridFault, endpointFault}
@@ -143,7 +143,7 @@ grid-bits fp g e = go (gridTooLarge fp g) (tooManyWeights g) (ltb (weightBits g)
 
 -- ---- 18 to 20, one by one
 
-module _ (hdr : Bool) (h : Header) where
+module _ (hdr : Bool) (h : BlockHeader) where
   pub count-over : 18 < endpointCount h → 18 ≡ endpointFault hdr h
   unfolding endpointFault tooManyEndpoints
   count-over l = rw (lt-ltb _ _ l)
@@ -163,7 +163,7 @@ module _ (hdr : Bool) (h : Header) where
       ends-sound e = rw (le-ltb _ _ n, le-ltb _ _ m, e)
 
 -- a header without fault has at most 18 endpoint numbers
-pub ends-count : (hdr : Bool) (h : Header) → endpointFault hdr h ≡ 0 → endpointCount h ≤ 18
+pub ends-count : (hdr : Bool) (h : BlockHeader) → endpointFault hdr h ≡ 0 → endpointCount h ≤ 18
 unfolding endpointFault tooManyEndpoints
 ends-count hdr h e = go (ltb 18 (endpointCount h)) (tooFewEndpointBits h) (hdrRefused hdr h) refl e where
   go : (a b c : Bool) → ltb 18 (endpointCount h) ≡ a → _≡_ {A = ℕ} (pick a 18 (pick b 19 (pick c 20 0))) 0 → endpointCount h ≤ 18

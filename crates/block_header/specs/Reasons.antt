@@ -10,7 +10,7 @@ use Rattle.laws.specs.Reasons.{Reason, when, firstOf, some}
 use Rattle.footprint.specs.Footprint.{widthOf, heightOf, depthOf}
 use Rattle.color_endpoint.specs.Modes.{isHdr}
 use Rattle.block_mode.specs.declared.WeightGrid.{WeightGrid}
-use Rattle.block_header.specs.declared.Header.{Header}
+use Rattle.block_header.specs.declared.BlockHeader.{BlockHeader}
 use Rattle.block_header.specs.Counts.{weightCount, weightBits, endpointCount, bitsLeft}
 
 -- 14: "weight grid wider or higher than the footprint"; 02, h: for volumes it speaks of three axes. A flat grid and a flat footprint have depth 1
@@ -26,23 +26,23 @@ unfoldable pub weightBitsOutside : WeightGrid → Bool
 weightBitsOutside g = either (ltb (weightBits g) 24) (ltb 96 (weightBits g))
 
 -- 17: "two planes with four partitions"
-unfoldable pub fourWithTwoPlanes : Header → Bool
+unfoldable pub fourWithTwoPlanes : BlockHeader → Bool
 fourWithTwoPlanes h = both (eqb (h .grid .planes) 2) (eqb (h .partitions) 4)
 
 -- 18: "more than 18 endpoint numbers"
-unfoldable pub tooManyEndpoints : Header → Bool
+unfoldable pub tooManyEndpoints : BlockHeader → Bool
 tooManyEndpoints h = ltb 18 (endpointCount h)
 
 -- 19: "endpoint bits below ceil(13C/5), C the endpoint numbers"
-unfoldable pub tooFewEndpointBits : Header → Bool
+unfoldable pub tooFewEndpointBits : BlockHeader → Bool
 tooFewEndpointBits h = ltb (bitsLeft h) ((13 * endpointCount h + 4) / 5)
 
 -- 20: "any partition has mode 2, 3, 7, 11, 14 or 15"
-unfoldable pub someHdr : Header → Bool
+unfoldable pub someHdr : BlockHeader → Bool
 someHdr h = some (λ p. isHdr (getD (h .modes) p 0)) (h .partitions)
 
 -- 20 where HDR is not taken; where it is taken (02, i: "In kind 2 faults 13 and 20 don't exist") there is no such reason
-unfoldable pub hdrRefused : Bool → Header → Bool
+unfoldable pub hdrRefused : Bool → BlockHeader → Bool
 hdrRefused hdr h = both (not hdr) (someHdr h)
 
 -- 14 to 16, which speak of the grid alone
@@ -50,15 +50,15 @@ unfoldable pub gridFault : ℕ → WeightGrid → ℕ
 gridFault fp g = firstOf (when (gridTooLarge fp g) 14 ∷ when (tooManyWeights g) 15 ∷ when (weightBitsOutside g) 16 ∷ [])
 
 -- 18 to 20, HDR taken or not
-unfoldable pub endpointFault : Bool → Header → ℕ
+unfoldable pub endpointFault : Bool → BlockHeader → ℕ
 endpointFault hdr h = firstOf (when (tooManyEndpoints h) 18 ∷ when (tooFewEndpointBits h) 19 ∷ when (hdrRefused hdr h) 20 ∷ [])
 
 -- 14 to 17, in front of others
-abbrev pub gridReasons : ℕ → Header → List Reason → List Reason
+abbrev pub gridReasons : ℕ → BlockHeader → List Reason → List Reason
 gridReasons fp h rest =
     when (gridTooLarge fp (h .grid)) 14 ∷ when (tooManyWeights (h .grid)) 15 ∷ when (weightBitsOutside (h .grid)) 16
     ∷ when (fourWithTwoPlanes h) 17 ∷ rest
 
 -- 18 to 20, in front of others
-abbrev pub endpointReasons : Bool → Header → List Reason → List Reason
+abbrev pub endpointReasons : Bool → BlockHeader → List Reason → List Reason
 endpointReasons hdr h rest = when (tooManyEndpoints h) 18 ∷ when (tooFewEndpointBits h) 19 ∷ when (hdrRefused hdr h) 20 ∷ rest

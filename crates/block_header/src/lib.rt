@@ -10,7 +10,7 @@ ghost use Rattle.block_header.specs.Stages.{stageOf, stageTold};
 ghost use Rattle.block_header.specs.Counts.{weightCount, weightBits, componentBits, indexBits, selectorBits, extraBits, endpointCount, bitsLeft, endpointRangeOf};
 
 // The settings of a block that is no void extent: 01's fields of a mode sheet, without its numbers.
-pub struct Header {
+pub struct BlockHeader {
     pub grid: WeightGrid,
     pub component: u8,
     pub partitions: u8,
@@ -95,7 +95,7 @@ fn counted(there: bool, mode: u8) -> u32
 }
 
 // The endpoint numbers of all partitions; past the fourth a mode is 0, which takes two.
-pub fn endpoint_count(h: Header) -> u32
+pub fn endpoint_count(h: BlockHeader) -> u32
     ensures { λ r. ⌜ (r ≡ endpointCount h) × (r ≤ 32640) ⌝ }
 {
     let modes = h.modes;
@@ -129,7 +129,7 @@ pub fn clipped_weight_bits(g: WeightGrid) -> u32
 }
 
 // The bits left for the endpoint numbers, once the weight bits are known.
-pub fn bits_left_with(h: Header, weights: u64) -> u32
+pub fn bits_left_with(h: BlockHeader, weights: u64) -> u32
     requires { ⌜ weights ≡ weightBits (h .grid) ⌝ }
     ensures { λ r. ⌜ (r ≡ bitsLeft h) × (r ≤ 111) ⌝ }
 {
@@ -140,14 +140,14 @@ pub fn bits_left_with(h: Header, weights: u64) -> u32
 }
 
 // The bits left for the endpoint numbers.
-pub fn bits_left(h: Header) -> u32
+pub fn bits_left(h: BlockHeader) -> u32
     ensures { λ r. ⌜ (r ≡ bitsLeft h) × (r ≤ 111) ⌝ }
 {
     bits_left_with(h, weight_bits(h.grid))
 }
 
 // The quantisation range of the endpoint numbers.
-pub fn endpoint_range_of(h: Header) -> u8
+pub fn endpoint_range_of(h: BlockHeader) -> u8
     ensures { λ r. ⌜ r ≡ endpointRangeOf h ⌝ }
 {
     quantization::endpoint_range(endpoint_count(h), bits_left(h))
@@ -187,7 +187,7 @@ pub fn grid_fault(fp: u8, g: WeightGrid) -> u8
 }
 
 // Whether some partition has an HDR mode; past the fourth a mode is 0, which is none.
-pub fn some_hdr(h: Header) -> bool
+pub fn some_hdr(h: BlockHeader) -> bool
     ensures { λ r. ⌜ r ≡ someHdr h ⌝ }
 {
     let modes = h.modes;
@@ -200,7 +200,7 @@ pub fn some_hdr(h: Header) -> bool
 }
 
 // Whether it is a reason, HDR taken or not.
-fn hdr_refused(hdr: bool, h: Header) -> bool
+fn hdr_refused(hdr: bool, h: BlockHeader) -> bool
     ensures { λ r. ⌜ r ≡ hdrRefused hdr h ⌝ }
 {
     if hdr { false } else { some_hdr(h) }
@@ -208,7 +208,7 @@ fn hdr_refused(hdr: bool, h: Header) -> bool
 
 // The first of 18 to 20 that holds, HDR taken or not, once the endpoint numbers and the bits left for them are known: 19 before 20,
 // whatever partition is HDR.
-pub fn endpoint_stage(hdr: bool, h: Header, count: u32, left: u32) -> Stage
+pub fn endpoint_stage(hdr: bool, h: BlockHeader, count: u32, left: u32) -> Stage
     requires { ⌜ (count ≡ endpointCount h) × (count ≤ 32640) × (left ≡ bitsLeft h) ⌝ }
     ensures { λ r. ⌜ r ≡ stageOf (endpointFault hdr h) ⌝ }
 {
@@ -225,7 +225,7 @@ pub fn endpoint_stage(hdr: bool, h: Header, count: u32, left: u32) -> Stage
 }
 
 // The first of 18 to 20 that holds, 0 where none does.
-pub fn endpoint_fault(hdr: bool, h: Header) -> u8
+pub fn endpoint_fault(hdr: bool, h: BlockHeader) -> u8
     ensures { λ r. ⌜ r ≡ endpointFault hdr h ⌝ }
 {
     stage_told(endpoint_stage(hdr, h, endpoint_count(h), bits_left(h)))

@@ -24,11 +24,11 @@ use Rattle.quantization.specs.Ranges.{encodingAt, bitsAt, mostAt}
 use Rattle.quantization.specs.inner.Products.{byRule, Right}
 use Rattle.quantization.specs.declared.Rule.{Rule}
 use Rattle.quantization.specs.Unquantise.{isEndpoint, unquantEndpoint, unquantWeight}
-use Rattle.weight_grid.specs.Cell.{level, weightAt}
+use Rattle.weight_grid.specs.Cell.{level, levelIn}
 use Rattle.weight_grid.specs.inner.Points.{pointOf}
 use Rattle.block_mode.specs.declared.WeightGrid.{WeightGrid}
 use Rattle.block_mode.specs.Back2D.{Limits}
-use Rattle.block_header.specs.declared.Header.{Header}
+use Rattle.block_header.specs.declared.BlockHeader.{BlockHeader}
 use Rattle.block_header.specs.Counts.{weightCount, endpointCount, endpointRangeOf}
 use Rattle.block_fault.specs.Bits.{endpointsFrom, endpointAt}
 use Rattle.texel.specs.Meaning.{endpointLevels}
@@ -124,7 +124,7 @@ levelsOf range xs = tab (λ i. level (unquantWeight range (getD xs i (stored 0) 
 pub point-told : (range planes : ℕ) (xs : List Stored) (i : ℕ) {a b : Stored} {r : LevelPair}
     → i * planes + (planes - 1) < 64 → a ≡ getD xs (i * planes) (stored 0) → b ≡ getD xs (i * planes + planes - 1) (stored 0)
     → r ≡ levelPair (unquantWeight range (a .0)) (pick (eqb planes 2) (unquantWeight range (b .0)) 0) → r ≡ pointOf (levelsOf range xs) planes i
-unfolding pointOf weightAt
+unfolding pointOf levelIn
 point-told range planes xs i {a} {b} h ea eb er = er ∙ rw (ea, eb) (go (eqb planes 2) refl) where
   at : (k : ℕ) → k < 64 → unquantWeight range (getD xs k (stored 0) .0) ≡ getD (levelsOf range xs) k (level 0) .0
   at k l = sym (ap (λ (x : Level). x .0) (getD-tab (λ i. level (unquantWeight range (getD xs i (stored 0) .0))) 64 k (level 0) l))
@@ -187,7 +187,7 @@ levelsBy : ℕ → ℕ → ℕ → ℕ → List Level
 levelsBy B range n from =
     endpointLevels range (λ i. pick (ltb i n) (number (encodingAt range) (bitsAt range) (sequenceAt (encodingAt range) (bitsAt range) B from n) i) 0)
 
-pub lines-told : (B : ℕ) (h : Header) (kind : Kind) {n from range : ℕ} {ends : List Level} {r : List (List ℕ)}
+pub lines-told : (B : ℕ) (h : BlockHeader) (kind : Kind) {n from range : ℕ} {ends : List Level} {r : List (List ℕ)}
     → n ≡ endpointCount h → from ≡ endpointsFrom (h .partitions) → range ≡ endpointRangeOf h
     → ends ≡ endpointLevels range (λ i. pick (ltb i n) (number (encodingAt range) (bitsAt range) (sequenceAt (encodingAt range) (bitsAt range) B from n) i) 0)
     → r ≡ linesIn kind h ends

@@ -1,7 +1,7 @@
 // The numbers of a block as its texels are made of them: of a coded block, unquantised once, the points of its weight grid, both planes' levels in one,
 // and the lines of its endpoint pairs; of a void extent its colours.
 use bits::PhysicalBlock;
-use block_header::Header;
+use block_header::BlockHeader;
 use block_mode::WeightGrid;
 use encoding::Level;
 use encoding::LevelPair;
@@ -145,7 +145,13 @@ fn table_lines(kind: Kind, modes: [u8; 4], count: u8, levels: [Level; 18]) -> [[
 }
 
 // The lines of a block's endpoint pairs, one for each partition.
-pub fn lines_of(block: PhysicalBlock, h: Header, kind: Kind, n: u8, range: u8) -> [[u16; 10]; 4]
+pub fn lines_of(
+    block: PhysicalBlock,
+    h: BlockHeader,
+    kind: Kind,
+    n: u8,
+    range: u8,
+) -> [[u16; 10]; 4]
     requires { ⌜ (n ≡ endpointCount h) × (n ≤ 18) × (range ≡ endpointRangeOf h) ⌝ }
     ensures { λ r. ⌜ r ≡ linesIn kind h (endpointLevels (endpointRangeOf h) (endpointAt (blockNumber block) h)) ⌝ }
 {

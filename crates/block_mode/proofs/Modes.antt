@@ -12,16 +12,16 @@ use Rattle.laws.proofs.Computed.{both-left, both-right, each}
 use Rattle.block_mode.specs.declared.WeightGrid.{WeightGrid}
 use Rattle.block_mode.specs.declared.BlockMode.{BlockMode}
 use Rattle.block_mode.specs.declared.BlockMode.the-variants.{VoidExtent, Reserved, Grid}
-use Rattle.block_mode.specs.declared.ModeBits.{ModeBits}
-use Rattle.block_mode.specs.declared.ModeBits.the-variants.{Mode, NoMode}
+use Rattle.block_mode.specs.declared.FoundMode.{FoundMode}
+use Rattle.block_mode.specs.declared.FoundMode.the-variants.{Mode, NoMode}
 use Rattle.block_mode.specs.Mode2D.{blockMode}
 use Rattle.block_mode.specs.OneMode.{OneMode}
-use Rattle.block_mode.specs.Back2D.{isSide, inLimits, Limits, modeBits}
+use Rattle.block_mode.specs.Back2D.{isSide, inLimits, Limits, flatModeOf}
 
 -- ---- tests
 
 -- the answer is the mode m
-unfoldable pub isMode : ModeBits → ℕ → Bool
+unfoldable pub isMode : FoundMode → ℕ → Bool
 isMode (Mode n) m = eqb n m
 isMode NoMode m = false
 
@@ -35,10 +35,10 @@ isGrid (Grid k) g = both (eqb (k .width) (g .width)) (both (eqb (k .height) (g .
 readBack : BlockMode → ℕ → Bool
 readBack VoidExtent m = true
 readBack Reserved m = true
-readBack (Grid g) m = both (inLimits g) (isMode (modeBits g) m)
+readBack (Grid g) m = both (inLimits g) (isMode (flatModeOf g) m)
 
 -- bits that are written are read as the grid
-writtenBack : ModeBits → WeightGrid → Bool
+writtenBack : FoundMode → WeightGrid → Bool
 writtenBack (Mode m) g = both (ltb m 2048) (isGrid (blockMode m) g)
 writtenBack NoMode g = true
 
@@ -46,20 +46,20 @@ abbrev grid : ℕ → ℕ → ℕ → ℕ → WeightGrid
 grid w h r p = record { width = w; height = h; depth = 1; range = r; planes = p }
 
 test-read : T (all (λ m. readBack (blockMode m) m) 2048)
-unfolding readBack isMode blockMode modeBits
+unfolding readBack isMode blockMode flatModeOf
 test-read = tt
 
 -- counted from the smallest grid within the limits
 abbrev back : ℕ → ℕ → ℕ → ℕ → Bool
-back w h r p = writtenBack (modeBits (grid (w + 2) (h + 2) r (p + 1))) (grid (w + 2) (h + 2) r (p + 1))
+back w h r p = writtenBack (flatModeOf (grid (w + 2) (h + 2) r (p + 1))) (grid (w + 2) (h + 2) r (p + 1))
 
 test-written : T (all (λ p. all (λ r. all (λ h. all (λ w. back w h r p) 11) 11) 12) 2)
-unfolding writtenBack isGrid blockMode modeBits
+unfolding writtenBack isGrid blockMode flatModeOf
 test-written = tt
 
 -- ---- what the tests say
 
-is-mode : (x : ModeBits) (m : ℕ) → T (isMode x m) → x ≡ Mode m
+is-mode : (x : FoundMode) (m : ℕ) → T (isMode x m) → x ≡ Mode m
 unfolding isMode
 is-mode (Mode n) m t = ap (λ (k : ℕ). Mode k) (eqb→eq n m t)
 is-mode NoMode m t = absurd t
@@ -130,43 +130,43 @@ flat-depth g t =
 -- ---- the theorems
 
 module _ (m : ℕ) (h : m < 2048) (g : WeightGrid) (e : blockMode m ≡ Grid g) where
-  read : T (both (inLimits g) (isMode (modeBits g) m))
+  read : T (both (inLimits g) (isMode (flatModeOf g) m))
   unfolding readBack
   read = rw e at (each (λ m. readBack (blockMode m) m) 2048 test-read m h)
 
   -- a mode that is a grid has 2 to 12 weights a side, a range of the twelve, and one or two planes
   pub mode-limits : Limits g
-  mode-limits = limits g (both-left (inLimits g) (isMode (modeBits g) m) read)
+  mode-limits = limits g (both-left (inLimits g) (isMode (flatModeOf g) m) read)
 
   pub mode-flat : g .depth ≡ 1
-  mode-flat = flat-depth g (both-left (inLimits g) (isMode (modeBits g) m) read)
+  mode-flat = flat-depth g (both-left (inLimits g) (isMode (flatModeOf g) m) read)
 
   -- and its bits are found again
-  pub mode-found : modeBits g ≡ Mode m
-  mode-found = is-mode (modeBits g) m (both-right (inLimits g) (isMode (modeBits g) m) read)
+  pub mode-found : flatModeOf g ≡ Mode m
+  mode-found = is-mode (flatModeOf g) m (both-right (inLimits g) (isMode (flatModeOf g) m) read)
 
-past-limits : (g : WeightGrid) → inLimits g ≡ false → modeBits g ≡ NoMode
-unfolding modeBits
+past-limits : (g : WeightGrid) → inLimits g ≡ false → flatModeOf g ≡ NoMode
+unfolding flatModeOf
 past-limits g e = rw e
 
 pub never : (m : ℕ) → NoMode ≡ Mode m → ⊥
 never m e = let z : _≡_ {A = ℕ} 0 1 = cc in omega arith
 
 -- the test over all grids, at one within the limits
-written : (g : WeightGrid) → Limits g → g .depth ≡ 1 → T (writtenBack (modeBits g) g)
+written : (g : WeightGrid) → Limits g → g .depth ≡ 1 → T (writtenBack (flatModeOf g) g)
 written g l one =
     let w = g .width - 2 in let h = g .height - 2 in let r = g .range in let p = g .planes - 1 in
-    let t : T (writtenBack (modeBits (grid (w + 2) (h + 2) r (p + 1))) (grid (w + 2) (h + 2) r (p + 1))) =
+    let t : T (writtenBack (flatModeOf (grid (w + 2) (h + 2) r (p + 1))) (grid (w + 2) (h + 2) r (p + 1))) =
     each (λ w. back w h r p) 11
     (each (λ h. all (λ w. back w h r p) 11) 11
     (each (λ r. all (λ h. all (λ w. back w h r p) 11) 11) 12
     (each (λ p. all (λ r. all (λ h. all (λ w. back w h r p) 11) 11) 12) 2 test-written p (omega arith))
     r (omega arith)) h (omega arith)) w (omega arith) in
-    subst (λ (k : WeightGrid). T (writtenBack (modeBits k) k))
+    subst (λ (k : WeightGrid). T (writtenBack (flatModeOf k) k))
     (same-grid (grid (w + 2) (h + 2) r (p + 1)) g (omega arith) (omega arith) (omega (arith, one)) refl (omega arith)) t
 
 -- bits that are found for a grid are a mode that is this grid
-pub found-mode : (g : WeightGrid) (m : ℕ) → modeBits g ≡ Mode m → (m < 2048) × (blockMode m ≡ Grid g)
+pub found-mode : (g : WeightGrid) (m : ℕ) → flatModeOf g ≡ Mode m → (m < 2048) × (blockMode m ≡ Grid g)
 unfolding writtenBack
 found-mode g m e = go (inLimits g) refl where
   back : T (both (ltb m 2048) (isGrid (blockMode m) g)) → (m < 2048) × (blockMode m ≡ Grid g)
@@ -188,9 +188,9 @@ one-mode = record {
   one-mode = λ m n g hm hn em en. let a = mode-found m hm g em in let b = mode-found n hn g en in cc;
 }
   where
-    not-found : (g : WeightGrid) → ((m : ℕ) → m < 2048 → blockMode m ≡ Grid g → ⊥) → modeBits g ≡ NoMode
-    not-found g n = go (modeBits g) refl where
-      go : (x : ModeBits) → modeBits g ≡ x → x ≡ NoMode
+    not-found : (g : WeightGrid) → ((m : ℕ) → m < 2048 → blockMode m ≡ Grid g → ⊥) → flatModeOf g ≡ NoMode
+    not-found g n = go (flatModeOf g) refl where
+      go : (x : FoundMode) → flatModeOf g ≡ x → x ≡ NoMode
       go (Mode m) e = let f = found-mode g m e in absurd (n m (f .0) (f .1))
       go NoMode e = refl
 

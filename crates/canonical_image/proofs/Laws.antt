@@ -29,7 +29,7 @@ use Rattle.image_layout.specs.inner.Noted.{noted}
 use Rattle.image_layout.specs.Numbers.{blockBytes, blockAt, faultAt, faultAtIn}
 use Rattle.image_layout.specs.Faulty.{tallyOf}
 use Rattle.image_layout.specs.Call.{imageTally, imageTallyIn}
-use Rattle.image_layout.specs.Geometry.{gridOf}
+use Rattle.image_layout.specs.Geometry.{imageGrid}
 use Rattle.image_layout.proofs.Calls.{sound, sizes}
 use Rattle.image_layout.proofs.Independence.{same-bytes}
 use Rattle.image_layout.proofs.Tallies.{tally-start, tally-more}
@@ -137,9 +137,9 @@ pub record Counted (fp w h bytes : ℕ) : Type 0 where
   pub count : bytes / 16 ≡ blocksOf fp w h
 
 pub counted : (fp w h bytes places : ℕ) → Accepted fp w h bytes places → Counted fp w h bytes
-unfolding gridOf blocksOf
+unfolding imageGrid blocksOf
 counted fp w h bytes places a =
-    let m = sizes (gridOf fp w h) (sound fp w h (omega (arith, a .known)) (a .wide) (a .high)) .blocks in
+    let m = sizes (imageGrid fp w h) (sound fp w h (omega (arith, a .known)) (a .wide) (a .high)) .blocks in
     record { sixteens = omega (arith, a .exact-bytes); most = omega (arith, a .exact-bytes, m); count = omega (arith, a .exact-bytes) }
 
 module _ (fp w h : ℕ) (s old : List ℕ) where

@@ -23,7 +23,7 @@ use Rattle.clip.specs.Feed.{feedIn, feedOf}
 use Rattle.clip.specs.Frames.{waits}
 use Rattle.clip.proofs.Timely.{first}
 use Rattle.clip.proofs.Whole.{spelt-16, wholeFed, whole-fed}
-use Rattle.clip_numbers.specs.Numbers.{phaseNumber, phaseTold, numbersOf, phaseOf, frameOf, heldOf, clipOf, blockNumbers, feedNumbers, numberIn, feedRefusal, feedNumber, feedState, feedBlock, feedTold}
+use Rattle.clip_numbers.specs.Numbers.{phaseNumber, phaseTold, numbersOf, phaseOf, frameOf, heldOf, clipOf, blockNumbers, feedNumbers, eventNumber, feedRefusal, feedNumber, feedState, feedBlock, feedTold}
 
 pub numbers-spelt : (c : Clip) → length (c .held) ≡ 16
     → numbersOf c
@@ -68,8 +68,8 @@ module _ (s p : List ℕ) (e0 : getD s 0 0 ≡ 2) (e2 : getD s 2 0 % 256 ≡ 0) 
   whole-told e =
       e ∙ ap (λ (f : Frame). 16 ∷ blockNumbers (Block (getD s 3 0) (getD s 4 0)) f) (sym (past-frame (clipOf s))) ∙ ap feedNumbers (sym fed)
 
-  pub whole-number : 0 ≡ numberIn (feedOf (clipOf s) p .event)
-  whole-number = ap (λ (f : Fed). numberIn (f .event)) (sym fed)
+  pub whole-number : 0 ≡ eventNumber (feedOf (clipOf s) p .event)
+  whole-number = ap (λ (f : Fed). eventNumber (f .event)) (sym fed)
 
 -- ---- the calls
 
@@ -104,7 +104,7 @@ module _ (s p block told : List ℕ) {r : ℕ} (er : r ≡ feedRefusal (length s
     yes-fed : eqb (feedRefusal (length s) (length block) (length told)) 0 ≡ true
     yes-fed = eq-eqb (feedRefusal (length s) (length block) (length told)) 0 (sym er ∙ z)
 
-    pub fed-number : {n : ℕ} → n ≡ numberIn (feedOf (clipOf s) p .event) → n ≡ feedNumber s p block told
+    pub fed-number : {n : ℕ} → n ≡ eventNumber (feedOf (clipOf s) p .event) → n ≡ feedNumber s p block told
     unfolding feedNumber
     fed-number e = rw yes-fed e
 

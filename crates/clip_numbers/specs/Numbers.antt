@@ -71,10 +71,10 @@ unfoldable pub feedNumbers : Fed → List ℕ
 feedNumbers f = f .taken ∷ blockNumbers (f .event) (f .clip .frame)
 
 -- the number told, 0 for none
-abbrev pub numberIn : Event → ℕ
-numberIn Nothing = 0
-numberIn (Block i j) = 0
-numberIn (Told n) = n
+abbrev pub eventNumber : Event → ℕ
+eventNumber Nothing = 0
+eventNumber (Block i j) = 0
+eventNumber (Told n) = n
 
 -- ---- the calls: 5 where a lent list is not exactly as long as said, which leaves all of them as they were
 
@@ -94,7 +94,7 @@ module _ (s p block told : List ℕ) where
 
   -- what is answered, and what the three lists hold then
   unfoldable pub feedNumber : ℕ
-  feedNumber = pick (eqb refusedBy 0) (numberIn (feedOf (clipOf s) p .event)) refusedBy
+  feedNumber = pick (eqb refusedBy 0) (eventNumber (feedOf (clipOf s) p .event)) refusedBy
 
   unfoldable pub feedState : List ℕ
   feedState = pick (eqb refusedBy 0) (numbersOf (feedOf (clipOf s) p .clip)) s

@@ -15,7 +15,7 @@ ghost use Rattle.clip.specs.declared.Event.the-variants.{Nothing, Block};
 ghost use Rattle.clip.specs.Step.{past};
 ghost use Rattle.clip.specs.Frames.{waits};
 ghost use Rattle.clip.specs.Feed.{feedOf};
-ghost use Rattle.clip_numbers.specs.Numbers.{phaseNumber, phaseTold, numbersOf, phaseOf, frameOf, heldOf, clipOf, blockNumbers, feedNumbers, numberIn, startNumber, startState, feedRefusal, feedNumber, feedState, feedBlock, feedTold, finishNumbered, finishState};
+ghost use Rattle.clip_numbers.specs.Numbers.{phaseNumber, phaseTold, numbersOf, phaseOf, frameOf, heldOf, clipOf, blockNumbers, feedNumbers, eventNumber, startNumber, startState, feedRefusal, feedNumber, feedState, feedBlock, feedTold, finishNumbered, finishState};
 
 // ---- a state from its numbers
 
@@ -213,7 +213,7 @@ fn event_told(taken: usize, e: Event, f: Frame) -> [u64; 8]
 }
 
 fn number_in(e: Event) -> u8
-    ensures { λ r. ⌜ r ≡ numberIn e ⌝ }
+    ensures { λ r. ⌜ r ≡ eventNumber e ⌝ }
 {
     match e {
         Event::Nothing => 0,
@@ -295,7 +295,7 @@ fn whole_block(state: &mut [u32], piece: &[u8], block: &mut [u8], told: &mut [u6
     ensures { λ r. ⌜ now (state .exit) ≡ numbersOf (feedOf (clipOf (now (state .entry))) (now (piece .entry)) .clip) ⌝ }
     ensures { λ r. ⌜ now (block .exit) ≡ feedOf (clipOf (now (state .entry))) (now (piece .entry)) .block ⌝ }
     ensures { λ r. ⌜ now (told .exit) ≡ feedNumbers (feedOf (clipOf (now (state .entry))) (now (piece .entry))) ⌝ }
-    ensures { λ r. ⌜ 0 ≡ numberIn (feedOf (clipOf (now (state .entry))) (now (piece .entry)) .event) ⌝ }
+    ensures { λ r. ⌜ 0 ≡ eventNumber (feedOf (clipOf (now (state .entry))) (now (piece .entry)) .event) ⌝ }
 {
     let index = state[3];
     let at = state[4];
@@ -311,7 +311,7 @@ fn whole_block(state: &mut [u32], piece: &[u8], block: &mut [u8], told: &mut [u6
 // Any other feed.
 fn feed_state(state: &mut [u32], piece: &[u8], block: &mut [u8], told: &mut [u64]) -> u8
     requires { ⌜ (length (now state) ≡ 26) × (length (now block) ≡ 16) × (length (now told) ≡ 8) ⌝ }
-    ensures { λ r. ⌜ r ≡ numberIn (feedOf (clipOf (now (state .entry))) (now (piece .entry)) .event) ⌝ }
+    ensures { λ r. ⌜ r ≡ eventNumber (feedOf (clipOf (now (state .entry))) (now (piece .entry)) .event) ⌝ }
     ensures { λ r. ⌜ now (state .exit) ≡ numbersOf (feedOf (clipOf (now (state .entry))) (now (piece .entry)) .clip) ⌝ }
     ensures { λ r. ⌜ now (block .exit) ≡ feedOf (clipOf (now (state .entry))) (now (piece .entry)) .block ⌝ }
     ensures { λ r. ⌜ now (told .exit) ≡ feedNumbers (feedOf (clipOf (now (state .entry))) (now (piece .entry))) ⌝ }

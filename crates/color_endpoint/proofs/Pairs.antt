@@ -19,7 +19,7 @@ use Rattle.endpoint_arithmetic.specs.declared.EndpointPair.{EndpointPair}
 use Rattle.endpoint_arithmetic.specs.Signed.{bitTransfer, plainEnd, blueEnd}
 use Rattle.endpoint_arithmetic.specs.Pair.{zeroPair, luminancePair, scaledPair, rgbSum, blueOf, directPair, raisedPair, contractedPair, offsetPair}
 use Rattle.endpoint_arithmetic.proofs.Laws.{clamped-le}
-use Rattle.color_endpoint.specs.Modes.{level, noLevel, lowLuminance, highLuminance, opaque, mode0, mode1, mode4, mode5, mode6, mode8, mode9, mode10, mode12, mode13, pairOf}
+use Rattle.color_endpoint.specs.Modes.{levelAt, noLevel, lowLuminance, highLuminance, opaque, mode0, mode1, mode4, mode5, mode6, mode8, mode9, mode10, mode12, mode13, pairOf}
 use Rattle.color_endpoint.specs.Table.{startOf, numbersFrom, entryBy, entryOf, tableOf}
 use Rattle.color_endpoint.proofs.Laws.{table-at}
 
@@ -29,9 +29,9 @@ pick-same : {A : Type 0} (b : Bool) (x x′ y y′ : A) → (b ≡ true → x �
 pick-same true x x′ y y′ h e = h refl
 pick-same false x x′ y y′ h e = e
 
-module _ (mode : ℕ) (v w : List Level) (same : (i : ℕ) → i < 2 * (mode / 4 + 1) → level v i ≡ level w i) where
+module _ (mode : ℕ) (v w : List Level) (same : (i : ℕ) → i < 2 * (mode / 4 + 1) → levelAt v i ≡ levelAt w i) where
   -- number i, where the mode is m
-  at : (m i : ℕ) → eqb mode m ≡ true → i < 2 * (m / 4 + 1) → level v i ≡ level w i
+  at : (m i : ℕ) → eqb mode m ≡ true → i < 2 * (m / 4 + 1) → levelAt v i ≡ levelAt w i
   at m i e h = let q : mode ≡ m = eqb-true mode m e in same i (rw q h)
 
   pub pair-same : pairOf mode v ≡ pairOf mode w
@@ -147,7 +147,7 @@ high-le : (v0 v1 : ℕ) → highLuminance v0 v1 ≤ 255
 unfolding highLuminance
 high-le v0 v1 = omega arith
 
-module _ (v : List Level) (l : (i : ℕ) → level v i ≤ 255) where
+module _ (v : List Level) (l : (i : ℕ) → levelAt v i ≤ 255) where
   pub pair-bytes : (mode : ℕ) → Bytes (pairOf mode v)
   unfolding pairOf mode0 mode1 mode4 mode5 mode6 mode8 mode9 mode10 mode12 mode13
   pair-bytes mode =
@@ -165,8 +165,8 @@ module _ (v : List Level) (l : (i : ℕ) → level v i ≤ 255) where
       zero-bytes)))))))))
 
 -- the pairs of a table, from levels up to 255
-module _ (modes : List ℕ) (count : ℕ) (levels : List Level) (l : (i : ℕ) → level levels i ≤ 255) where
-  numbers-le : (start i : ℕ) → level (numbersFrom levels start) i ≤ 255
+module _ (modes : List ℕ) (count : ℕ) (levels : List Level) (l : (i : ℕ) → levelAt levels i ≤ 255) where
+  numbers-le : (start i : ℕ) → levelAt (numbersFrom levels start) i ≤ 255
   unfolding numbersFrom
   numbers-le start i = tab-all (λ x. x .0 ≤ 255) (λ k. getD levels (start + k) noLevel) noLevel (λ k. l (start + k)) (omega arith) 8 i
 

@@ -18,12 +18,12 @@ abbrev pub noLevel : Level
 noLevel = record { 0 = 0 }
 
 -- the number v(i), 0 past the last
-abbrev pub level : List Level → ℕ → ℕ
-level v i = getD v i noLevel .0
+abbrev pub levelAt : List Level → ℕ → ℕ
+levelAt v i = getD v i noLevel .0
 
 -- "Mode 0 LDR Luminance, direct"
 unfoldable pub mode0 : List Level → EndpointPair
-mode0 v = luminancePair (level v 0) (level v 1) 255 255
+mode0 v = luminancePair (levelAt v 0) (levelAt v 1) 255 255
 
 -- mode 1's L0 = (v0 >> 2) | (v1 & 0xC0)
 unfoldable pub lowLuminance : ℕ → ℕ → ℕ
@@ -35,15 +35,15 @@ highLuminance v0 v1 = min (lowLuminance v0 v1 + v1 % 64) 255
 
 -- "Mode 1 LDR Luminance, base+offset"
 unfoldable pub mode1 : List Level → EndpointPair
-mode1 v = luminancePair (lowLuminance (level v 0) (level v 1)) (highLuminance (level v 0) (level v 1)) 255 255
+mode1 v = luminancePair (lowLuminance (levelAt v 0) (levelAt v 1)) (highLuminance (levelAt v 0) (levelAt v 1)) 255 255
 
 -- "Mode 4 LDR Luminance+Alpha, direct"
 unfoldable pub mode4 : List Level → EndpointPair
-mode4 v = luminancePair (level v 0) (level v 1) (level v 2) (level v 3)
+mode4 v = luminancePair (levelAt v 0) (levelAt v 1) (levelAt v 2) (levelAt v 3)
 
 -- bit_transfer_signed(v(i+1), vi)
 abbrev pub transfer : List Level → ℕ → BaseOffset
-transfer v i = bitTransfer (level v (i + 1)) (level v i)
+transfer v i = bitTransfer (levelAt v (i + 1)) (levelAt v i)
 
 -- "Mode 5 LDR Luminance+Alpha, base+offset"
 unfoldable pub mode5 : List Level → EndpointPair
@@ -51,11 +51,11 @@ mode5 v = raisedPair (transfer v 0) (transfer v 0) (transfer v 0) (transfer v 2)
 
 -- "Mode 6 LDR RGB, base+scale"
 unfoldable pub mode6 : List Level → EndpointPair
-mode6 v = scaledPair (level v 0) (level v 1) (level v 2) (level v 3) 255 255
+mode6 v = scaledPair (levelAt v 0) (levelAt v 1) (levelAt v 2) (levelAt v 3) 255 255
 
 -- "Mode 8 LDR RGB, Direct"
 unfoldable pub mode8 : List Level → EndpointPair
-mode8 v = directPair (level v 0 ∷ level v 2 ∷ level v 4 ∷ 255 ∷ []) (level v 1 ∷ level v 3 ∷ level v 5 ∷ 255 ∷ [])
+mode8 v = directPair (levelAt v 0 ∷ levelAt v 2 ∷ levelAt v 4 ∷ 255 ∷ []) (levelAt v 1 ∷ levelAt v 3 ∷ levelAt v 5 ∷ 255 ∷ [])
 
 -- an alpha of 0xFF that has no offset
 abbrev pub opaque : BaseOffset
@@ -67,11 +67,11 @@ mode9 v = offsetPair (transfer v 0) (transfer v 2) (transfer v 4) opaque
 
 -- "Mode 10 LDR RGB, base+scale plus two A"
 unfoldable pub mode10 : List Level → EndpointPair
-mode10 v = scaledPair (level v 0) (level v 1) (level v 2) (level v 3) (level v 4) (level v 5)
+mode10 v = scaledPair (levelAt v 0) (levelAt v 1) (levelAt v 2) (levelAt v 3) (levelAt v 4) (levelAt v 5)
 
 -- "Mode 12 LDR RGBA, direct"
 unfoldable pub mode12 : List Level → EndpointPair
-mode12 v = directPair (level v 0 ∷ level v 2 ∷ level v 4 ∷ level v 6 ∷ []) (level v 1 ∷ level v 3 ∷ level v 5 ∷ level v 7 ∷ [])
+mode12 v = directPair (levelAt v 0 ∷ levelAt v 2 ∷ levelAt v 4 ∷ levelAt v 6 ∷ []) (levelAt v 1 ∷ levelAt v 3 ∷ levelAt v 5 ∷ levelAt v 7 ∷ [])
 
 -- "Mode 13 LDR RGBA, base+offset"
 unfoldable pub mode13 : List Level → EndpointPair

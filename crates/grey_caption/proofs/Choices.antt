@@ -13,11 +13,11 @@ use Rattle.laws.specs.Choice.{pick}
 use Rattle.quantization.specs.Ranges.{encodingAt, bitsAt, mostAt}
 use Rattle.color_endpoint.specs.Table.{numberCount, startOf}
 use Rattle.color_endpoint.specs.Modes.{isHdr}
-use Rattle.block_header.specs.declared.Header.{Header}
+use Rattle.block_header.specs.declared.BlockHeader.{BlockHeader}
 use Rattle.block_header.specs.Counts.{weightCount, endpointCount, endpointRangeOf}
 use Rattle.block_header.specs.Reasons.{someHdr}
 use Rattle.symbolic_block.specs.declared.SymbolicBlock.{SymbolicBlock}
-use Rattle.symbolic_block.specs.Fields.{gridOf, headerOf, isMarked, endpointIn, weightIn}
+use Rattle.symbolic_block.specs.Fields.{sheetGrid, headerOf, isMarked, endpointIn, weightIn}
 use Rattle.symbolic_block.specs.Refusals.{within}
 use Rattle.symbolic_block.specs.Reading.{modeBlock}
 use Rattle.symbolic_block.proofs.Lists.{within-used, within-unused, zeros-back, stored-back}
@@ -46,13 +46,13 @@ module _ (e0 e1 : ℕ) (s : SymbolicBlock) (a : AtSettings e0 e1 s) where
       let m : s .mark ≡ 1 → ⊥ = λ e. omega (arith, a .mode-sheet, e) in
       fine footprint s m (mode-none footprint s (a .acceptable) m)
 
-  sixteen : weightCount (gridOf s) ≡ 16
+  sixteen : weightCount (sheetGrid s) ≡ 16
   unfolding weightCount settings
-  sixteen = ap (λ (h : Header). weightCount (h .grid)) (a .header)
+  sixteen = ap (λ (h : BlockHeader). weightCount (h .grid)) (a .header)
 
   to-three : mostAt (s .range) ≡ 3
   unfolding mostAt encodingAt bitsAt settings
-  to-three = ap (λ (h : Header). mostAt (h .grid .range)) (a .header)
+  to-three = ap (λ (h : BlockHeader). mostAt (h .grid .range)) (a .header)
 
   two : endpointCount (headerOf s) ≡ 2
   unfolding endpointCount startOf numberCount settings

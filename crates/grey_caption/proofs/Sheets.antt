@@ -16,8 +16,8 @@ use Rattle.laws.proofs.Reasons.{None, none-first, _also_}
 use Rattle.quantization.specs.Ranges.{encodingAt, bitsAt, mostAt, rangeBits, largestTo, endpointRange}
 use Rattle.encoding.specs.Encoding.{sequenceBits}
 use Rattle.footprint.specs.Footprint.{footprints, widthOf, heightOf, depthOf, isVolume}
-use Rattle.block_mode.specs.Back2D.{modeBits}
-use Rattle.volume_mode.specs.Either.{isDeep, modeBitsOf}
+use Rattle.block_mode.specs.Back2D.{flatModeOf}
+use Rattle.volume_mode.specs.Either.{isDeep, blockModeOf}
 use Rattle.color_endpoint.specs.Table.{numberCount, startOf}
 use Rattle.block_header.specs.Reasons.{gridTooLarge, tooManyWeights, weightBitsOutside, fourWithTwoPlanes, tooManyEndpoints, tooFewEndpointBits, someHdr, hdrRefused}
 use Rattle.color_endpoint.specs.Modes.{isHdr}
@@ -99,7 +99,7 @@ module _ (e0 e1 : ℕ) (w : ℕ → ℕ) where
     weights-fine = is-within (within 64 16 3 (weightIn (sheetWith e0 e1 w))) weights-in
 
     pub none : None (modeRefusals footprint (sheetWith e0 e1 w))
-    unfolding modeRefusals unknownFootprint badMark badHdr badWidth badHeight badDepth badRange badPlanes badComponent badPartitions badIndex badSelector badModes someInUse within noBlockMode modeBitsOf isDeep modeBits modesMisfit gridTooLarge tooManyWeights weightBitsOutside fourWithTwoPlanes tooManyEndpoints tooFewEndpointBits someHdr hdrRefused isHdr markedWithout sheetWith modeBlock settings tab weightCount weightBits endpointCount startOf numberCount bitsLeft componentBits extraBits rangeBits encodingAt bitsAt sequenceBits widthOf heightOf depthOf isVolume footprints
+    unfolding modeRefusals unknownFootprint badMark badHdr badWidth badHeight badDepth badRange badPlanes badComponent badPartitions badIndex badSelector badModes someInUse within noBlockMode blockModeOf isDeep flatModeOf modesMisfit gridTooLarge tooManyWeights weightBitsOutside fourWithTwoPlanes tooManyEndpoints tooFewEndpointBits someHdr hdrRefused isHdr markedWithout sheetWith modeBlock settings tab weightCount weightBits endpointCount startOf numberCount bitsLeft componentBits extraBits rangeBits encodingAt bitsAt sequenceBits widthOf heightOf depthOf isVolume footprints
     none =
         refl
         also refl

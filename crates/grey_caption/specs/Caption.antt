@@ -10,7 +10,7 @@ use Rattle.quantization.specs.Unquantise.{unquantWeight}
 use Rattle.interpolation.specs.declared.Kind.the-variants.{Srgb8}
 use Rattle.interpolation.specs.Expansion.{expandOf, shownOf}
 use Rattle.interpolation.specs.Texel.{mixOf}
-use Rattle.block_header.specs.declared.Header.{Header}
+use Rattle.block_header.specs.declared.BlockHeader.{BlockHeader}
 use Rattle.symbolic_block.specs.declared.SymbolicBlock.{SymbolicBlock}
 use Rattle.symbolic_block.specs.Reading.{modeBlock}
 use Rattle.symbolic_calls.specs.Writing.{writingOf}
@@ -24,7 +24,7 @@ abbrev pub most : ℕ
 most = 3
 
 -- "one partition, one plane, mode 0, grid 4x4, .. range field 2"
-unfoldable pub settings : Header
+unfoldable pub settings : BlockHeader
 settings = record {
   grid = record { width = 4; height = 4; depth = 1; range = 2; planes = 1 };
   component = 0;

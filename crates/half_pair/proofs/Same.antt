@@ -17,7 +17,7 @@ use Rattle.hdr_endpoint.specs.Luminance.{largeRange, smallRange}
 use Rattle.hdr_endpoint.specs.Scale.{baseScale}
 use Rattle.hdr_endpoint.specs.Direct.{direct, alphasOf}
 use Rattle.hdr_endpoint.proofs.Bounds.{Twelve, four, large-twelve, small-twelve, scale-twelve, direct-twelve, alphas-twelve}
-use Rattle.color_endpoint.specs.Modes.{level, pairOf, isHdr}
+use Rattle.color_endpoint.specs.Modes.{levelAt, pairOf, isHdr}
 use Rattle.color_endpoint.proofs.Pairs.{Bytes, pair-same, pair-bytes}
 use Rattle.interpolation.specs.Expansion.{replicated}
 use Rattle.half_pair.specs.declared.HalfPair.{HalfPair}
@@ -34,14 +34,14 @@ last-hdr : (b2 b3 b7 b11 b14 b15 : Bool) → b2 ≡ false → b3 ≡ false → b
     → either b2 (either b3 (either b7 (either b11 (either b14 b15)))) ≡ true → b15 ≡ true
 last-hdr b2 b3 b7 b11 b14 b15 e2 e3 e7 e11 e14 h = rw (e2, e3, e7, e11, e14) at h
 
-module _ (mode : ℕ) (v w : List Level) (same : (i : ℕ) → i < 2 * (mode / 4 + 1) → level v i ≡ level w i) where
+module _ (mode : ℕ) (v w : List Level) (same : (i : ℕ) → i < 2 * (mode / 4 + 1) → levelAt v i ≡ levelAt w i) where
   -- number i, where the mode is m
-  at : (m i : ℕ) → eqb mode m ≡ true → i < 2 * (m / 4 + 1) → level v i ≡ level w i
+  at : (m i : ℕ) → eqb mode m ≡ true → i < 2 * (m / 4 + 1) → levelAt v i ≡ levelAt w i
   at m i e h = let q : mode ≡ m = eqb-true mode m e in same i (rw q h)
 
   -- six numbers of RGB
   rgb : (m : ℕ) (e : eqb mode m ≡ true) → 6 ≤ 2 * (m / 4 + 1) → (x y : ℕ)
-      → direct (level v 0) (level v 1) (level v 2) (level v 3) (level v 4) (level v 5) x y ≡ direct (level w 0) (level w 1) (level w 2) (level w 3) (level w 4) (level w 5) x y
+      → direct (levelAt v 0) (levelAt v 1) (levelAt v 2) (levelAt v 3) (levelAt v 4) (levelAt v 5) x y ≡ direct (levelAt w 0) (levelAt w 1) (levelAt w 2) (levelAt w 3) (levelAt w 4) (levelAt w 5) x y
   rgb m e h x y = rw (at m 0 e (omega arith), at m 1 e (omega arith), at m 2 e (omega arith), at m 3 e (omega arith), at m 4 e (omega arith), at m 5 e (omega arith))
 
   same-11 : eqb mode 11 ≡ true → mode11 v ≡ mode11 w
@@ -50,11 +50,11 @@ module _ (mode : ℕ) (v w : List Level) (same : (i : ℕ) → i < 2 * (mode / 4
 
   same-14 : eqb mode 14 ≡ true → mode14 v ≡ mode14 w
   unfolding mode14
-  same-14 e = rgb 14 e (omega arith) (level v 6) (level v 7) ∙ rw (at 14 6 e (omega arith), at 14 7 e (omega arith))
+  same-14 e = rgb 14 e (omega arith) (levelAt v 6) (levelAt v 7) ∙ rw (at 14 6 e (omega arith), at 14 7 e (omega arith))
 
   same-15 : eqb mode 15 ≡ true → mode15 v ≡ mode15 w
   unfolding mode15
-  same-15 e = rgb 15 e (omega arith) (alphasOf (level v 6) (level v 7) .0) (alphasOf (level v 6) (level v 7) .1) ∙ rw (at 15 6 e (omega arith), at 15 7 e (omega arith))
+  same-15 e = rgb 15 e (omega arith) (alphasOf (levelAt v 6) (levelAt v 7) .0) (alphasOf (levelAt v 6) (levelAt v 7) .1) ∙ rw (at 15 6 e (omega arith), at 15 7 e (omega arith))
 
   hdr-same : isHdr mode ≡ true → hdrPairOf mode v ≡ hdrPairOf mode w
   unfolding hdrPairOf isHdr
@@ -83,7 +83,7 @@ pick-rooms false alpha p q h k = k refl
 whole : {p : HdrPair} → Twelve p → Rooms true p
 whole t = record { first = room-12 (t .first); second = room-12 (t .second) }
 
-module _ (v : List Level) (l : (i : ℕ) → level v i ≤ 255) where
+module _ (v : List Level) (l : (i : ℕ) → levelAt v i ≤ 255) where
   -- the alpha is HDR where the mode is not 14
   other : (mode m : ℕ) (p : HdrPair) → eqb mode m ≡ true → eqb m 14 ≡ false → Twelve p → Rooms (not (eqb mode 14)) p
   other mode m p e n t = let q : mode ≡ m = eqb-true mode m e in rw (q, n) (whole t)
@@ -91,19 +91,19 @@ module _ (v : List Level) (l : (i : ℕ) → level v i ≤ 255) where
   byte-alphas : Rooms false (mode14 v)
   unfolding mode14
   byte-alphas =
-      let t = direct-twelve (level v 6) (level v 7) (omega (arith, l 6)) (omega (arith, l 7)) (level v 0) (level v 1) (level v 2) (level v 3) (level v 4) (level v 5) (l 0) (l 1) (l 2) (l 3) in
-      let a = direct-alpha (level v 0) (level v 1) (level v 2) (level v 3) (level v 4) (level v 5) (level v 6) (level v 7) in
+      let t = direct-twelve (levelAt v 6) (levelAt v 7) (omega (arith, l 6)) (omega (arith, l 7)) (levelAt v 0) (levelAt v 1) (levelAt v 2) (levelAt v 3) (levelAt v 4) (levelAt v 5) (l 0) (l 1) (l 2) (l 3) in
+      let a = direct-alpha (levelAt v 0) (levelAt v 1) (levelAt v 2) (levelAt v 3) (levelAt v 4) (levelAt v 5) (levelAt v 6) (levelAt v 7) in
       record { first = room-8 (t .first) (omega (arith, a .first, l 6)); second = room-8 (t .second) (omega (arith, a .second, l 7)) }
 
   twelve-11 : Twelve (mode11 v)
   unfolding mode11
-  twelve-11 = direct-twelve oneHdr oneHdr (omega arith) (omega arith) (level v 0) (level v 1) (level v 2) (level v 3) (level v 4) (level v 5) (l 0) (l 1) (l 2) (l 3)
+  twelve-11 = direct-twelve oneHdr oneHdr (omega arith) (omega arith) (levelAt v 0) (levelAt v 1) (levelAt v 2) (levelAt v 3) (levelAt v 4) (levelAt v 5) (l 0) (l 1) (l 2) (l 3)
 
   twelve-15 : Twelve (mode15 v)
   unfolding mode15
   twelve-15 =
-      let a = alphas-twelve (level v 6) (level v 7) (l 6) (l 7) in
-      direct-twelve _ _ (a .first) (a .second) (level v 0) (level v 1) (level v 2) (level v 3) (level v 4) (level v 5) (l 0) (l 1) (l 2) (l 3)
+      let a = alphas-twelve (levelAt v 6) (levelAt v 7) (l 6) (l 7) in
+      direct-twelve _ _ (a .first) (a .second) (levelAt v 0) (levelAt v 1) (levelAt v 2) (levelAt v 3) (levelAt v 4) (levelAt v 5) (l 0) (l 1) (l 2) (l 3)
 
   hdr-rooms : (mode : ℕ) → Rooms (not (eqb mode 14)) (hdrPairOf mode v)
   unfolding hdrPairOf
@@ -140,7 +140,7 @@ pick-sixteen : (b : Bool) (p q : HalfPair) → Sixteen p → Sixteen q → Sixte
 pick-sixteen true p q h k = h
 pick-sixteen false p q h k = k
 
-pub half-sixteen : (mode : ℕ) (v : List Level) → ((i : ℕ) → level v i ≤ 255) → Sixteen (halfPairOf mode v)
+pub half-sixteen : (mode : ℕ) (v : List Level) → ((i : ℕ) → levelAt v i ≤ 255) → Sixteen (halfPairOf mode v)
 unfolding halfPairOf expandedHdr expandedLdr
 half-sixteen mode v l =
     let r = hdr-rooms v l mode in

@@ -14,7 +14,7 @@ use Rattle.hdr_endpoint.specs.Parts.{oneHdr}
 use Rattle.hdr_endpoint.specs.Luminance.{largeRange, smallRange}
 use Rattle.hdr_endpoint.specs.Scale.{baseScale}
 use Rattle.hdr_endpoint.specs.Direct.{direct, alphasOf}
-use Rattle.color_endpoint.specs.Modes.{level, pairOf, isHdr}
+use Rattle.color_endpoint.specs.Modes.{levelAt, pairOf, isHdr}
 use Rattle.color_endpoint.specs.Table.{tableBy}
 use Rattle.endpoint_arithmetic.specs.Pair.{zeroPair}
 use Rattle.interpolation.specs.Expansion.{replicated}
@@ -27,22 +27,22 @@ pub record Room (alpha : Bool) (e : List ℕ) : Type 0 where
 
 -- mode 14: "fill in the alphas", e0.alpha = v6, e1.alpha = v7
 unfoldable pub mode14 : List Level → HdrPair
-mode14 v = direct (level v 0) (level v 1) (level v 2) (level v 3) (level v 4) (level v 5) (level v 6) (level v 7)
+mode14 v = direct (levelAt v 0) (levelAt v 1) (levelAt v 2) (levelAt v 3) (levelAt v 4) (levelAt v 5) (levelAt v 6) (levelAt v 7)
 
 unfoldable pub mode15 : List Level → HdrPair
 mode15 v =
-    direct (level v 0) (level v 1) (level v 2) (level v 3) (level v 4) (level v 5)
-    (alphasOf (level v 6) (level v 7) .0) (alphasOf (level v 6) (level v 7) .1)
+    direct (levelAt v 0) (levelAt v 1) (levelAt v 2) (levelAt v 3) (levelAt v 4) (levelAt v 5)
+    (alphasOf (levelAt v 6) (levelAt v 7) .0) (alphasOf (levelAt v 6) (levelAt v 7) .1)
 
 unfoldable pub mode11 : List Level → HdrPair
-mode11 v = direct (level v 0) (level v 1) (level v 2) (level v 3) (level v 4) (level v 5) oneHdr oneHdr
+mode11 v = direct (levelAt v 0) (levelAt v 1) (levelAt v 2) (levelAt v 3) (levelAt v 4) (levelAt v 5) oneHdr oneHdr
 
 -- the pair of an HDR mode, 15 the last of them
 unfoldable pub hdrPairOf : ℕ → List Level → HdrPair
 hdrPairOf mode v =
-    pick (eqb mode 2) (largeRange (level v 0) (level v 1))
-    (pick (eqb mode 3) (smallRange (level v 0) (level v 1))
-    (pick (eqb mode 7) (baseScale (level v 0) (level v 1) (level v 2) (level v 3))
+    pick (eqb mode 2) (largeRange (levelAt v 0) (levelAt v 1))
+    (pick (eqb mode 3) (smallRange (levelAt v 0) (levelAt v 1))
+    (pick (eqb mode 7) (baseScale (levelAt v 0) (levelAt v 1) (levelAt v 2) (levelAt v 3))
     (pick (eqb mode 11) (mode11 v)
     (pick (eqb mode 14) (mode14 v)
     (mode15 v)))))

@@ -10,7 +10,7 @@ use Rattle.footprint.specs.Footprint.{widthOf, texelsOf}
 use Rattle.footprint.proofs.Laws.{texels-le}
 use Rattle.interpolation.specs.declared.Kind.{Kind}
 use Rattle.interpolation.specs.declared.Texel.{Texel}
-use Rattle.block_buffer.specs.Painted.{numberIn, painted}
+use Rattle.block_buffer.specs.Painted.{texelNumber, painted}
 use Rattle.block_reading.specs.declared.Reading.{Reading}
 use Rattle.block_reading.specs.Shown.{channelIn, intoIn}
 use Rattle.block_reading.proofs.Shows.{held}
@@ -31,10 +31,10 @@ row-filled show t g p dy r m old l new f o s pl q =
 -- the numbers of such a block are the texel's
 pub uniform-held : (reading : Reading) (fp : ℕ) (kind : Kind) (B : ℕ) (t : Texel) → ((l : List ℕ) → intoIn reading fp kind B l ≡ painted (widthOf fp) (λ x y. t) (texelsOf fp) l)
     → (k : ℕ) → k < 4 * texelsOf fp → getD (everywhere t) k 0 ≡ channelIn reading fp kind B k
-unfolding everywhere painted numberIn
+unfolding everywhere painted texelNumber
 uniform-held reading fp kind B t into k h =
     let n : length (everywhere t) ≡ 864 = length-tab _ 864 in
     let f : k < 864 = omega (arith, h, texels-le fp) in
     number-at t k f
-    ∙ sym (replaced-here 0 (numberIn (widthOf fp) (λ x y. t)) (4 * texelsOf fp) (everywhere t) k h (omega (arith, f, n)))
+    ∙ sym (replaced-here 0 (texelNumber (widthOf fp) (λ x y. t)) (4 * texelsOf fp) (everywhere t) k h (omega (arith, f, n)))
     ∙ held reading fp kind B (everywhere t) (painted (widthOf fp) (λ x y. t) (texelsOf fp) (everywhere t)) n (sym (into (everywhere t))) .holds k h

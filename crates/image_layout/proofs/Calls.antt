@@ -18,7 +18,7 @@ use Rattle.image_layout.specs.declared.ImageAnswer.the-variants.{Refused
 use Rattle.image_layout.specs.declared.CheckedImage.{CheckedImage}
 use Rattle.image_layout.specs.declared.CheckedImage.the-variants.{Rejected, Accepted}
 use Rattle.image_layout.specs.declared.Tally.{Tally}
-use Rattle.image_layout.specs.Geometry.{gridOf}
+use Rattle.image_layout.specs.Geometry.{imageGrid}
 use Rattle.image_size.specs.Sides.{blocksAcross, blocksOf, badSide}
 use Rattle.image_layout.specs.Numbers.{faultAtIn, imageNumbersIn}
 use Rattle.image_layout.specs.Faulty.{tallyOf}
@@ -80,8 +80,8 @@ pub record Sound (g : ImageGrid) : Type 0 where
   pub down : g .down ≡ blocksAcross (g .height) (g .rows)
   pub down-most : g .down ≤ 16384
 
-pub sound : (fp w h : ℕ) → fp < 14 → badSide w ≡ false → badSide h ≡ false → Sound (gridOf fp w h)
-unfolding gridOf
+pub sound : (fp w h : ℕ) → fp < 14 → badSide w ≡ false → badSide h ≡ false → Sound (imageGrid fp w h)
+unfolding imageGrid
 sound fp w h f a b =
     let s = flat-bounds fp f in
     let x = side-fine w a in
@@ -164,22 +164,22 @@ module _ (fp w h bytes places : ℕ) where
   unfolding checkedOf
   checked-rejected e q n = rw (q, ne-eqb e 0 n)
 
-  pub checked-accepted : imageRefusal fp w h bytes places ≡ 0 → checkedOf fp w h bytes places ≡ Accepted (gridOf fp w h)
+  pub checked-accepted : imageRefusal fp w h bytes places ≡ 0 → checkedOf fp w h bytes places ≡ Accepted (imageGrid fp w h)
   unfolding checkedOf
   checked-accepted q = rw q
 
   -- the tests one by one, with the layout in hand
-  module _ (f : fp ≤ 13) (a : badSide w ≡ false) (b : badSide h ≡ false) (g : ImageGrid) (l : g ≡ gridOf fp w h) where
+  module _ (f : fp ≤ 13) (a : badSide w ≡ false) (b : badSide h ≡ false) (g : ImageGrid) (l : g ≡ imageGrid fp w h) where
     pub wrong-bytes : (bytes ≡ 16 * (g .down * g .across) → ⊥) → Rejected 4 ≡ checkedOf fp w h bytes places
-    unfolding gridOf blocksOf
+    unfolding imageGrid blocksOf
     wrong-bytes n = sym (checked-rejected 4 (refused-4 fp w h bytes places f a b (λ e. n (rw l e))) (λ e. omega arith))
 
     pub wrong-places : bytes ≡ 16 * (g .down * g .across) → (places ≡ 4 * (g .height * g .width) → ⊥) → Rejected 5 ≡ checkedOf fp w h bytes places
-    unfolding gridOf blocksOf
+    unfolding imageGrid blocksOf
     wrong-places e n = sym (checked-rejected 5 (refused-5 fp w h bytes places f a b (rw l at e) (λ e. n (rw l e))) (λ e. omega arith))
 
     pub right : bytes ≡ 16 * (g .down * g .across) → places ≡ 4 * (g .height * g .width) → Accepted g ≡ checkedOf fp w h bytes places
-    unfolding gridOf blocksOf
+    unfolding imageGrid blocksOf
     right e p = ap Accepted l ∙ sym (checked-accepted (refused-none fp w h bytes places f a b (rw l at e) (rw l at p)))
 
   pub record Stopped (e : ℕ) : Type 0 where
@@ -189,7 +189,7 @@ module _ (fp w h bytes places : ℕ) where
   pub rejected : (e : ℕ) → checkedOf fp w h bytes places ≡ Rejected e → Stopped e
   rejected e q =
       elim (ℕ-discrete (imageRefusal fp w h bytes places) 0) [
-        | yes z ↦ let k : _≡_ {A = CheckedImage} (Accepted (gridOf fp w h)) (Rejected e) = sym (checked-accepted z) ∙ q in let z2 : _≡_ {A = ℕ} 0 1 = cc in absurd (omega arith)
+        | yes z ↦ let k : _≡_ {A = CheckedImage} (Accepted (imageGrid fp w h)) (Rejected e) = sym (checked-accepted z) ∙ q in let z2 : _≡_ {A = ℕ} 0 1 = cc in absurd (omega arith)
         | no z ↦
             let k : _≡_ {A = CheckedImage} (Rejected (imageRefusal fp w h bytes places)) (Rejected e) = sym (checked-rejected _ refl z) ∙ q in
             let r : imageRefusal fp w h bytes places ≡ e = cc in
@@ -198,18 +198,18 @@ module _ (fp w h bytes places : ℕ) where
 
   pub record Passed (g : ImageGrid) : Type 0 where
     pub none : imageRefusal fp w h bytes places ≡ 0
-    pub layout : g ≡ gridOf fp w h
+    pub layout : g ≡ imageGrid fp w h
     pub is-sound : Sound g
     pub exact-bytes : bytes ≡ 16 * (g .down * g .across)
     pub exact-places : places ≡ 4 * (g .height * g .width)
 
   pub accepted : (g : ImageGrid) → checkedOf fp w h bytes places ≡ Accepted g → Passed g
-  unfolding gridOf blocksOf
+  unfolding imageGrid blocksOf
   accepted g q =
       elim (ℕ-discrete (imageRefusal fp w h bytes places) 0) [
         | yes z ↦
-            let k : _≡_ {A = CheckedImage} (Accepted (gridOf fp w h)) (Accepted g) = sym (checked-accepted z) ∙ q in
-            let r : g ≡ gridOf fp w h = cc in
+            let k : _≡_ {A = CheckedImage} (Accepted (imageGrid fp w h)) (Accepted g) = sym (checked-accepted z) ∙ q in
+            let r : g ≡ imageGrid fp w h = cc in
             let a = accept fp w h bytes places z in
             record {
               none = z;
@@ -256,7 +256,7 @@ module _ (reading : Reading) (fp : ℕ) (kind : Kind) (w h : ℕ) (s old : List 
   pub decoded : (g : ImageGrid) (t : Tally) (new : List ℕ) → checkedOf fp w h (length s) (length old) ≡ Accepted g
       → t ≡ tallyOf (faultAtIn reading (g .footprint) kind s) (g .down * g .across) → new ≡ imageNumbersIn reading (g .footprint) kind (g .width) (g .height) s
       → Promised reading fp kind w h s old (Decoded t) new
-  unfolding imageAnswerIn imageTallyIn gridOf blocksOf
+  unfolding imageAnswerIn imageTallyIn imageGrid blocksOf
   decoded g t new q e n =
       let p = accepted fp w h (length s) (length old) g q in
       promised (Decoded t) new (rw (p .none) (ap Decoded (rw (p .layout) at e))) ((rw (p .layout) at n) ∙ decoded-out (p .none))

@@ -17,7 +17,7 @@ use Rattle.image_layout.specs.declared.ImageAnswer.{ImageAnswer}
 use Rattle.image_layout.specs.declared.ImageAnswer.the-variants.{Refused, Decoded}
 use Rattle.image_layout.specs.declared.CheckedImage.{CheckedImage}
 use Rattle.image_layout.specs.declared.CheckedImage.the-variants.{Rejected, Accepted}
-use Rattle.image_layout.specs.Geometry.{gridOf}
+use Rattle.image_layout.specs.Geometry.{imageGrid}
 use Rattle.image_layout.specs.Numbers.{faultAtIn, imageNumbersIn}
 use Rattle.image_layout.specs.Faulty.{tallyOf}
 
@@ -35,7 +35,7 @@ imageRefusal fp w h bytes places =
 unfoldable pub checkedOf : ℕ → ℕ → ℕ → ℕ → ℕ → CheckedImage
 checkedOf fp w h bytes places =
     let e = imageRefusal fp w h bytes places in
-    pick (eqb e 0) (Accepted (gridOf fp w h)) (Rejected e)
+    pick (eqb e 0) (Accepted (imageGrid fp w h)) (Rejected e)
 
 -- the faults of an image's blocks
 unfoldable pub imageTallyIn : Reading → ℕ → Kind → ℕ → ℕ → List ℕ → Tally

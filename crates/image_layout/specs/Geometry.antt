@@ -6,8 +6,8 @@ use Rattle.image_size.specs.Sides.{blocksAcross}
 use Rattle.image_layout.specs.declared.ImageGrid.{ImageGrid}
 
 -- an image's layout
-unfoldable pub gridOf : ℕ → ℕ → ℕ → ImageGrid
-gridOf fp w h = record {
+unfoldable pub imageGrid : ℕ → ℕ → ℕ → ImageGrid
+imageGrid fp w h = record {
   footprint = fp;
   width = w;
   height = h;

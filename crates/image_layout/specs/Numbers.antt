@@ -42,6 +42,3 @@ imageNumberAt fp kind w s x y c = imageNumberAtIn Ordinary fp kind w s x y c
 -- "Texels of an edge block beyond the picture are dropped"
 unfoldable pub imageNumbersIn : Reading → ℕ → Kind → ℕ → ℕ → List ℕ → List ℕ
 imageNumbersIn reading fp kind w h s = tab (λ n. imageNumberAtIn reading fp kind w s (n / 4 % w) (n / 4 / w) (n % 4)) (4 * (h * w))
-
-abbrev pub imageNumbers : ℕ → Kind → ℕ → ℕ → List ℕ → List ℕ
-imageNumbers fp kind w h s = imageNumbersIn Ordinary fp kind w h s

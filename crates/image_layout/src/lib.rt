@@ -2,7 +2,7 @@
 ghost use mathlib.Core.Path.{_≡_};
 ghost use mathlib.Core.Bool.{false};
 ghost use Prim.Native.Nat.{_^_, _≤_, _<_};
-ghost use Rattle.image_layout.specs.Geometry.{gridOf};
+ghost use Rattle.image_layout.specs.Geometry.{imageGrid};
 ghost use Rattle.image_size.specs.Sides.{blocksAcross, badSide};
 ghost use Rattle.image_layout.specs.Call.{checkedOf};
 ghost use Rattle.image_layout.specs.inner.Noted.{noted};
@@ -55,7 +55,7 @@ pub enum CheckedImage {
 // The layout of an image.
 fn grid_of(footprint: u8, width: u32, height: u32) -> ImageGrid
     requires { ⌜ (footprint < 14) × (badSide width ≡ false) × (badSide height ≡ false) ⌝ }
-    ensures { λ r. ⌜ r ≡ gridOf footprint width height ⌝ }
+    ensures { λ r. ⌜ r ≡ imageGrid footprint width height ⌝ }
 {
     let w = width as usize;
     let h = height as usize;

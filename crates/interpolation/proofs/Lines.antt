@@ -15,7 +15,7 @@ use Rattle.interpolation.specs.declared.Kind.{Kind}
 use Rattle.interpolation.specs.declared.Kind.the-variants.{Unorm16, Srgb8, Float16}
 use Rattle.interpolation.specs.Expansion.{replicated, centred, expandOf, expandedEnd, expandedPair}
 use Rattle.interpolation.specs.Texel.{mixOf, weightOf, channelOf, texelOf}
-use Rattle.interpolation.specs.inner.Line.{times, plus, minus, onLine, lowOf, addOf, startOf, slopeOf, lineOf, lineChannel, lineTexel}
+use Rattle.interpolation.specs.inner.Line.{times, plus, minus, onLine, lowOf, addOf, lineStart, slopeOf, lineOf, lineChannel, lineTexel}
 
 -- a mix t of two bytes, in sixty-fourths, expanded: replicated and centred
 module _ (t : ℕ) (h : t ≤ 16320) where
@@ -103,9 +103,9 @@ module _ (kind : Kind) (p : EndpointPair) (first second component : ℕ) (h0 : (
     go true = refl
     go false = refl
 
-  each : (c : ℕ) → onLine (startOf p c) (slopeOf p c) (lowOf kind) (addOf kind) (at c)
+  each : (c : ℕ) → onLine (lineStart p c) (slopeOf p c) (lowOf kind) (addOf kind) (at c)
       ≡ mixOf (expandOf kind (getD (p .e0) c 0)) (expandOf kind (getD (p .e1) c 0)) (weightOf component one two c .0) % 65536
-  unfolding startOf slopeOf
+  unfolding lineStart slopeOf
   each c = rw (at-is c) (on-kind (getD (p .e0) c 0) (getD (p .e1) c 0) (at c) (h0 c) (h1 c) (at-le c) kind)
 
   pub line-texel : lineTexel kind (lineOf p) first second component ≡ texelOf (expandedPair kind p) (record { 0 = first }) (record { 0 = second }) component

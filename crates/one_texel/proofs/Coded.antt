@@ -19,7 +19,7 @@ use Rattle.partition.proofs.Bounds.{partition-lt, partition-lt-4}
 use Rattle.interpolation.specs.declared.Kind.{Kind}
 use Rattle.interpolation.specs.declared.Texel.{Texel}
 use Rattle.interpolation.specs.Expansion.{takesHdr}
-use Rattle.block_header.specs.declared.Header.{Header}
+use Rattle.block_header.specs.declared.BlockHeader.{BlockHeader}
 use Rattle.block_header.specs.Counts.{weightCount, endpointRangeOf}
 use Rattle.block_fault.specs.Bits.{partitionsAt, headerWith, headerAt, endpointAt, weightAt}
 use Rattle.block_fault.specs.Faults.{faultOf}
@@ -33,7 +33,7 @@ use Rattle.texel_weights.specs.inner.Points.{pointsAt}
 use Rattle.one_texel.specs.declared.OneTexel.{OneTexel}
 use Rattle.one_texel.specs.Texel.{oneTexel}
 
-module _ (fp : ℕ) (h : Header) (l : Limits (h .grid)) (n : weightCount (h .grid) ≤ 64) (x y : ℕ) (hx : x < widthOf fp) (hy : y < heightOf fp) where
+module _ (fp : ℕ) (h : BlockHeader) (l : Limits (h .grid)) (n : weightCount (h .grid) ≤ 64) (x y : ℕ) (hx : x < widthOf fp) (hy : y < heightOf fp) where
   -- the texel's place lies on the grid
   pub column-in : {gs : ℕ} → gs ≡ gridPlace (scaleOf (widthOf fp)) x (h .grid .width) → gs ≤ 16 * (h .grid .width - 1)
   unfolding frameOf
@@ -58,7 +58,7 @@ module _ (fp : ℕ) (h : Header) (l : Limits (h .grid)) (n : weightCount (h .gri
       ∙ rw (ep ∙ which-is h (isSmall fp) x y, ec, es, et) (flat-pair fp kind h _ (weightAt B h) l n flat one x y hx hy)
 
 -- the partition is one of the block's
-module _ (h : Header) (small : Bool) (x y : ℕ) {p : ℕ} (e : p ≡ pick (eqb (h .partitions) 1) 0 (selectBy (seedsOf (h .index) (h .partitions) small) x y)) where
+module _ (h : BlockHeader) (small : Bool) (x y : ℕ) {p : ℕ} (e : p ≡ pick (eqb (h .partitions) 1) 0 (selectBy (seedsOf (h .index) (h .partitions) small) x y)) where
   pub one-of-them : 1 ≤ h .partitions → p < h .partitions
   one-of-them k = rw (e ∙ which-is h small x y) (partition-lt (h .index) (h .partitions) small x y 0 k)
 
@@ -66,7 +66,7 @@ module _ (h : Header) (small : Bool) (x y : ℕ) {p : ℕ} (e : p ≡ pick (eqb 
   one-of-four = rw (e ∙ which-is h small x y) (partition-lt-4 (h .index) (h .partitions) small x y 0)
 
 -- a block has a partition at least
-pub some-partition : (fp B : ℕ) (h : Header) → h ≡ headerAt fp B → 1 ≤ h .partitions
+pub some-partition : (fp B : ℕ) (h : BlockHeader) → h ≡ headerAt fp B → 1 ≤ h .partitions
 unfolding headerAt headerWith partitionsAt
 some-partition fp B h e = rw e (omega arith)
 

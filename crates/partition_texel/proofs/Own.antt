@@ -11,7 +11,7 @@ use lib.ListN.{getD}
 use borrow.Author.Tests.{eq-eqb, ne-eqb, eqb-true}
 use Rattle.laws.specs.Choice.{pick}
 use Rattle.encoding.specs.declared.Level.{Level}
-use Rattle.color_endpoint.specs.Modes.{noLevel, level, mode0, mode1, mode4, mode5, mode6, mode8, mode9, mode10, mode12, mode13, pairOf, isHdr}
+use Rattle.color_endpoint.specs.Modes.{noLevel, levelAt, mode0, mode1, mode4, mode5, mode6, mode8, mode9, mode10, mode12, mode13, pairOf, isHdr}
 use Rattle.color_endpoint.specs.Table.{numberCount}
 use Rattle.half_pair.specs.Pair.{mode11, mode14, mode15, hdrPairOf, expandedHdr, expandedLdr, halfPairOf}
 
@@ -28,7 +28,7 @@ abbrev pub Agree : ℕ → List Level → List Level → Type 0
 Agree mode v w = (k : ℕ) → k < numberCount mode → k < 8 → getD v k noLevel ≡ getD w k noLevel
 
 module _ (mode : ℕ) (v w : List Level) (same : Agree mode v w) where
-  at : (n k : ℕ) → mode ≡ n → k < 2 * (n / 4 + 1) → k < 8 → level v k ≡ level w k
+  at : (n k : ℕ) → mode ≡ n → k < 2 * (n / 4 + 1) → k < 8 → levelAt v k ≡ levelAt w k
   unfolding numberCount
   at n k e h l = ap (λ (x : Level). x .0) (same k (rw e h) l)
 

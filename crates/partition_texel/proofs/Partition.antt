@@ -37,7 +37,7 @@ use Rattle.interpolation.specs.Texel.{mixOf, weightOf, channelOf, texelOf}
 use Rattle.half_pair.specs.Pair.{noHalf, zeroHalf, halfPairOf, halfTableOf}
 use Rattle.half_pair.specs.declared.HalfPair.{HalfPair}
 use Rattle.half_pair.specs.Texel.{halfTexel}
-use Rattle.block_header.specs.declared.Header.{Header}
+use Rattle.block_header.specs.declared.BlockHeader.{BlockHeader}
 use Rattle.block_header.specs.Counts.{endpointCount, endpointRangeOf}
 use Rattle.block_fault.specs.Bits.{endpointsFrom, endpointAt}
 use Rattle.texel.specs.Meaning.{endpointLevels, partitionTexel}
@@ -164,7 +164,7 @@ module _ (kind : Kind) (p : EndpointPair) (first second component : ℕ) where
 
 -- ---- the whole
 
-module _ (B : ℕ) (h : Header) (p : ℕ) (used : p < h .partitions) (four : p < 4) (room : endpointCount h ≤ 18) where
+module _ (B : ℕ) (h : BlockHeader) (p : ℕ) (used : p < h .partitions) (four : p < 4) (room : endpointCount h ≤ 18) where
   abbrev ends : List Level
   ends = endpointLevels (endpointRangeOf h) (endpointAt B h)
 

@@ -1,6 +1,6 @@
 // One texel by its partition: of a block's packed endpoint numbers only that partition's are read, and its pair alone is made.
 use bits::PhysicalBlock;
-use block_header::Header;
+use block_header::BlockHeader;
 use encoding::Level;
 use encoding::LevelPair;
 use endpoint_arithmetic::EndpointPair;
@@ -157,7 +157,7 @@ fn own_texel(kind: Kind, mode: u8, levels: [Level; 18], weights: LevelPair, comp
 // The texel of partition p, by the weights of both planes; `component` takes the second.
 pub fn partition_texel(
     block: PhysicalBlock,
-    h: Header,
+    h: BlockHeader,
     kind: Kind,
     n: u8,
     range: u8,

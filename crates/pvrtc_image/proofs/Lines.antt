@@ -15,7 +15,7 @@ use Rattle.laws.specs.Choice.{pick, both}
 use Rattle.laws.specs.Table.{putFour}
 use Rattle.laws.proofs.Filling.{filled-four, length-four}
 use Rattle.bits.specs.Field.{field}
-use Rattle.pvrtc_texel.specs.Word.{colourA, colourB, weightAt, punched}
+use Rattle.pvrtc_texel.specs.Word.{colourA, colourB, modulationWeight, punched}
 use Rattle.pvrtc_texel.specs.Texel.{lowWord, highWord, relative, interpolated, unorm8, modulated, upscaled, texelAt}
 use Rattle.pvrtc_texel.proofs.Bounds.{mostOf, colour-a-most, colour-b-most, interpolated-most, modulated-byte}
 use Rattle.pvrtc_texel.proofs.Local.{own-low, own-high}

@@ -12,7 +12,7 @@ use Rattle.laws.specs.Choice.{pick, both, all}
 use Rattle.laws.proofs.Computed.{each}
 use Rattle.bits.specs.Field.{field}
 use Rattle.bits.proofs.Fields.{field-lt}
-use Rattle.pvrtc_texel.specs.Word.{channel, threeToFive, fourToFive, alphaToFour, colourA, colourB, punchThrough, modulationAt, weightOf, weightAt, punched}
+use Rattle.pvrtc_texel.specs.Word.{channel, threeToFive, fourToFive, alphaToFour, colourA, colourB, punchThrough, modulationAt, weightOf, modulationWeight, punched}
 use Rattle.pvrtc_texel.specs.Texel.{lowWord, highWord, relative, interpolated, unorm8, modulated, upscaled, texelAt}
 
 -- what a channel of a colour reaches: five bits, alpha four
@@ -118,11 +118,11 @@ unfolding weightOf
 weights-most true k = four-most 4 4 k (omega arith) (omega arith)
 weights-most false k = four-most 3 5 k (omega arith) (omega arith)
 
-pub weight-most : (W x y : ℕ) → weightAt W x y ≤ 8
-unfolding weightAt
+pub weight-most : (W x y : ℕ) → modulationWeight W x y ≤ 8
+unfolding modulationWeight
 weight-most W x y = weights-most (punchThrough W) (modulationAt W x y)
 
-pub modulated-byte : (n m : ℕ) (word : ℕ → ℕ → ℕ) (W i j x y c : ℕ) → modulated (weightAt W i j) (upscaled n m word colourA x y c) (upscaled n m word colourB x y c) ≤ 255
+pub modulated-byte : (n m : ℕ) (word : ℕ → ℕ → ℕ) (W i j x y c : ℕ) → modulated (modulationWeight W i j) (upscaled n m word colourA x y c) (upscaled n m word colourB x y c) ≤ 255
 modulated-byte n m word W i j x y c =
     modulated-most _ _ _ (weight-most W i j) (upscaled-most n m word colourA colour-a-most x y c) (upscaled-most n m word colourB colour-b-most x y c)
 

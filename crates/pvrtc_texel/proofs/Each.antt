@@ -12,7 +12,7 @@ use borrow.Author.Tests.{eqb-true, eqb-false, eq-eqb}
 use Rattle.laws.specs.Choice.{pick, both, all}
 use Rattle.laws.proofs.Computed.{each, both-left, both-right}
 use Rattle.bits.specs.Field.{field}
-use Rattle.pvrtc_texel.specs.Word.{colourA, colourB, punchThrough, modulationAt, weightAt, punched}
+use Rattle.pvrtc_texel.specs.Word.{colourA, colourB, punchThrough, modulationAt, modulationWeight, punched}
 use Rattle.pvrtc_texel.specs.Texel.{lowWord, highWord, relative, interpolated, unorm8, modulated, upscaled, texelAt}
 use Rattle.pvrtc_texel.specs.Counting.{countingAlong}
 use Rattle.pvrtc_texel.proofs.Local.{which}
@@ -33,8 +33,8 @@ red true = refl
 red false = refl
 
 plain : ℕ → ℕ → ℕ → Bool
-unfolding weightAt punched
-plain W i j = both (eqb (weightAt W i j) 0) (not (punched W i j))
+unfolding modulationWeight punched
+plain W i j = both (eqb (modulationWeight W i j) 0) (not (punched W i j))
 
 all-plain : (t : Bool) → T (all (λ i. all (plain (lit t) i) 4) 4)
 unfolding plain field
@@ -49,13 +49,13 @@ module _ (t : Bool) (i j : ℕ) (h : i < 4) (l : j < 4) where
   here : T (plain (lit t) i j)
   here = each (plain (lit t) i) 4 (each (λ a. all (plain (lit t) a) 4) 4 (all-plain t) i h) j l
 
-  no-weight : weightAt (lit t) i j ≡ 0
+  no-weight : modulationWeight (lit t) i j ≡ 0
   unfolding plain
-  no-weight = eqb→eq (weightAt (lit t) i j) 0 (both-left (eqb (weightAt (lit t) i j) 0) _ here)
+  no-weight = eqb→eq (modulationWeight (lit t) i j) 0 (both-left (eqb (modulationWeight (lit t) i j) 0) _ here)
 
   no-punch : punched (lit t) i j ≡ false
   unfolding plain
-  no-punch = not-true (punched (lit t) i j) (both-right (eqb (weightAt (lit t) i j) 0) _ here)
+  no-punch = not-true (punched (lit t) i j) (both-right (eqb (modulationWeight (lit t) i j) 0) _ here)
 
 -- ---- red of a texel where every word is one of the two
 

@@ -13,7 +13,7 @@ use lib.ListN.{length, length-append}
 use borrow.Author.Tests.{eqb-true, eqb-false}
 use Rattle.laws.specs.Choice.{pick}
 use Rattle.pvrtc_order.specs.Order.{wordPlace}
-use Rattle.pvrtc_texel.specs.Word.{colourA, colourB, weightAt, punched}
+use Rattle.pvrtc_texel.specs.Word.{colourA, colourB, modulationWeight, punched}
 use Rattle.pvrtc_texel.specs.Texel.{lowWord, highWord, relative, interpolated, unorm8, modulated, upscaled, texelAt}
 use Rattle.pvrtc_texel.specs.Counting.{countingAlong, placesInRow, placesIn}
 

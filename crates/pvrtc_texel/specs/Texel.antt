@@ -4,7 +4,7 @@ use Prim.Native.Nat.{ℕ, _+_, _-_, _*_, _/_, _%_}
 use mathlib.Core.Bool.{Bool}
 use lib.Dec.{eqb}
 use Rattle.laws.specs.Choice.{pick, both}
-use Rattle.pvrtc_texel.specs.Word.{colourA, colourB, weightAt, punched}
+use Rattle.pvrtc_texel.specs.Word.{colourA, colourB, modulationWeight, punched}
 
 -- along one axis of n words, at texel x: X_Low, "(x - 2) / 4" rounded down, and X_Low + 1; "The texture data words are wrapped toroidally".
 -- X_Low is one less than (x + 2) / 4, and - 1 for the first two texels: n - 1 is added for - 1.
@@ -45,8 +45,8 @@ module _ (n m : ℕ) (word : ℕ → ℕ → ℕ) where
 
   -- channel c of the texel: "The modulation information is retrieved from word W_XMod,YMod where X_Mod is x / 4 and Y_Mod is y / 4"
   unfoldable pub texelAt : ℕ → ℕ → ℕ → ℕ
-  unfolding upscaled modulated weightAt punched colourA colourB
+  unfolding upscaled modulated modulationWeight punched colourA colourB
   texelAt x y c =
       let W = word (x / 4) (y / 4) in
       pick (both (punched W (x % 4) (y % 4)) (eqb c 3)) 0
-      (modulated (weightAt W (x % 4) (y % 4)) (upscaled colourA x y c) (upscaled colourB x y c))
+      (modulated (modulationWeight W (x % 4) (y % 4)) (upscaled colourA x y c) (upscaled colourB x y c))

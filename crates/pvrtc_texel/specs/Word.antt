@@ -51,9 +51,9 @@ modulationAt W x y = field W (2 * (4 * y + x)) 2
 unfoldable pub weightOf : Bool → ℕ → ℕ
 weightOf punch m = getD (pick punch (0 ∷ 4 ∷ 4 ∷ 8 ∷ []) (0 ∷ 3 ∷ 5 ∷ 8 ∷ [])) m 0
 
-unfoldable pub weightAt : ℕ → ℕ → ℕ → ℕ
+unfoldable pub modulationWeight : ℕ → ℕ → ℕ → ℕ
 unfolding weightOf punchThrough modulationAt
-weightAt W x y = weightOf (punchThrough W) (modulationAt W x y)
+modulationWeight W x y = weightOf (punchThrough W) (modulationAt W x y)
 
 -- "If punch-through mode is selected, and the modulation bits for a given pixel have a value of 0b10, the alpha value of the resulting color is 0x00."
 unfoldable pub punched : ℕ → ℕ → ℕ → Bool

@@ -1,7 +1,7 @@
 // A word of PVRTC1, 4 bits per pixel: its colours, four channels in one number each, and a texel from such numbers and its modulation.
 ghost use mathlib.Core.Path.{_≡_};
 ghost use Prim.Native.Nat.{ℕ, _+_, _*_, _≤_, _<_};
-ghost use Rattle.pvrtc_texel.specs.Word.{threeToFive, fourToFive, colourA, colourB, punchThrough, modulationAt, weightOf, weightAt, punched};
+ghost use Rattle.pvrtc_texel.specs.Word.{threeToFive, fourToFive, colourA, colourB, punchThrough, modulationAt, weightOf, modulationWeight, punched};
 ghost use Rattle.pvrtc_texel.specs.Texel.{unorm8, modulated};
 ghost use Rattle.pvrtc_word.specs.inner.Lanes.{lanes, lanesOf, lane, byteOf, rgbaOf};
 ghost use Rattle.laws.specs.Choice.{pick, both};
@@ -136,8 +136,8 @@ fn alpha_byte(clear: bool, weight: u64, a: u64, b: u64) -> u8
 // The texel at offset (x, y) of a word, from the interpolated samples of both colours.
 pub fn texel_of(a: u64, b: u64, w: u64, x: u64, y: u64) -> Rgba
     requires { ⌜ (x < 4) × (y < 4) ⌝ }
-    requires { ⌜ ((c : ℕ) → c < 4 → modulated (weightAt w x y) (unorm8 c (lane a c)) (unorm8 c (lane b c)) ≤ 255) ⌝ }
-    ensures { λ r. ⌜ r ≡ rgbaOf (byteOf a b (weightAt w x y) (punched w x y)) ⌝ }
+    requires { ⌜ ((c : ℕ) → c < 4 → modulated (modulationWeight w x y) (unorm8 c (lane a c)) (unorm8 c (lane b c)) ≤ 255) ⌝ }
+    ensures { λ r. ⌜ r ≡ rgbaOf (byteOf a b (modulationWeight w x y) (punched w x y)) ⌝ }
 {
     let punch = punch_through(w);
     let m = modulation(w, x, y);

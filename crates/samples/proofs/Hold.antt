@@ -17,7 +17,7 @@ use Rattle.bits.specs.Block.{numberOf}
 use Rattle.block_mode.specs.Mode2D.{blockMode}
 use Rattle.volume_mode.specs.Either.{blockModeIn}
 use Rattle.color_endpoint.specs.Table.{numberCount, startOf, numbersFrom, entryBy, tableBy}
-use Rattle.weight_grid.specs.Cell.{weightAt, cellOf}
+use Rattle.weight_grid.specs.Cell.{levelIn, cellOf}
 use Rattle.weight_grid.specs.Bilinear.{infillOf, blendOf, w00, w01, w10, w11}
 use Rattle.partition.specs.Select.{partitionOf}
 use Rattle.block_header.specs.Counts.{endpointRangeOf}
@@ -32,5 +32,5 @@ use Rattle.samples.specs.Samples.{Sample, samples}
 
 -- every sample computes to what is wanted
 pub samples-hold : map (λ (s : Sample). s .computed) samples ≡ map (λ (s : Sample). s .wanted) samples
-unfolding codeOf rangeBits unquantWeight unquantEndpoint bitTransfer baseOf offsetOf pairOf mode1 luminancePair lowLuminance highLuminance expandedPair expandedEnd replicated centred texelOf channelOf mixOf weightOf widthOf footprints scaleOf gridPlace numberOf blockModeIn blockMode isVolume depthOf axesOf extentPlace extentWidth extentMost heightOf endpointRange mode0 numberCount startOf numbersFrom entryBy tableBy weightAt cellOf infillOf blendOf w00 w01 w10 w11 partitionOf endpointRangeOf gridTooLarge tooManyWeights weightBitsOutside fourWithTwoPlanes tooManyEndpoints tooFewEndpointBits isHdr someHdr hdrRefused block.headerAt block.endpointAt block.weightAt extentAt colourAt badExtents badFixed badVoidExtent hdrVoidExtent voidReasons faultOf leadingZeros towardZero unormHalf solidNumber solidTexel errorTexel texelFrom planeWeight secondWeight secondComponent shownChannel blockNumberAt
+unfolding codeOf rangeBits unquantWeight unquantEndpoint bitTransfer baseOf offsetOf pairOf mode1 luminancePair lowLuminance highLuminance expandedPair expandedEnd replicated centred texelOf channelOf mixOf weightOf widthOf footprints scaleOf gridPlace numberOf blockModeIn blockMode isVolume depthOf axesOf extentPlace extentWidth extentMost heightOf endpointRange mode0 numberCount startOf numbersFrom entryBy tableBy levelIn cellOf infillOf blendOf w00 w01 w10 w11 partitionOf endpointRangeOf gridTooLarge tooManyWeights weightBitsOutside fourWithTwoPlanes tooManyEndpoints tooFewEndpointBits isHdr someHdr hdrRefused block.headerAt block.endpointAt block.weightAt extentAt colourAt badExtents badFixed badVoidExtent hdrVoidExtent voidReasons faultOf leadingZeros towardZero unormHalf solidNumber solidTexel errorTexel texelFrom planeWeight secondWeight secondComponent shownChannel blockNumberAt
 samples-hold = refl

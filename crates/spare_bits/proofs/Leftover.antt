@@ -11,19 +11,19 @@ use borrow.Author.Tests.{eq-eqb, ne-eqb, eqb-true, eqb-false}
 use Rattle.bits.specs.Field.{field}
 use Rattle.bits.specs.Block.{blockNumber}
 use Rattle.bits.specs.declared.PhysicalBlock.{PhysicalBlock}
-use Rattle.block_header.specs.declared.Header.{Header}
+use Rattle.block_header.specs.declared.BlockHeader.{BlockHeader}
 use Rattle.block_header.specs.Counts.{weightBits, componentBits, extraBits}
 use Rattle.block_fault.specs.Bits.{endpointsFrom}
 use Rattle.symbolic_block.specs.Writing.{endpointsEnd, componentFrom}
 use Rattle.spare_bits.specs.Spare.{namedBits, spareBits, someSet}
 
 -- all named fields: those up to the end of the endpoint numbers, and those above
-pub named-is : (h : Header) → endpointsEnd h + (weightBits (h .grid) + componentBits (h .grid .planes) + extraBits (h .partitions) (h .selector)) ≡ namedBits h
+pub named-is : (h : BlockHeader) → endpointsEnd h + (weightBits (h .grid) + componentBits (h .grid .planes) + extraBits (h .partitions) (h .selector)) ≡ namedBits h
 unfolding endpointsEnd endpointsFrom namedBits
 named-is h = omega arith
 
 -- what is left of 128, weight bits of more than 1000 clipped
-pub left-is : (h : Header) {end weights component extra : ℕ} → end ≡ endpointsEnd h → weights ≡ min (weightBits (h .grid)) 1000
+pub left-is : (h : BlockHeader) {end weights component extra : ℕ} → end ≡ endpointsEnd h → weights ≡ min (weightBits (h .grid)) 1000
     → component ≡ componentBits (h .grid .planes) → extra ≡ extraBits (h .partitions) (h .selector) → 128 - (end + (weights + component + extra)) ≡ spareBits h
 unfolding spareBits
 left-is h e w c x = rw (e, w, c, x) (omega (arith, named-is h))
@@ -41,7 +41,7 @@ module _ (part : PhysicalBlock) (B p w : ℕ) (e : blockNumber part ≡ field B 
     go false q = rw (ne-eqb (field B p w) 0 (λ z. eqb-false (part .hi) 0 q (omega (arith, e, h, z))))
 
 -- the bits between
-pub between-is : (h : Header) → spareBits h ≡ componentFrom h - endpointsEnd h
+pub between-is : (h : BlockHeader) → spareBits h ≡ componentFrom h - endpointsEnd h
 unfolding spareBits componentFrom
 between-is h = omega (arith, named-is h)
 

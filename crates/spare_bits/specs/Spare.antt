@@ -8,7 +8,7 @@ use lib.Dec.{eqb}
 use Rattle.laws.specs.Choice.{pick}
 use Rattle.bits.specs.Field.{field}
 use Rattle.quantization.specs.Ranges.{rangeBits}
-use Rattle.block_header.specs.declared.Header.{Header}
+use Rattle.block_header.specs.declared.BlockHeader.{BlockHeader}
 use Rattle.block_header.specs.Counts.{weightBits, componentBits, indexBits, selectorBits, extraBits, endpointCount, endpointRangeOf}
 use Rattle.symbolic_block.specs.declared.SymbolicBlock.{SymbolicBlock}
 use Rattle.symbolic_block.specs.Fields.{headerOf}
@@ -17,7 +17,7 @@ use Rattle.spare_bits.specs.declared.Spare.{Spare}
 
 -- "the bits of all named fields" of a mode sheet: the mode, the partitions less one, the partition index, the selector, four mode bits, the
 -- endpoint numbers, the plane channel, the extra mode bits and the weights
-unfoldable pub namedBits : Header → ℕ
+unfoldable pub namedBits : BlockHeader → ℕ
 unfolding indexBits selectorBits rangeBits endpointRangeOf endpointCount componentBits extraBits weightBits
 namedBits h =
     11 + 2
@@ -27,7 +27,7 @@ namedBits h =
     + weightBits (h .grid)
 
 -- "128 less the bits of all named fields"
-unfoldable pub spareBits : Header → ℕ
+unfoldable pub spareBits : BlockHeader → ℕ
 unfolding namedBits
 spareBits h = 128 - namedBits h
 
@@ -37,7 +37,7 @@ unfolding field
 someSet B p w = not (eqb (field B p w) 0)
 
 -- the spare bits of a block with these settings: they begin where the endpoint numbers end
-abbrev pub spareIn : ℕ → Header → Spare
+abbrev pub spareIn : ℕ → BlockHeader → Spare
 spareIn B h = record { count = spareBits h; set = someSet B (endpointsEnd h) (spareBits h) }
 
 -- "0 and clear"

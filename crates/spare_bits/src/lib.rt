@@ -1,6 +1,6 @@
 // The spare bits of a block (02, g): those between endpoints and weights that no field has.
 use bits::PhysicalBlock;
-use block_header::Header;
+use block_header::BlockHeader;
 ghost use mathlib.Core.Path.{_≡_};
 ghost use Prim.Native.Nat.{_≤_};
 ghost use lib.ListN.{length};
@@ -27,7 +27,7 @@ pub fn no_spare() -> Spare
 }
 
 // The bit where the endpoint numbers end, n of a range.
-fn endpoints_end(h: Header, n: u8, range: u8) -> u32
+fn endpoints_end(h: BlockHeader, n: u8, range: u8) -> u32
     requires { ⌜ (endpointCount h ≤ 18) × (n ≡ endpointCount h) × (range ≡ endpointRangeOf h) ⌝ }
     ensures { λ r. ⌜ (r ≡ endpointsEnd h) × (r ≤ 400000) ⌝ }
 {
@@ -37,7 +37,7 @@ fn endpoints_end(h: Header, n: u8, range: u8) -> u32
 
 // How many bits no field has: what is left of 128 beside those below the end of the endpoint numbers, the weights, the plane channel and
 // the extra mode bits.
-fn spare_bits(h: Header, end: u32) -> u8
+fn spare_bits(h: BlockHeader, end: u32) -> u8
     requires { ⌜ (end ≡ endpointsEnd h) × (end ≤ 400000) ⌝ }
     ensures { λ r. ⌜ r ≡ spareBits h ⌝ }
 {
@@ -62,7 +62,7 @@ fn some_set(b: PhysicalBlock, p: u32, n: u8) -> bool
 }
 
 // The spare bits of a coded block.
-pub fn spare_in(b: PhysicalBlock, h: Header, numbers: u8, range: u8) -> Spare
+pub fn spare_in(b: PhysicalBlock, h: BlockHeader, numbers: u8, range: u8) -> Spare
     requires { ⌜ (endpointCount h ≤ 18) × (numbers ≡ endpointCount h) × (range ≡ endpointRangeOf h) ⌝ }
     ensures { λ r. ⌜ r ≡ spareIn (blockNumber b) h ⌝ }
 {

@@ -30,7 +30,7 @@ use Rattle.texel.specs.BlockTexel.{blockTexel, blockChannel, blockInto}
 use Rattle.block_core.specs.inner.Shows.{Shows}
 use Rattle.block_core.specs.declared.Decoded.{Decoded}
 use Rattle.block_core.specs.declared.Decoded.the-variants.{Uniform, Buffered}
-use Rattle.block_buffer.specs.Painted.{numberIn, painted}
+use Rattle.block_buffer.specs.Painted.{texelNumber, painted}
 use Rattle.block_core.proofs.Shows.{shows-fault}
 use Rattle.block_reading.specs.declared.Reading.the-variants.{Strict}
 use Rattle.block_reading.specs.Faults.{canonicalOf, strictFault}
@@ -129,7 +129,7 @@ module _ (fp : ℕ) (kind : Kind) (B : ℕ) where
   -- 21: the error colour
   pub error-into : strictFault (takesHdr kind) fp B ≡ 21 → (t : Texel) → t ≡ errorTexel kind → (old l : List ℕ)
       → l ≡ painted (widthOf fp) (λ x y. t) (texelsOf fp) old → l ≡ intoIn Strict fp kind B old
-  unfolding painted numberIn intoIn channelIn channel
+  unfolding painted texelNumber intoIn channelIn channel
   error-into e t q old l p =
       p ∙ replaced-ext 0 _ _ (4 * texelsOf fp) old (λ k h. ap (λ (u : Texel). channel u (k % 4)) (q ∙ sym (strict-error fp kind B (λ z. omega (arith, z, e)) _ _ _)))
 

@@ -19,7 +19,7 @@ use Rattle.quantization.specs.Ranges.{endpointRange}
 use Rattle.quantization.specs.Unquantise.{unquantEndpoint, unquantWeight}
 use Rattle.quantization.proofs.Levels.{endpoint-le, weight-le}
 use Rattle.partition.proofs.Bounds.{partition-lt, partition-lt-4}
-use Rattle.weight_grid.specs.Cell.{level, weightAt, cellOf}
+use Rattle.weight_grid.specs.Cell.{level, levelIn, cellOf}
 use Rattle.weight_grid.specs.Bilinear.{blendOf, infillOf}
 use Rattle.weight_grid.proofs.Factors.{blend-le}
 use Rattle.footprint.specs.Footprint.{isVolume}
@@ -46,7 +46,7 @@ use Rattle.interpolation.proofs.Laws.{expand-le, channel-whole, weight-none}
 use Rattle.block_header.specs.Counts.{weightCount, endpointCount, bitsLeft, endpointRangeOf}
 use Rattle.texel.specs.Meaning.{endpointLevels, weightLevels, planeWeight, secondWeight, secondComponent, partitionTexel, mixedTexel, texelFrom}
 use Rattle.symbolic_block.specs.declared.SymbolicBlock.{SymbolicBlock}
-use Rattle.symbolic_block.specs.Fields.{gridOf, headerOf, modeIn, endpointIn, weightIn}
+use Rattle.symbolic_block.specs.Fields.{sheetGrid, headerOf, modeIn, endpointIn, weightIn}
 use Rattle.symbolic_block.specs.Picture.{widenedWeight, firstGrid, secondGrid, pointWeight, infillWeight, simplexWeight, placeWeight, numbersOf, numbersOfFirst, bitsLeftOver, rangeOfEndpoints, widenedNumbers, pairChannel, partitionAt, channelGrid, channelAt, mixedPicture}
 use Rattle.symbolic_block.proofs.Room.{pick-le}
 use Rattle.color_endpoint.proofs.Pairs.{Bytes, pair-same, pair-bytes}
@@ -58,11 +58,11 @@ pub record Counted (s : SymbolicBlock) : Type 0 where
   pub planes-most : s .planes ≤ 2
   pub partitions-low : 1 ≤ s .partitions
   pub modes-most : (p : ℕ) → p < 4 → p < s .partitions → modeIn s p ≤ 15
-  pub weights-most : weightCount (gridOf s) ≤ 64
+  pub weights-most : weightCount (sheetGrid s) ≤ 64
   pub numbers-most : endpointCount (headerOf s) ≤ 18
 
 -- numbers in a list of levels up to 255
-levels-le : (g : ℕ → ℕ) → ((i : ℕ) → g i ≤ 255) → (n k : ℕ) → modes.level (tab (λ i. level (g i)) n) k ≤ 255
+levels-le : (g : ℕ → ℕ) → ((i : ℕ) → g i ≤ 255) → (n k : ℕ) → modes.levelAt (tab (λ i. level (g i)) n) k ≤ 255
 levels-le g h n k = tab-all (λ x. x .0 ≤ 255) (λ i. level (g i)) modes.noLevel h (omega arith) n k
 
 -- a flat grid's cells are those of the first layer
@@ -106,11 +106,11 @@ module _ (s : SymbolicBlock) (f : Counted s) where
   abbrev weights : List Level
   weights = weightLevels (s .range) (weightIn s)
 
-  widened-at : (n : ℕ) → n < 64 → weightAt weights n ≡ widenedWeight s n
-  unfolding weightAt weightLevels widenedWeight
+  widened-at : (n : ℕ) → n < 64 → levelIn weights n ≡ widenedWeight s n
+  unfolding levelIn weightLevels widenedWeight
   widened-at n h = ap (λ (l : Level). l .0) (getD-tab (λ i. level (unquantWeight (s .range) (weightIn s i))) 64 n (level 0) h)
 
-  count-is : weightCount (gridOf s) ≡ s .width * s .height * s .depth * s .planes
+  count-is : weightCount (sheetGrid s) ≡ s .width * s .height * s .depth * s .planes
   unfolding weightCount
   count-is = refl
 
@@ -120,7 +120,7 @@ module _ (s : SymbolicBlock) (f : Counted s) where
     unfolding volumeCellOf pointWeight
     point-is x y z = go ((z * s .height + y) * s .width + x) refl (ltb x (s .width)) (ltb y (s .height)) (ltb z (s .depth)) refl refl refl where
       go : (n : ℕ) → n ≡ (z * s .height + y) * s .width + x → (a b c : Bool) → ltb x (s .width) ≡ a → ltb y (s .height) ≡ b → ltb z (s .depth) ≡ c
-          → pick a (pick b (pick c (weightAt weights (n * s .planes + plane)) 0) 0) 0 ≡ pick (both a (both b c)) (grid n) 0
+          → pick a (pick b (pick c (levelIn weights (n * s .planes + plane)) 0) 0) 0 ≡ pick (both a (both b c)) (grid n) 0
       go n e true true true p q r =
           let l = volume-point-lt (s .width) (s .height) (s .depth) x y z (ltb-true x (s .width) p) (ltb-true y (s .height) q) (ltb-true z (s .depth) r) in
           let k : n * s .planes + plane < s .width * s .height * s .depth * s .planes = digits-lt (rw e l) in-planes in
@@ -217,7 +217,7 @@ module _ (s : SymbolicBlock) (f : Counted s) where
     unfolding numbersOfFirst endpointCount
     all-numbers = omega (arith, more-numbers (suc p) (s .partitions) used, first-numbers (s .partitions), f .numbers-most)
 
-    number-is : (k : ℕ) → k < numbersOf s p → modes.level (numbersFrom ends (startOf (s .modes) p)) k ≡ modes.level (widenedNumbers s p) k
+    number-is : (k : ℕ) → k < numbersOf s p → modes.levelAt (numbersFrom ends (startOf (s .modes) p)) k ≡ modes.levelAt (widenedNumbers s p) k
     unfolding numbersFrom endpointLevels widenedNumbers
     number-is k h =
         ap (λ (l : Level). l .0)
@@ -239,7 +239,7 @@ module _ (s : SymbolicBlock) (f : Counted s) where
         table-at halfPairOf zeroHalf (s .modes) ends (s .partitions) p noHalf four ∙ entry-used halfPairOf zeroHalf (s .modes) ends (s .partitions) p used
         ∙ half-same (modeIn s p) (numbersFrom ends (startOf (s .modes) p)) (widenedNumbers s p) number-is
 
-  level-le : (p k : ℕ) → modes.level (widenedNumbers s p) k ≤ 255
+  level-le : (p k : ℕ) → modes.levelAt (widenedNumbers s p) k ≤ 255
   unfolding widenedNumbers
   level-le p k =
       levels-le (λ i. unquantEndpoint (rangeOfEndpoints s) (endpointIn s (numbersOfFirst s p + i))) (λ i. endpoint-le (rangeOfEndpoints s) _) (numbersOf s p) k

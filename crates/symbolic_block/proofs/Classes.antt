@@ -16,7 +16,7 @@ use Rattle.laws.specs.Table.{padded}
 use Rattle.laws.proofs.Filling.{padded-here}
 use Rattle.bits.specs.Field.{field, stream}
 use Rattle.bits.proofs.Fields.{field-lt, field-under, field-above, stream-lt, stream-at}
-use Rattle.block_header.specs.declared.Header.{Header}
+use Rattle.block_header.specs.declared.BlockHeader.{BlockHeader}
 use Rattle.block_header.specs.Counts.{extraBits}
 use Rattle.block_fault.specs.Bits.{modeOf}
 use Rattle.symbolic_block.specs.Refusals.{misfit, modesMisfit}
@@ -79,7 +79,7 @@ by-selector {A} sel f g = go (eqb sel 0) refl where
 
 -- ---- what is written is read
 
-module _ (h : Header) where
+module _ (h : BlockHeader) where
   abbrev class : ℕ → ℕ
   class i = classBit (h .selector) (getD (h .modes) i 0)
 
@@ -140,7 +140,7 @@ module _ (h : Header) where
         mode-many (h .partitions) (h .selector) (modesCode h) i s ∙ rw (class-at i l s, low-at i l s) (omega (arith, b .0, b .1))
 
 -- modes that are not refused fit the selector; with one partition there is none to fit
-pub all-fit : (h : Header) → modesMisfit h ≡ false → (h .partitions ≤ 1 → h .selector ≡ 0)
+pub all-fit : (h : BlockHeader) → modesMisfit h ≡ false → (h .partitions ≤ 1 → h .selector ≡ 0)
     → (i : ℕ) → i < h .partitions → Fits (h .selector) (getD (h .modes) 0 0) (getD (h .modes) i 0)
 unfolding modesMisfit
 all-fit h e one i l = go (ltb 1 (h .partitions)) refl where
@@ -156,7 +156,7 @@ both-none : (a b : Bool) → b ≡ false → both a b ≡ false
 both-none true b e = e
 both-none false b e = refl
 
-pub fit-all : (h : Header) → ((i : ℕ) → i < h .partitions → Fits (h .selector) (getD (h .modes) 0 0) (getD (h .modes) i 0)) → modesMisfit h ≡ false
+pub fit-all : (h : BlockHeader) → ((i : ℕ) → i < h .partitions → Fits (h .selector) (getD (h .modes) 0 0) (getD (h .modes) i 0)) → modesMisfit h ≡ false
 unfolding modesMisfit
 fit-all h f = both-none (ltb 1 (h .partitions)) _ (none-some _ (h .partitions) f)
 

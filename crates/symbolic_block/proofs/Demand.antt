@@ -17,7 +17,7 @@ use Rattle.interpolation.specs.declared.Kind.{Kind}
 use Rattle.interpolation.specs.declared.Kind.the-variants.{Unorm16, Srgb8, Float16}
 use Rattle.interpolation.specs.Expansion.{takesHdr}
 use Rattle.interpolation.specs.declared.Texel.{Texel}
-use Rattle.block_header.specs.declared.Header.{Header}
+use Rattle.block_header.specs.declared.BlockHeader.{BlockHeader}
 use Rattle.block_header.specs.Counts.{weightCount, weightBits, componentBits, extraBits, endpointCount, bitsLeft, endpointRangeOf}
 use Rattle.block_header.specs.Reasons.{tooFewEndpointBits, someHdr}
 use Rattle.block_fault.specs.Bits.{modeAt, isVoid, partitionsAt, modeOf, headerAt, endpointsFrom, endpointAt, weightAt}
@@ -30,7 +30,7 @@ use Rattle.block_fault.proofs.ByKind.{fault-ldr}
 use Rattle.texel.specs.Meaning.{shownChannel}
 use Rattle.texel.specs.BlockTexel.{blockTexel, blockNumberAt}
 use Rattle.symbolic_block.specs.declared.SymbolicBlock.{SymbolicBlock}
-use Rattle.symbolic_block.specs.Fields.{gridOf, headerOf, isMarked, endpointIn, weightIn, Sized, Typed}
+use Rattle.symbolic_block.specs.Fields.{sheetGrid, headerOf, isMarked, endpointIn, weightIn, Sized, Typed}
 use Rattle.symbolic_block.specs.Refusals.{modeRefusals, voidRefusals, refusals, refusalOf, Acceptable}
 use Rattle.symbolic_block.specs.Picture.{pictureOf, pictureNumber}
 use Rattle.symbolic_block.specs.Writing.{endpointsEnd, componentFrom, blockOf}
@@ -197,14 +197,14 @@ module _ (fp : ℕ) (s : SymbolicBlock) (z : Sized s) (a : Acceptable fp s) wher
         (sequenceAt (encodingAt (endpointRangeOf (headerOf s))) (bitsAt (endpointRangeOf (headerOf s))) (blockOf fp s) (endpointsFrom (s .partitions)) (endpointCount (headerOf s)))
     endpoint-codes = rw (block-mode s not-1 fp) (written.endpoint-codes fp s (fine fp s not-1 (mode-none fp s a not-1)) z)
 
-    weight-codes : Smallest (encodingAt (s .range)) (bitsAt (s .range)) (weightCount (gridOf s)) (weightIn s)
-        (sequenceAt (encodingAt (s .range)) (bitsAt (s .range)) (reverse 128 (blockOf fp s)) 0 (weightCount (gridOf s)))
+    weight-codes : Smallest (encodingAt (s .range)) (bitsAt (s .range)) (weightCount (sheetGrid s)) (weightIn s)
+        (sequenceAt (encodingAt (s .range)) (bitsAt (s .range)) (reverse 128 (blockOf fp s)) 0 (weightCount (sheetGrid s)))
     weight-codes = rw (block-mode s not-1 fp) (written.weight-codes fp s (fine fp s not-1 (mode-none fp s a not-1)) z)
 
     spare : field (blockOf fp s) (endpointsEnd (headerOf s)) (componentFrom (headerOf s) - endpointsEnd (headerOf s)) ≡ 0
     spare = rw (block-mode s not-1 fp) (written.spare-zero fp s (fine fp s not-1 (mode-none fp s a not-1)) z)
 
-    smallest-mode : (m : ℕ) → m < 2048 → blockModeIn (isVolume fp) m ≡ Grid (gridOf s) → field (blockOf fp s) 0 11 ≤ m
+    smallest-mode : (m : ℕ) → m < 2048 → blockModeIn (isVolume fp) m ≡ Grid (sheetGrid s) → field (blockOf fp s) 0 11 ≤ m
     smallest-mode = rw (block-mode s not-1 fp) (written.mode-least fp s (fine fp s not-1 (mode-none fp s a not-1)) z)
 
 -- ---- reading
@@ -251,7 +251,7 @@ module _ (fp B : ℕ) (low : fp ≤ 23) (kind : Kind) (k : faultOf (takesHdr kin
   unfolding blockNumberAt
   same-numbers x y z c = ap (λ (t : Texel). shownChannel kind t c) (same-shown x y z)
 
-few : (h : Header) → tooFewEndpointBits h ≡ false → (13 * endpointCount h + 4) / 5 ≤ bitsLeft h
+few : (h : BlockHeader) → tooFewEndpointBits h ≡ false → (13 * endpointCount h + 4) / 5 ≤ bitsLeft h
 unfolding tooFewEndpointBits
 few h e = ltb-false (bitsLeft h) ((13 * endpointCount h + 4) / 5) e
 

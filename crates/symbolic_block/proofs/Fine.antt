@@ -8,15 +8,15 @@ use lib.Dec.{T, ltb, eqb}
 use borrow.Author.Tests.{ltb-false, lt-ltb}
 use Rattle.laws.specs.Choice.{pick, both}
 use Rattle.quantization.specs.Ranges.{mostAt}
-use Rattle.block_mode.specs.declared.ModeBits.{ModeBits}
-use Rattle.block_mode.specs.declared.ModeBits.the-variants.{Mode, NoMode}
+use Rattle.block_mode.specs.declared.FoundMode.{FoundMode}
+use Rattle.block_mode.specs.declared.FoundMode.the-variants.{Mode, NoMode}
 use Rattle.block_mode.specs.Back2D.{Limits}
 use Rattle.footprint.specs.Footprint.{isVolume}
-use Rattle.volume_mode.specs.Either.{isDeep, modeBitsOf}
+use Rattle.volume_mode.specs.Either.{isDeep, blockModeOf}
 use Rattle.block_header.specs.Counts.{weightCount, weightBits, endpointCount, bitsLeft, endpointRangeOf}
 use Rattle.block_header.specs.Reasons.{tooManyWeights, weightBitsOutside, tooManyEndpoints, tooFewEndpointBits, someHdr, hdrRefused}
 use Rattle.symbolic_block.specs.declared.SymbolicBlock.{SymbolicBlock}
-use Rattle.symbolic_block.specs.Fields.{gridOf, headerOf, isMarked, colourIn, extentIn, modeIn, endpointIn, weightIn}
+use Rattle.symbolic_block.specs.Fields.{sheetGrid, headerOf, isMarked, colourIn, extentIn, modeIn, endpointIn, weightIn}
 use Rattle.symbolic_block.specs.Refusals.{within, outside, isNoMode, unknownFootprint, badMark, badHdr, badWidth, badHeight, badDepth, badRange, badPlanes, badComponent, badPartitions, badIndex, badSelector, badModes, someInUse, noBlockMode, modesMisfit, badEndpoints, badWeights, markedWithout, modeRefusals}
 use Rattle.symbolic_block.specs.Writing.{modeNumber}
 use Rattle.laws.proofs.Reasons.{None, none-at, either-none}
@@ -28,9 +28,9 @@ pub record Fine (fp : ℕ) (s : SymbolicBlock) : Type 0 where
   pub mark-0 : s .mark ≡ 0
   pub hdr-most : s .hdr ≤ 1
   pub marked : isMarked s ≡ someHdr (headerOf s)
-  pub limits : Limits (gridOf s)
+  pub limits : Limits (sheetGrid s)
   -- a volume has a deep grid, a flat footprint has not
-  pub deep : isDeep (gridOf s) ≡ isVolume fp
+  pub deep : isDeep (sheetGrid s) ≡ isVolume fp
   pub component-in : s .component ≤ pick (eqb (s .planes) 2) 3 0
   pub partitions-low : 1 ≤ s .partitions
   pub partitions-most : s .partitions ≤ 4
@@ -39,16 +39,16 @@ pub record Fine (fp : ℕ) (s : SymbolicBlock) : Type 0 where
   pub modes-in : T (within 4 (s .partitions) 15 (modeIn s))
   pub colours-0 : T (within 4 0 0 (colourIn s))
   pub extents-0 : T (within 6 0 0 (extentIn s))
-  pub found : modeBitsOf (gridOf s) ≡ Mode (modeNumber (modeBitsOf (gridOf s)))
-  pub count-most : weightCount (gridOf s) ≤ 64
-  pub bits-most : weightBits (gridOf s) ≤ 96
+  pub found : blockModeOf (sheetGrid s) ≡ Mode (modeNumber (blockModeOf (sheetGrid s)))
+  pub count-most : weightCount (sheetGrid s) ≤ 64
+  pub bits-most : weightBits (sheetGrid s) ≤ 96
   pub selected : modesMisfit (headerOf s) ≡ false
   pub numbers-most : endpointCount (headerOf s) ≤ 18
   pub enough : (13 * endpointCount (headerOf s) + 4) / 5 ≤ bitsLeft (headerOf s)
   pub endpoints-in : T (within 18 (endpointCount (headerOf s)) (mostAt (endpointRangeOf (headerOf s))) (endpointIn s))
-  pub weights-in : T (within 64 (weightCount (gridOf s)) (mostAt (s .range)) (weightIn s))
+  pub weights-in : T (within 64 (weightCount (sheetGrid s)) (mostAt (s .range)) (weightIn s))
 
-a-mode : (x : ModeBits) → isNoMode x ≡ false → x ≡ Mode (modeNumber x)
+a-mode : (x : FoundMode) → isNoMode x ≡ false → x ≡ Mode (modeNumber x)
 a-mode (Mode m) e = refl
 a-mode NoMode e = let z : _≡_ {A = Bool} true false = e in absurd (subst T z tt)
 
@@ -87,7 +87,7 @@ fine fp s m n =
     let d = depth-in (isVolume fp) (s .depth) (at 5) in
     let p = either-none (ltb (s .planes) 1) (ltb 2 (s .planes)) (at 7) in
     let q = either-none (ltb (s .partitions) 1) (ltb 4 (s .partitions)) (at 9) in
-    let b = either-none (ltb (weightBits (gridOf s)) 24) (ltb 96 (weightBits (gridOf s))) (at 18) in
+    let b = either-none (ltb (weightBits (sheetGrid s)) 24) (ltb 96 (weightBits (sheetGrid s))) (at 18) in
     record {
       footprint = ltb-false 23 fp (at 0);
       mark-0 = omega (arith, m, ltb-false 1 (s .mark) (at 1));
@@ -113,12 +113,12 @@ fine fp s m n =
       modes-in = not-not (within 4 (s .partitions) 15 (modeIn s)) (at 12);
       colours-0 = not-not (within 4 0 0 (colourIn s)) (at 13);
       extents-0 = not-not (within 6 0 0 (extentIn s)) (at 14);
-      found = a-mode (modeBitsOf (gridOf s)) (at 15);
-      count-most = ltb-false 64 (weightCount (gridOf s)) (at 17);
-      bits-most = ltb-false 96 (weightBits (gridOf s)) (b .1);
+      found = a-mode (blockModeOf (sheetGrid s)) (at 15);
+      count-most = ltb-false 64 (weightCount (sheetGrid s)) (at 17);
+      bits-most = ltb-false 96 (weightBits (sheetGrid s)) (b .1);
       selected = at 20;
       numbers-most = ltb-false 18 (endpointCount (headerOf s)) (at 21);
       enough = ltb-false (bitsLeft (headerOf s)) ((13 * endpointCount (headerOf s) + 4) / 5) (at 22);
       endpoints-in = not-not (within 18 (endpointCount (headerOf s)) (mostAt (endpointRangeOf (headerOf s))) (endpointIn s)) (at 24);
-      weights-in = not-not (within 64 (weightCount (gridOf s)) (mostAt (s .range)) (weightIn s)) (at 25);
+      weights-in = not-not (within 64 (weightCount (sheetGrid s)) (mostAt (s .range)) (weightIn s)) (at 25);
     }

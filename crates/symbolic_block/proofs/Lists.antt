@@ -14,7 +14,7 @@ use Rattle.laws.proofs.Computed.{each}
 use Rattle.laws.proofs.Filling.{Filled, filled-all, getD-tab}
 use Rattle.encoding.specs.declared.Stored.{Stored}
 use Rattle.integer_sequence.specs.Reading.{stored}
-use Rattle.symbolic_block.specs.Fields.{numberIn}
+use Rattle.symbolic_block.specs.Fields.{storedIn}
 use Rattle.symbolic_block.specs.Refusals.{within, someInUse}
 
 pub is-true : (b : Bool) → b ≡ true → T b
@@ -57,14 +57,14 @@ pub tab-back : {A : Type 0} (xs : List A) (f : ℕ → A) (d : A) (N : ℕ) → 
 unfolding Filled
 tab-back xs f d N e h = sym (filled-all f d xs N e h)
 
-pub stored-back : (xs : List Stored) (f : ℕ → ℕ) (N : ℕ) → length xs ≡ N → ((i : ℕ) → i < N → f i ≡ numberIn xs i) → tab (λ i. stored (f i)) N ≡ xs
+pub stored-back : (xs : List Stored) (f : ℕ → ℕ) (N : ℕ) → length xs ≡ N → ((i : ℕ) → i < N → f i ≡ storedIn xs i) → tab (λ i. stored (f i)) N ≡ xs
 stored-back xs f N e h = tab-back xs (λ i. stored (f i)) (stored 0) N e (λ i l. ap stored (sym (h i l)))
 
 -- what a table holds
 pub zero-at : (N i : ℕ) → i < N → _≡_ {A = ℕ} (getD (tab (λ k. 0) N) i 0) 0
 zero-at N i h = getD-tab (λ k. 0) N i 0 h
 
-pub stored-at : (f : ℕ → ℕ) (N i : ℕ) → i < N → numberIn (tab (λ k. stored (f k)) N) i ≡ f i
+pub stored-at : (f : ℕ → ℕ) (N i : ℕ) → i < N → storedIn (tab (λ k. stored (f k)) N) i ≡ f i
 stored-at f N i h = ap (λ (x : Stored). x .0) (getD-tab (λ k. stored (f k)) N i (stored 0) h)
 
 -- a list whose used numbers are those of f
@@ -80,15 +80,15 @@ padded-back xs f N n most e t h = tab-back xs (λ i. pick (ltb i n) (f i) 0) 0 N
 pub zeros-back : (xs : List ℕ) (N : ℕ) → length xs ≡ N → T (within N 0 0 (λ i. getD xs i 0)) → tab (λ i. 0) N ≡ xs
 zeros-back xs N e t = tab-back xs (λ i. 0) 0 N e (λ i h. within-unused N 0 0 _ t i h (omega arith))
 
-pub stored-zeros-back : (xs : List Stored) (N : ℕ) → length xs ≡ N → T (within N 0 0 (numberIn xs)) → tab (λ i. stored 0) N ≡ xs
-stored-zeros-back xs N e t = stored-back xs (λ i. 0) N e (λ i h. sym (within-unused N 0 0 (numberIn xs) t i h (omega arith)))
+pub stored-zeros-back : (xs : List Stored) (N : ℕ) → length xs ≡ N → T (within N 0 0 (storedIn xs)) → tab (λ i. stored 0) N ≡ xs
+stored-zeros-back xs N e t = stored-back xs (λ i. 0) N e (λ i h. sym (within-unused N 0 0 (storedIn xs) t i h (omega arith)))
 
 pub zeros-unused : (N : ℕ) → someInUse N (λ i. getD (tab (λ k. 0) N) i 0) ≡ false
 unfolding someInUse
 zeros-unused N =
     is-within (within N 0 0 (λ i. getD (tab (λ k. 0) N) i 0)) (all-within N 0 0 _ (λ i h l. omega arith) (λ i h l. zero-at N i h))
 
-pub stored-zeros-unused : (N : ℕ) → someInUse N (numberIn (tab (λ k. stored 0) N)) ≡ false
+pub stored-zeros-unused : (N : ℕ) → someInUse N (storedIn (tab (λ k. stored 0) N)) ≡ false
 unfolding someInUse
 stored-zeros-unused N =
-    is-within (within N 0 0 (numberIn (tab (λ k. stored 0) N))) (all-within N 0 0 _ (λ i h l. omega arith) (λ i h l. stored-at (λ k. 0) N i h))
+    is-within (within N 0 0 (storedIn (tab (λ k. stored 0) N))) (all-within N 0 0 _ (λ i h l. omega arith) (λ i h l. stored-at (λ k. 0) N i h))

@@ -23,7 +23,7 @@ use Rattle.integer_sequence.specs.Writing.{packed, values, InRange}
 use Rattle.integer_sequence.proofs.RoundTrip.{packed-lt, round-trip}
 use Rattle.integer_sequence.proofs.Groups.{number-lt}
 use Rattle.integer_sequence.proofs.Search.{value-at}
-use Rattle.symbolic_block.specs.Fields.{numberIn}
+use Rattle.symbolic_block.specs.Fields.{storedIn}
 use Rattle.symbolic_block.specs.Refusals.{within}
 use Rattle.symbolic_block.proofs.Lists.{within-used, within-unused}
 
@@ -42,24 +42,24 @@ module _ (N n k : ℕ) (xs : List Stored) (sized : length xs ≡ N) (some : n �
       subst (λ (m : ℕ). packed (encodingAt k) (bitsAt k) (take n (values xs)) < 2 ^ sequenceBits (encodingAt k) (bitsAt k) m) taken
       (packed-lt (encodingAt k) (bitsAt k) (take n (values xs)))
 
-  pub value : (i : ℕ) → i < n → getD (take n (values xs)) i 0 ≡ numberIn xs i
+  pub value : (i : ℕ) → i < n → getD (take n (values xs)) i 0 ≡ storedIn xs i
   value i l = getD-take n (values xs) i 0 l ∙ value-at xs i
 
-  module _ (t : T (within N n (mostAt k) (numberIn xs))) where
+  module _ (t : T (within N n (mostAt k) (storedIn xs))) where
     pub in-range : InRange (encodingAt k) (bitsAt k) (take n (values xs))
     in-range i h =
         let l : i < n = omega (arith, taken) in
-        rw (value i l) (most-lt k (numberIn xs i) (within-used N n (mostAt k) (numberIn xs) t i (omega arith) l))
+        rw (value i l) (most-lt k (storedIn xs i) (within-used N n (mostAt k) (storedIn xs) t i (omega arith) l))
 
     -- what was packed is read back, and 0 past the last
     pub packed-back : (v : ℕ) → v ≡ packed (encodingAt k) (bitsAt k) (take n (values xs))
-        → (i : ℕ) → i < N → pick (ltb i n) (number (encodingAt k) (bitsAt k) v i) 0 ≡ numberIn xs i
+        → (i : ℕ) → i < N → pick (ltb i n) (number (encodingAt k) (bitsAt k) v i) 0 ≡ storedIn xs i
     packed-back v e i h = go (ltb i n) refl where
-      go : (b : Bool) → ltb i n ≡ b → pick (ltb i n) (number (encodingAt k) (bitsAt k) v i) 0 ≡ numberIn xs i
+      go : (b : Bool) → ltb i n ≡ b → pick (ltb i n) (number (encodingAt k) (bitsAt k) v i) 0 ≡ storedIn xs i
       go true q =
           let l : i < n = ltb-true i n q in
           rw (q, e) (round-trip (encodingAt k) (bitsAt k) (take n (values xs)) in-range i (omega (arith, taken)) ∙ value i l)
-      go false q = rw q (sym (within-unused N n (mostAt k) (numberIn xs) t i h (ltb-false i n q)))
+      go false q = rw q (sym (within-unused N n (mostAt k) (storedIn xs) t i h (ltb-false i n q)))
 
 -- the low bits of the reversed block are its high bits, reversed
 pub reverse-top : (k w b : ℕ) → w ≤ k → b < 2 ^ k → field (reverse k b) 0 w ≡ reverse w (field b (k - w) w)

@@ -13,7 +13,7 @@ use Rattle.quantization.specs.Ranges.{encodingAt, bitsAt, rangeBits}
 use Rattle.integer_sequence.specs.Reading.{number}
 use Rattle.block_mode.specs.declared.BlockMode.{BlockMode}
 use Rattle.block_mode.specs.declared.BlockMode.the-variants.{VoidExtent, Reserved, Grid}
-use Rattle.block_header.specs.declared.Header.{Header}
+use Rattle.block_header.specs.declared.BlockHeader.{BlockHeader}
 use Rattle.block_header.specs.Counts.{weightCount, weightBits, endpointCount, endpointRangeOf}
 use Rattle.block_header.specs.Reasons.{gridReasons, endpointReasons}
 use Rattle.laws.specs.Reasons.{Reason, firstOf}
@@ -114,7 +114,7 @@ pub void-no-fault : (fp B : ℕ) → isVoid (modeAt fp B) ≡ true → badVoidEx
 unfolding voidReasons
 void-no-fault fp B v a = fault-void fp B v ∙ none-first (voidReasons true fp B) (a, (refl, tt))
 
-abbrev pub modeFaults : ℕ → Header → List Reason
+abbrev pub modeFaults : ℕ → BlockHeader → List Reason
 modeFaults fp h = gridReasons fp h (endpointReasons true h [])
 
 pub no-mode-fault : (fp B : ℕ) → isVoid (modeAt fp B) ≡ false → faultOf true fp B ≡ 0 → (isReserved (modeAt fp B) ≡ false) × None (modeFaults fp (headerAt fp B))
@@ -131,13 +131,13 @@ pub header-is : (fp B : ℕ) → headerAt fp B ≡ headerWith B (gridIn (modeAt 
 unfolding headerAt
 header-is fp B = refl
 
-pub endpoint-is : (B : ℕ) (h : Header) (i : ℕ) → endpointAt B h i
+pub endpoint-is : (B : ℕ) (h : BlockHeader) (i : ℕ) → endpointAt B h i
     ≡ pick (ltb i (endpointCount h)) (number (encodingAt (endpointRangeOf h)) (bitsAt (endpointRangeOf h))
     (field B (endpointsFrom (h .partitions)) (rangeBits (endpointRangeOf h) (endpointCount h))) i) 0
 unfolding endpointAt rangeBits
 endpoint-is B h i = refl
 
-pub weight-is : (B : ℕ) (h : Header) (i : ℕ) → weightAt B h i
+pub weight-is : (B : ℕ) (h : BlockHeader) (i : ℕ) → weightAt B h i
     ≡ pick (ltb i (weightCount (h .grid))) (number (encodingAt (h .grid .range)) (bitsAt (h .grid .range))
     (field (reverse 128 B) 0 (weightBits (h .grid))) i) 0
 unfolding weightAt weightBits rangeBits

@@ -19,16 +19,16 @@ use Rattle.integer_sequence.specs.Reading.{stored}
 use Rattle.block_mode.specs.declared.WeightGrid.{WeightGrid}
 use Rattle.block_mode.specs.declared.BlockMode.the-variants.{Grid}
 use Rattle.footprint.specs.Footprint.{isVolume}
-use Rattle.volume_mode.specs.Either.{blockModeIn, isDeep, modeBitsOf}
+use Rattle.volume_mode.specs.Either.{blockModeIn, isDeep, blockModeOf}
 use Rattle.block_mode.specs.Back2D.{Limits}
 use Rattle.volume_mode.proofs.Modes.{mode-limits, mode-found, mode-deep}
-use Rattle.block_header.specs.declared.Header.{Header}
+use Rattle.block_header.specs.declared.BlockHeader.{BlockHeader}
 use Rattle.block_header.specs.Counts.{weightCount, weightBits, componentBits, indexBits, selectorBits, extraBits, endpointCount, endpointRangeOf}
 use Rattle.block_header.specs.Reasons.{someHdr, hdrRefused}
 use Rattle.block_fault.specs.Bits.{modeAt, isVoid, isReserved, gridIn, partitionsAt, indexAt, selectorAt, baseAt, extraAt, componentAt, modeOf, headerWith, headerAt, endpointAt, weightAt}
 use Rattle.block_fault.proofs.Verdicts.{a-grid}
 use Rattle.symbolic_block.specs.declared.SymbolicBlock.{SymbolicBlock}
-use Rattle.symbolic_block.specs.Fields.{numberIn, Sized}
+use Rattle.symbolic_block.specs.Fields.{storedIn, Sized}
 use Rattle.symbolic_block.specs.Refusals.{within, outside, noBlockMode, modesMisfit, unknownFootprint, badMark, badHdr, badWidth, badHeight, badDepth, badRange, badPlanes, badComponent, badPartitions, badIndex, badSelector, badModes, badEndpoints, badWeights, markedWithout, modeRefusals}
 use Rattle.symbolic_block.specs.Reading.{modeBlock}
 use Rattle.laws.proofs.Reasons.{None, _also_, none-at, none-either}
@@ -39,7 +39,7 @@ use Rattle.symbolic_block.proofs.Opened.{modeFaults, header-is, endpoin
 use Rattle.symbolic_block.proofs.Room.{index-le, selector-le, component-le, pick-le}
 
 -- what every header is that is read
-pub record Settled (fp : ℕ) (h : Header) : Type 0 where
+pub record Settled (fp : ℕ) (h : BlockHeader) : Type 0 where
   pub coded : noBlockMode (h .grid) ≡ false
   pub deep : isDeep (h .grid) ≡ isVolume fp
   pub limits : Limits (h .grid)
@@ -119,23 +119,23 @@ module _ (fp B : ℕ) (v : isVoid (modeAt fp B) ≡ false) (r : isReserved (mode
 
 -- ---- the numbers
 
-pub endpoint-most : (B : ℕ) (h : Header) (i : ℕ) → i < endpointCount h → endpointAt B h i ≤ mostAt (endpointRangeOf h)
+pub endpoint-most : (B : ℕ) (h : BlockHeader) (i : ℕ) → i < endpointCount h → endpointAt B h i ≤ mostAt (endpointRangeOf h)
 endpoint-most B h i l = rw (endpoint-is B h i, lt-ltb i (endpointCount h) l) (number-most (endpointRangeOf h) _ i)
 
-pub endpoint-past : (B : ℕ) (h : Header) (i : ℕ) → endpointCount h ≤ i → endpointAt B h i ≡ 0
+pub endpoint-past : (B : ℕ) (h : BlockHeader) (i : ℕ) → endpointCount h ≤ i → endpointAt B h i ≡ 0
 endpoint-past B h i l = rw (endpoint-is B h i, le-ltb i (endpointCount h) l)
 
-pub weight-most : (B : ℕ) (h : Header) (i : ℕ) → i < weightCount (h .grid) → weightAt B h i ≤ mostAt (h .grid .range)
+pub weight-most : (B : ℕ) (h : BlockHeader) (i : ℕ) → i < weightCount (h .grid) → weightAt B h i ≤ mostAt (h .grid .range)
 weight-most B h i l = rw (weight-is B h i, lt-ltb i (weightCount (h .grid)) l) (number-most (h .grid .range) _ i)
 
-pub weight-past : (B : ℕ) (h : Header) (i : ℕ) → weightCount (h .grid) ≤ i → weightAt B h i ≡ 0
+pub weight-past : (B : ℕ) (h : BlockHeader) (i : ℕ) → weightCount (h .grid) ≤ i → weightAt B h i ≡ 0
 weight-past B h i l = rw (weight-is B h i, le-ltb i (weightCount (h .grid)) l)
 
 -- a list of stored numbers that f gives
 stored-within : (N n most : ℕ) (f : ℕ → ℕ) → ((i : ℕ) → i < n → f i ≤ most) → ((i : ℕ) → n ≤ i → f i ≡ 0)
-    → not (within N n most (numberIn (tab (λ i. stored (f i)) N))) ≡ false
+    → not (within N n most (storedIn (tab (λ i. stored (f i)) N))) ≡ false
 stored-within N n most f u p =
-    is-within (within N n most (numberIn (tab (λ i. stored (f i)) N)))
+    is-within (within N n most (storedIn (tab (λ i. stored (f i)) N)))
     (all-within N n most _ (λ i l m. rw (stored-at f N i l) (u i m)) (λ i l m. stored-at f N i l ∙ p i m))
 
 -- ---- the whole
@@ -161,7 +161,7 @@ mark-earned : (b : Bool) → both (eqb (pick b 1 0) 1) (not b) ≡ false
 mark-earned true = refl
 mark-earned false = refl
 
-module _ (B : ℕ) (h : Header) where
+module _ (B : ℕ) (h : BlockHeader) where
   abbrev read : SymbolicBlock
   read = modeBlock h (endpointAt B h) (weightAt B h)
 

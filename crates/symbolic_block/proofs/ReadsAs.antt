@@ -17,7 +17,7 @@ use Rattle.block_fault.specs.Bits.{modeAt, isVoid, partitionsAt, modeOf, header
 use Rattle.footprint.specs.Footprint.{isVolume}
 use Rattle.void_extent.specs.Layout.{extentAt, colourAt}
 use Rattle.symbolic_block.specs.declared.SymbolicBlock.{SymbolicBlock}
-use Rattle.symbolic_block.specs.Fields.{numberIn, Sized}
+use Rattle.symbolic_block.specs.Fields.{storedIn, Sized}
 use Rattle.symbolic_block.specs.Reading.{modeBlock, voidBlock, readBlock, selectorIn, modesCodeIn, ReadsAs}
 use Rattle.symbolic_block.proofs.Lists.{zero-at, stored-at}
 use Rattle.symbolic_block.proofs.Opened.{read-void, read-mode}
@@ -86,7 +86,7 @@ module _ (fp B : ℕ) where
     list : (xs ys : List ℕ) (N : ℕ) → length xs ≡ N → length ys ≡ N → ((i : ℕ) → i < N → getD xs i 0 ≡ getD ys i 0) → xs ≡ ys
     list xs ys N e f h = ext-getD 0 xs ys (e ∙ sym f) (λ i l. h i (omega arith))
 
-    stored-list : (xs ys : List Stored) (N : ℕ) → length xs ≡ N → length ys ≡ N → ((i : ℕ) → i < N → numberIn xs i ≡ numberIn ys i) → xs ≡ ys
+    stored-list : (xs ys : List Stored) (N : ℕ) → length xs ≡ N → length ys ≡ N → ((i : ℕ) → i < N → storedIn xs i ≡ storedIn ys i) → xs ≡ ys
     stored-list xs ys N e f h = ext-getD (stored 0) xs ys (e ∙ sym f) (λ i l. ap stored (h i (omega arith)))
 
     pub reads-same : s ≡ t

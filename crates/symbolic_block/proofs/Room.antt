@@ -11,7 +11,7 @@ use Rattle.laws.specs.Choice.{pick}
 use Rattle.quantization.specs.Ranges.{rangeBits}
 use Rattle.quantization.proofs.Ranges.{endpoint-range-largest}
 use Rattle.color_endpoint.specs.Table.{numberCount, startOf}
-use Rattle.block_header.specs.declared.Header.{Header}
+use Rattle.block_header.specs.declared.BlockHeader.{BlockHeader}
 use Rattle.block_header.specs.Counts.{weightBits, componentBits, indexBits, selectorBits, extraBits, endpointCount, bitsLeft, endpointRangeOf}
 use Rattle.block_fault.specs.Bits.{endpointsFrom}
 use Rattle.symbolic_block.specs.Writing.{endpointsEnd, componentFrom}
@@ -94,7 +94,7 @@ unfolding startOf numberCount
 count-pos modes zero h = omega arith
 count-pos modes (suc p) h = omega arith
 
-module _ (h : Header) (some : 1 ≤ h .partitions) (enough : (13 * endpointCount h + 4) / 5 ≤ bitsLeft h) where
+module _ (h : BlockHeader) (some : 1 ≤ h .partitions) (enough : (13 * endpointCount h + 4) / 5 ≤ bitsLeft h) where
   abbrev above : ℕ
   above = weightBits (h .grid) + componentBits (h .grid .planes) + extraBits (h .partitions) (h .selector)
 

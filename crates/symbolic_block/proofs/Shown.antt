@@ -18,7 +18,7 @@ use Rattle.interpolation.specs.Expansion.{takesHdr}
 use Rattle.half_float.specs.Half.{unormHalf}
 use Rattle.half_pair.specs.Texel.{solidHalf}
 use Rattle.bits.specs.Field.{field}
-use Rattle.block_header.specs.declared.Header.{Header}
+use Rattle.block_header.specs.declared.BlockHeader.{BlockHeader}
 use Rattle.block_header.specs.Counts.{weightCount, endpointCount, endpointRangeOf}
 use Rattle.block_header.specs.Reasons.{tooManyWeights, tooManyEndpoints}
 use Rattle.block_fault.specs.Bits.{modeAt, isVoid, headerAt, endpointAt, weightAt}
@@ -28,7 +28,7 @@ use Rattle.block_fault.specs.Faults.{faultOf}
 use Rattle.texel.specs.Meaning.{endpointLevels, weightLevels, mixedTexel, texelFrom, solidNumber, solidTexel}
 use Rattle.texel.specs.BlockTexel.{blockTexel}
 use Rattle.symbolic_block.specs.declared.SymbolicBlock.{SymbolicBlock}
-use Rattle.symbolic_block.specs.Fields.{isMarked, numberIn, colourIn}
+use Rattle.symbolic_block.specs.Fields.{isMarked, storedIn, colourIn}
 use Rattle.symbolic_block.specs.Picture.{solidChannel, solidPicture, pictureOf}
 use Rattle.symbolic_block.specs.Reading.{modeBlock, voidBlock, readBlock}
 use Rattle.laws.proofs.Reasons.{None, none-at}
@@ -51,7 +51,7 @@ weights-same range f g h =
     tab-ext (λ i. level (unquantWeight range (f i))) (λ i. level (unquantWeight range (g i))) (level 0) 64
     (λ i l. ap (λ (x : ℕ). level (unquantWeight range x)) (h i l))
 
-pub texel-same : (fp : ℕ) (kind : Kind) (h : Header) (e f v w : ℕ → ℕ) (x y z : ℕ) → ((i : ℕ) → i < 18 → e i ≡ f i) → ((i : ℕ) → i < 64 → v i ≡ w i)
+pub texel-same : (fp : ℕ) (kind : Kind) (h : BlockHeader) (e f v w : ℕ → ℕ) (x y z : ℕ) → ((i : ℕ) → i < 18 → e i ≡ f i) → ((i : ℕ) → i < 64 → v i ≡ w i)
     → texelFrom fp kind h e v x y z ≡ texelFrom fp kind h f w x y z
 unfolding texelFrom
 texel-same fp kind h e f v w x y z p q =
@@ -88,17 +88,17 @@ module _ (fp : ℕ) (kind : Kind) (B x y z : ℕ) where
       picture-void (voidBlock (field B 9 1) (colourAt B) (extentAt (isVolume fp) B)) refl fp kind x y z
       ∙ solid-same kind (voidBlock (field B 9 1) (colourAt B) (extentAt (isVolume fp) B)) (colourAt B) (λ i h. getD-tab (colourAt B) 4 i 0 h)
 
-  mode-picture : (h : Header) → Counted (modeBlock h (endpointAt B h) (weightAt B h))
+  mode-picture : (h : BlockHeader) → Counted (modeBlock h (endpointAt B h) (weightAt B h))
       → pictureOf fp kind (modeBlock h (endpointAt B h) (weightAt B h)) x y z ≡ texelFrom fp kind h (endpointAt B h) (weightAt B h) x y z
   unfolding modeBlock
   mode-picture h c =
       picture-mode (modeBlock h (endpointAt B h) (weightAt B h)) (λ e. omega (arith, e)) fp kind x y z
       ∙ agrees (modeBlock h (endpointAt B h) (weightAt B h)) c fp kind x y z
-      ∙ texel-same fp kind h (numberIn (tab (λ i. stored (endpointAt B h i)) 18)) (endpointAt B h)
-      (numberIn (tab (λ i. stored (weightAt B h i)) 64)) (weightAt B h) x y z (stored-at (endpointAt B h) 18) (stored-at (weightAt B h) 64)
+      ∙ texel-same fp kind h (storedIn (tab (λ i. stored (endpointAt B h i)) 18)) (endpointAt B h)
+      (storedIn (tab (λ i. stored (weightAt B h i)) 64)) (weightAt B h) x y z (stored-at (endpointAt B h) 18) (stored-at (weightAt B h) 64)
 
   -- the settings of a block without fault
-  counted : (h : Header) → Settled fp h → None (modeFaults fp h) → Counted (modeBlock h (endpointAt B h) (weightAt B h))
+  counted : (h : BlockHeader) → Settled fp h → None (modeFaults fp h) → Counted (modeBlock h (endpointAt B h) (weightAt B h))
   unfolding modeBlock tooManyWeights tooManyEndpoints
   counted h i n = record {
     depth-low = i .limits .depth-low;

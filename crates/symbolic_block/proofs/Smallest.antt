@@ -19,7 +19,7 @@ use Rattle.integer_sequence.proofs.Codes.{codes}
 use Rattle.integer_sequence.proofs.Places.{code-lt}
 use Rattle.integer_sequence.proofs.Search.{begins-all, code-least}
 use Rattle.integer_sequence.proofs.RoundTrip.{count, digit-at, code-is, digit-is}
-use Rattle.symbolic_block.specs.Fields.{numberIn}
+use Rattle.symbolic_block.specs.Fields.{storedIn}
 use Rattle.symbolic_block.specs.Refusals.{within}
 use Rattle.symbolic_block.proofs.Numbers.{taken, in-range, value}
 
@@ -36,8 +36,8 @@ module _ (e : Encoding) (b : ℕ) (xs : List ℕ) (fit : InRange e b xs) (g t : 
       here k m = h k (omega (arith, count e b xs g)) (omega (arith, count e b xs g)) ∙ sym (digit-at e b xs g k m)
 
 -- n used ones of N stored numbers of range k, packed
-module _ (N n k : ℕ) (xs : List Stored) (sized : length xs ≡ N) (some : n ≤ N) (t : T (within N n (mostAt k) (numberIn xs))) where
-  pub smallest : (v : ℕ) → v ≡ packed (encodingAt k) (bitsAt k) (take n (values xs)) → Smallest (encodingAt k) (bitsAt k) n (numberIn xs) v
+module _ (N n k : ℕ) (xs : List Stored) (sized : length xs ≡ N) (some : n ≤ N) (t : T (within N n (mostAt k) (storedIn xs))) where
+  pub smallest : (v : ℕ) → v ≡ packed (encodingAt k) (bitsAt k) (take n (values xs)) → Smallest (encodingAt k) (bitsAt k) n (storedIn xs) v
   unfolding groupCode
   smallest v e = rw e (record { wanted = wanted; least = least }) where
     fit : InRange (encodingAt k) (bitsAt k) (take n (values xs))
@@ -46,13 +46,13 @@ module _ (N n k : ℕ) (xs : List Stored) (sized : length xs ≡ N) (some : n �
     len : length (take n (values xs)) ≡ n
     len = taken N n k xs sized some
 
-    wanted : (i : ℕ) → i < n → digit (encodingAt k) (codeAt (encodingAt k) (bitsAt k) (packed (encodingAt k) (bitsAt k) (take n (values xs))) (i / groupSize (encodingAt k))) (i % groupSize (encodingAt k)) ≡ numberIn xs i / 2 ^ bitsAt k
+    wanted : (i : ℕ) → i < n → digit (encodingAt k) (codeAt (encodingAt k) (bitsAt k) (packed (encodingAt k) (bitsAt k) (take n (values xs))) (i / groupSize (encodingAt k))) (i % groupSize (encodingAt k)) ≡ storedIn xs i / 2 ^ bitsAt k
     wanted i h =
         ap (λ (c : ℕ). digit (encodingAt k) c (i % groupSize (encodingAt k))) (code-is (encodingAt k) (bitsAt k) (take n (values xs)) fit (i / groupSize (encodingAt k)))
         ∙ digit-is (encodingAt k) (bitsAt k) (take n (values xs)) fit i (omega (arith, len))
         ∙ ap (λ (c : ℕ). c / 2 ^ bitsAt k) (value N n k xs sized some i h)
 
-    least : (g u : ℕ) → ((j : ℕ) → j < groupSize (encodingAt k) → g * groupSize (encodingAt k) + j < n → digit (encodingAt k) u j ≡ numberIn xs (g * groupSize (encodingAt k) + j) / 2 ^ bitsAt k)
+    least : (g u : ℕ) → ((j : ℕ) → j < groupSize (encodingAt k) → g * groupSize (encodingAt k) + j < n → digit (encodingAt k) u j ≡ storedIn xs (g * groupSize (encodingAt k) + j) / 2 ^ bitsAt k)
         → codeAt (encodingAt k) (bitsAt k) (packed (encodingAt k) (bitsAt k) (take n (values xs))) g ≤ u
     least g u h =
         least-of (encodingAt k) (bitsAt k) (take n (values xs)) fit g u

@@ -17,7 +17,7 @@ use Rattle.footprint.specs.Footprint.{isVolume}
 use Rattle.void_extent.specs.Layout.{axesOf, extentMost}
 use Rattle.block_header.specs.Counts.{weightCount, endpointCount, endpointRangeOf}
 use Rattle.symbolic_block.specs.declared.SymbolicBlock.{SymbolicBlock}
-use Rattle.symbolic_block.specs.Fields.{gridOf, headerOf, colourIn, extentIn, modeIn, numberIn, endpointIn, weightIn, Sized, Typed}
+use Rattle.symbolic_block.specs.Fields.{sheetGrid, headerOf, colourIn, extentIn, modeIn, storedIn, endpointIn, weightIn, Sized, Typed}
 use Rattle.symbolic_block.specs.Refusals.{within, someInUse, voidRefusals}
 use Rattle.laws.proofs.Reasons.{None, none-at}
 use Rattle.symbolic_block.proofs.Lists.{not-not, within-used, within-unused}
@@ -36,7 +36,7 @@ module _ (N n most : ℕ) (x : ℕ → ℕ) (t : T (within N n most x)) where
 past-list : (xs : List ℕ) (N : ℕ) → length xs ≡ N → (i : ℕ) → N ≤ i → getD xs i 0 ≡ 0
 past-list xs N e i h = List·getD-eq-default xs 0 {n = i} (omega arith)
 
-past-stored : (xs : List Stored) (N : ℕ) → length xs ≡ N → (i : ℕ) → N ≤ i → numberIn xs i ≡ 0
+past-stored : (xs : List Stored) (N : ℕ) → length xs ≡ N → (i : ℕ) → N ≤ i → storedIn xs i ≡ 0
 past-stored xs N e i h = ap (λ (s : Stored). s .0) (List·getD-eq-default xs (stored 0) {n = i} (omega arith))
 
 pub mode-typed : (fp : ℕ) (s : SymbolicBlock) → Fine fp s → Sized s → Typed s
@@ -65,7 +65,7 @@ mode-typed fp s f z = record {
       omega (
         arith,
         most-le (s .range),
-        bounded 64 (weightCount (gridOf s)) (mostAt (s .range)) (weightIn s) (f .weights-in) (past-stored (s .weights) 64 (z .weights-64)) i,
+        bounded 64 (weightCount (sheetGrid s)) (mostAt (s .range)) (weightIn s) (f .weights-in) (past-stored (s .weights) 64 (z .weights-64)) i,
       );
 }
 

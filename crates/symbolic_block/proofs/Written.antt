@@ -17,15 +17,15 @@ use Rattle.quantization.specs.Ranges.{encodingAt, bitsAt, rangeBits}
 use Rattle.integer_sequence.specs.Reading.{sequenceAt}
 use Rattle.block_mode.specs.declared.BlockMode.the-variants.{Grid}
 use Rattle.footprint.specs.Footprint.{isVolume}
-use Rattle.volume_mode.specs.Either.{blockModeIn, isDeep, modeBitsOf}
+use Rattle.volume_mode.specs.Either.{blockModeIn, isDeep, blockModeOf}
 use Rattle.volume_mode.proofs.Modes.{found-mode, least-mode}
-use Rattle.block_header.specs.declared.Header.{Header}
+use Rattle.block_header.specs.declared.BlockHeader.{BlockHeader}
 use Rattle.block_header.specs.Counts.{weightCount, weightBits, extraBits, endpointCount, endpointRangeOf}
 use Rattle.block_header.specs.Reasons.{someHdr, hdrRefused}
 use Rattle.block_fault.specs.Bits.{modeAt, isVoid, partitionsAt, indexAt, selectorAt, baseAt, extraAt, componentAt, modeOf, headerWith, headerAt, endpointsFrom, endpointAt, weightAt}
 use Rattle.block_fault.specs.Faults.{faultOf}
 use Rattle.symbolic_block.specs.declared.SymbolicBlock.{SymbolicBlock}
-use Rattle.symbolic_block.specs.Fields.{gridOf, headerOf, modeIn, endpointIn, weightIn, Sized}
+use Rattle.symbolic_block.specs.Fields.{sheetGrid, headerOf, modeIn, endpointIn, weightIn, Sized}
 use Rattle.symbolic_block.specs.Refusals.{modeRefusals}
 use Rattle.bits.specs.Cells.{cell, laid}
 use Rattle.symbolic_block.specs.Writing.{modeNumber, modesCode, endpointStream, weightStream, endpointsEnd, componentFrom, modeCells}
@@ -47,7 +47,7 @@ mark-back x true l e = sym (eqb-true x 1 e)
 mark-back x false l e = let q : 0 ≡ x = omega (arith, eqb-false x 1 e) in q
 
 module _ (fp : ℕ) (s : SymbolicBlock) (f : Fine fp s) (z : Sized s) where
-  abbrev h : Header
+  abbrev h : BlockHeader
   h = headerOf s
 
   abbrev b : ℕ
@@ -60,16 +60,16 @@ module _ (fp : ℕ) (s : SymbolicBlock) (f : Fine fp s) (z : Sized s) where
       code-lt h (several (s .partitions) (s .selector) (f .selector-in) (f .partitions-low))
       (within-used 4 (s .partitions) 15 (modeIn s) (f .modes-in) 0 (omega arith) (f .partitions-low))
 
-  weights< : weightStream s < 2 ^ weightBits (gridOf s)
+  weights< : weightStream s < 2 ^ weightBits (sheetGrid s)
   unfolding weightStream weightBits
-  weights< = packed-size 64 (weightCount (gridOf s)) (s .range) (s .weights) (z .weights-64) (f .count-most)
+  weights< = packed-size 64 (weightCount (sheetGrid s)) (s .range) (s .weights) (z .weights-64) (f .count-most)
 
   endpoints< : endpointStream s < 2 ^ rangeBits (endpointRangeOf h) (endpointCount h)
   unfolding endpointStream
   endpoints< = packed-size 18 (endpointCount h) (endpointRangeOf h) (s .endpoints) (z .endpoints-18) (f .numbers-most)
 
-  found : (modeNumber (modeBitsOf (gridOf s)) < 2048) × (blockModeIn (isVolume fp) (modeNumber (modeBitsOf (gridOf s))) ≡ Grid (gridOf s))
-  found = rw (f .deep) at (found-mode (gridOf s) (modeNumber (modeBitsOf (gridOf s))) (f .found))
+  found : (modeNumber (blockModeOf (sheetGrid s)) < 2048) × (blockModeIn (isVolume fp) (modeNumber (blockModeOf (sheetGrid s))) ≡ Grid (sheetGrid s))
+  found = rw (f .deep) at (found-mode (sheetGrid s) (modeNumber (blockModeOf (sheetGrid s))) (f .found))
 
   end-is : endpointsFrom (s .partitions) + rangeBits (endpointRangeOf h) (endpointCount h) ≡ endpointsEnd h
   unfolding endpointsEnd
@@ -90,7 +90,7 @@ module _ (fp : ℕ) (s : SymbolicBlock) (f : Fine fp s) (z : Sized s) where
       below (omega (arith, end-is), pow-pos (componentFrom h - endpointsEnd h))
       below (omega arith, component-lt (s .planes) (s .component) (f .limits .planes-low) (f .limits .planes-most) (f .component-in))
       below (omega arith, shr-lt (extraBits (s .partitions) (s .selector)) 4 code<)
-      below (omega arith, reverse-lt (weightBits (gridOf s)) (weightStream s))
+      below (omega arith, reverse-lt (weightBits (sheetGrid s)) (weightStream s))
       below omega arith
 
   pub block-lt : b < 2 ^ 128
@@ -103,14 +103,14 @@ module _ (fp : ℕ) (s : SymbolicBlock) (f : Fine fp s) (z : Sized s) where
 
   -- ---- the settings
 
-  mode-is : modeAt fp b ≡ Grid (gridOf s)
+  mode-is : modeAt fp b ≡ Grid (sheetGrid s)
   unfolding modeAt modeCells
   mode-is = ap (blockModeIn (isVolume fp)) (at 0 (omega arith)) ∙ found .1
 
   -- 02, h: of two modes "the writer the smaller mode number"
-  pub mode-least : (m : ℕ) → m < 2048 → blockModeIn (isVolume fp) m ≡ Grid (gridOf s) → field b 0 11 ≤ m
+  pub mode-least : (m : ℕ) → m < 2048 → blockModeIn (isVolume fp) m ≡ Grid (sheetGrid s) → field b 0 11 ≤ m
   unfolding modeCells
-  mode-least m l e = rw (at 0 (omega arith)) (least-mode (gridOf s) _ (f .found) m l (rw (f .deep) e))
+  mode-least m l e = rw (at 0 (omega arith)) (least-mode (sheetGrid s) _ (f .found) m l (rw (f .deep) e))
 
   partitions-is : partitionsAt b ≡ s .partitions
   unfolding partitionsAt modeCells
@@ -128,26 +128,26 @@ module _ (fp : ℕ) (s : SymbolicBlock) (f : Fine fp s) (z : Sized s) where
   unfolding baseAt modeCells
   base-is = at 4 (omega arith)
 
-  component-is : componentAt b (gridOf s) (s .partitions) (s .selector) ≡ s .component
+  component-is : componentAt b (sheetGrid s) (s .partitions) (s .selector) ≡ s .component
   unfolding componentAt modeCells componentFrom
   component-is = at 7 (omega arith)
 
-  extra-is : extraAt b (gridOf s) (s .partitions) (s .selector) ≡ modesCode h / 2 ^ 4
+  extra-is : extraAt b (sheetGrid s) (s .partitions) (s .selector) ≡ modesCode h / 2 ^ 4
   unfolding extraAt modeCells
   extra-is = at 8 (omega arith)
 
   modes-are : padded 4 (s .partitions) (modeOf (s .partitions) (s .selector)
-      (extraAt b (gridOf s) (s .partitions) (s .selector) * 2 ^ 4 + baseAt b (s .partitions))) 0 ≡ s .modes
+      (extraAt b (sheetGrid s) (s .partitions) (s .selector) * 2 ^ 4 + baseAt b (s .partitions))) 0 ≡ s .modes
   modes-are =
       ap (λ (c : ℕ). padded 4 (s .partitions) (modeOf (s .partitions) (s .selector) c) 0)
       (ap₂ (λ (x y : ℕ). x * 2 ^ 4 + y) extra-is base-is ∙ split (modesCode h) 4)
       ∙ padded-back (s .modes) _ 4 (s .partitions) 15 (z .modes-4) (f .modes-in)
       (λ i l m. code-back h i m (all-fit h (f .selected) (alone (s .partitions) (s .selector) (f .selector-in) (f .partitions-low)) i m))
 
-  with-is : headerWith b (gridOf s) (s .partitions) (s .selector) ≡ h
+  with-is : headerWith b (sheetGrid s) (s .partitions) (s .selector) ≡ h
   unfolding headerWith
   with-is = λ i. record {
-    grid = gridOf s;
+    grid = sheetGrid s;
     component = component-is i;
     partitions = s .partitions;
     index = index-is i;
@@ -171,17 +171,17 @@ module _ (fp : ℕ) (s : SymbolicBlock) (f : Fine fp s) (z : Sized s) where
       endpoint-is b h i
       ∙ packed-back 18 (endpointCount h) (endpointRangeOf h) (s .endpoints) (z .endpoints-18) (f .numbers-most) (f .endpoints-in) _ endpoint-stream i l
 
-  weight-stream : field (reverse 128 b) 0 (weightBits (gridOf s)) ≡ weightStream s
+  weight-stream : field (reverse 128 b) 0 (weightBits (sheetGrid s)) ≡ weightStream s
   unfolding modeCells
   weight-stream =
-      reverse-top 128 (weightBits (gridOf s)) b (omega (arith, f .bits-most)) block-lt
-      ∙ ap (reverse (weightBits (gridOf s))) (at 9 (omega arith)) ∙ reverse-reverse (weightBits (gridOf s)) (weightStream s) weights<
+      reverse-top 128 (weightBits (sheetGrid s)) b (omega (arith, f .bits-most)) block-lt
+      ∙ ap (reverse (weightBits (sheetGrid s))) (at 9 (omega arith)) ∙ reverse-reverse (weightBits (sheetGrid s)) (weightStream s) weights<
 
   weights-are : (i : ℕ) → i < 64 → weightAt b h i ≡ weightIn s i
   unfolding weightStream
   weights-are i l =
       weight-is b h i
-      ∙ packed-back 64 (weightCount (gridOf s)) (s .range) (s .weights) (z .weights-64) (f .count-most) (f .weights-in) _ weight-stream i l
+      ∙ packed-back 64 (weightCount (sheetGrid s)) (s .range) (s .weights) (z .weights-64) (f .count-most) (f .weights-in) _ weight-stream i l
 
   -- ---- smallest codes, and spare bits
 
@@ -190,10 +190,10 @@ module _ (fp : ℕ) (s : SymbolicBlock) (f : Fine fp s) (z : Sized s) where
   unfolding sequenceAt rangeBits endpointStream
   endpoint-codes = smallest 18 (endpointCount h) (endpointRangeOf h) (s .endpoints) (z .endpoints-18) (f .numbers-most) (f .endpoints-in) _ endpoint-stream
 
-  pub weight-codes : Smallest (encodingAt (s .range)) (bitsAt (s .range)) (weightCount (gridOf s)) (weightIn s)
-      (sequenceAt (encodingAt (s .range)) (bitsAt (s .range)) (reverse 128 b) 0 (weightCount (gridOf s)))
+  pub weight-codes : Smallest (encodingAt (s .range)) (bitsAt (s .range)) (weightCount (sheetGrid s)) (weightIn s)
+      (sequenceAt (encodingAt (s .range)) (bitsAt (s .range)) (reverse 128 b) 0 (weightCount (sheetGrid s)))
   unfolding sequenceAt weightBits rangeBits weightStream
-  weight-codes = smallest 64 (weightCount (gridOf s)) (s .range) (s .weights) (z .weights-64) (f .count-most) (f .weights-in) _ weight-stream
+  weight-codes = smallest 64 (weightCount (sheetGrid s)) (s .range) (s .weights) (z .weights-64) (f .count-most) (f .weights-in) _ weight-stream
 
   pub spare-zero : field b (endpointsEnd h) (componentFrom h - endpointsEnd h) ≡ 0
   unfolding modeCells
@@ -240,4 +240,4 @@ module _ (fp : ℕ) (s : SymbolicBlock) (f : Fine fp s) (z : Sized s) where
   mode-faultless n =
       let r = none-at (modeRefusals fp s) n in
       mode-no-fault fp b not-void (rw mode-is)
-      (subst (λ (k : Header). None (modeFaults fp k)) (sym settings-are) (r 16, (r 17, (r 18, (r 19, (r 21, (r 22, (refl, tt))))))))
+      (subst (λ (k : BlockHeader). None (modeFaults fp k)) (sym settings-are) (r 16, (r 17, (r 18, (r 19, (r 21, (r 22, (refl, tt))))))))

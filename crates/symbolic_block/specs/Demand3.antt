@@ -22,7 +22,7 @@ use Rattle.block_fault.specs.Bits.{modeAt, isVoid, headerAt, endpointsFrom}
 use Rattle.block_fault.specs.Faults.{faultOf}
 use Rattle.texel.specs.BlockTexel.{blockTexel, blockNumberAt}
 use Rattle.symbolic_block.specs.declared.SymbolicBlock.{SymbolicBlock}
-use Rattle.symbolic_block.specs.Fields.{gridOf, headerOf, endpointIn, weightIn, Sized, Typed}
+use Rattle.symbolic_block.specs.Fields.{sheetGrid, headerOf, endpointIn, weightIn, Sized, Typed}
 use Rattle.symbolic_block.specs.Refusals.{refusals, refusalOf, Acceptable}
 use Rattle.symbolic_block.specs.Picture.{pictureOf, pictureNumber}
 use Rattle.symbolic_block.specs.Writing.{endpointsEnd, componentFrom, blockOf}
@@ -78,10 +78,10 @@ pub record Demand3 : Type 0 where
       → Smallest (encodingAt (endpointRangeOf (headerOf s))) (bitsAt (endpointRangeOf (headerOf s))) (endpointCount (headerOf s)) (endpointIn s)
       (sequenceAt (encodingAt (endpointRangeOf (headerOf s))) (bitsAt (endpointRangeOf (headerOf s))) (blockOf fp s) (endpointsFrom (s .partitions)) (endpointCount (headerOf s)))
   pub smallest-weight-codes : (fp : ℕ) (s : SymbolicBlock) → Sized s → Acceptable fp s → s .mark ≡ 0
-      → Smallest (encodingAt (s .range)) (bitsAt (s .range)) (weightCount (gridOf s)) (weightIn s)
-      (sequenceAt (encodingAt (s .range)) (bitsAt (s .range)) (reverse 128 (blockOf fp s)) 0 (weightCount (gridOf s)))
+      → Smallest (encodingAt (s .range)) (bitsAt (s .range)) (weightCount (sheetGrid s)) (weightIn s)
+      (sequenceAt (encodingAt (s .range)) (bitsAt (s .range)) (reverse 128 (blockOf fp s)) 0 (weightCount (sheetGrid s)))
   pub spare-bits : (fp : ℕ) (s : SymbolicBlock) → Sized s → Acceptable fp s → s .mark ≡ 0
       → field (blockOf fp s) (endpointsEnd (headerOf s)) (componentFrom (headerOf s) - endpointsEnd (headerOf s)) ≡ 0
   -- 02, h: of two block modes "the writer the smaller mode number"; a flat grid has one at most
   pub smallest-mode : (fp : ℕ) (s : SymbolicBlock) → Sized s → Acceptable fp s → s .mark ≡ 0
-      → (m : ℕ) → m < 2048 → blockModeIn (isVolume fp) m ≡ Grid (gridOf s) → field (blockOf fp s) 0 11 ≤ m
+      → (m : ℕ) → m < 2048 → blockModeIn (isVolume fp) m ≡ Grid (sheetGrid s) → field (blockOf fp s) 0 11 ≤ m

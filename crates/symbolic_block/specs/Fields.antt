@@ -10,16 +10,16 @@ use lib.ListN.{length, getD}
 use Rattle.encoding.specs.declared.Stored.{Stored}
 use Rattle.integer_sequence.specs.Reading.{stored}
 use Rattle.block_mode.specs.declared.WeightGrid.{WeightGrid}
-use Rattle.block_header.specs.declared.Header.{Header}
+use Rattle.block_header.specs.declared.BlockHeader.{BlockHeader}
 use Rattle.symbolic_block.specs.declared.SymbolicBlock.{SymbolicBlock}
 
 -- the weight grid of a mode sheet, and its settings without the numbers
-abbrev pub gridOf : SymbolicBlock → WeightGrid
-gridOf s = record { width = s .width; height = s .height; depth = s .depth; range = s .range; planes = s .planes }
+abbrev pub sheetGrid : SymbolicBlock → WeightGrid
+sheetGrid s = record { width = s .width; height = s .height; depth = s .depth; range = s .range; planes = s .planes }
 
-abbrev pub headerOf : SymbolicBlock → Header
+abbrev pub headerOf : SymbolicBlock → BlockHeader
 headerOf s = record {
-  grid = gridOf s;
+  grid = sheetGrid s;
   component = s .component;
   partitions = s .partitions;
   index = s .index;
@@ -41,14 +41,14 @@ extentIn s i = getD (s .extents) i 0
 abbrev pub modeIn : SymbolicBlock → ℕ → ℕ
 modeIn s i = getD (s .modes) i 0
 
-abbrev pub numberIn : List Stored → ℕ → ℕ
-numberIn xs i = getD xs i (stored 0) .0
+abbrev pub storedIn : List Stored → ℕ → ℕ
+storedIn xs i = getD xs i (stored 0) .0
 
 abbrev pub endpointIn : SymbolicBlock → ℕ → ℕ
-endpointIn s i = numberIn (s .endpoints) i
+endpointIn s i = storedIn (s .endpoints) i
 
 abbrev pub weightIn : SymbolicBlock → ℕ → ℕ
-weightIn s i = numberIn (s .weights) i
+weightIn s i = storedIn (s .weights) i
 
 -- the lists have their lengths
 pub record Sized (s : SymbolicBlock) : Type 0 where

@@ -7,7 +7,7 @@ use Rattle.laws.specs.Choice.{pick}
 use Rattle.laws.specs.Table.{tab}
 use Rattle.integer_sequence.specs.Reading.{stored}
 use Rattle.bits.specs.Field.{field}
-use Rattle.block_header.specs.declared.Header.{Header}
+use Rattle.block_header.specs.declared.BlockHeader.{BlockHeader}
 use Rattle.block_header.specs.Reasons.{someHdr}
 use Rattle.block_fault.specs.Bits.{modeAt, isVoid, gridIn, partitionsAt, indexAt, selectorAt, baseAt, extraAt, componentAt, modeOf, headerAt, endpointAt, weightAt}
 use Rattle.footprint.specs.Footprint.{isVolume}
@@ -16,11 +16,11 @@ use Rattle.symbolic_block.specs.declared.SymbolicBlock.{SymbolicBlock}
 use Rattle.symbolic_block.specs.Fields.{colourIn, extentIn, modeIn, endpointIn, weightIn}
 
 -- 02, i: the HDR mark of a mode sheet, "set exactly when some partition's mode is HDR"
-abbrev pub markOf : Header → ℕ
+abbrev pub markOf : BlockHeader → ℕ
 markOf h = pick (someHdr h) 1 0
 
 -- a mode sheet; colours and extents unused
-unfoldable pub modeBlock : Header → (ℕ → ℕ) → (ℕ → ℕ) → SymbolicBlock
+unfoldable pub modeBlock : BlockHeader → (ℕ → ℕ) → (ℕ → ℕ) → SymbolicBlock
 modeBlock h endpoint weight = record {
   mark = 0;
   hdr = markOf h;

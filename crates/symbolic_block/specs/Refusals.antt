@@ -9,17 +9,17 @@ use lib.ListN.{getD}
 use Rattle.laws.specs.Choice.{pick, both, either, all}
 use Rattle.quantization.specs.Ranges.{mostAt}
 use Rattle.block_mode.specs.declared.WeightGrid.{WeightGrid}
-use Rattle.block_mode.specs.declared.ModeBits.{ModeBits}
-use Rattle.block_mode.specs.declared.ModeBits.the-variants.{Mode, NoMode}
+use Rattle.block_mode.specs.declared.FoundMode.{FoundMode}
+use Rattle.block_mode.specs.declared.FoundMode.the-variants.{Mode, NoMode}
 use Rattle.footprint.specs.Footprint.{isVolume}
-use Rattle.volume_mode.specs.Either.{modeBitsOf}
-use Rattle.block_header.specs.declared.Header.{Header}
+use Rattle.volume_mode.specs.Either.{blockModeOf}
+use Rattle.block_header.specs.declared.BlockHeader.{BlockHeader}
 use Rattle.block_header.specs.Counts.{weightCount, endpointCount, endpointRangeOf}
 use Rattle.block_header.specs.Reasons.{someHdr, gridReasons, endpointReasons}
 use Rattle.laws.specs.Reasons.{Reason, when, firstOf, some}
 use Rattle.void_extent.specs.Layout.{axesOf, extentMost, badExtents}
 use Rattle.symbolic_block.specs.declared.SymbolicBlock.{SymbolicBlock}
-use Rattle.symbolic_block.specs.Fields.{gridOf, headerOf, isMarked, colourIn, extentIn, modeIn, endpointIn, weightIn}
+use Rattle.symbolic_block.specs.Fields.{sheetGrid, headerOf, isMarked, colourIn, extentIn, modeIn, endpointIn, weightIn}
 
 -- 1: "footprint above 13"; 02, h: "in these refusal 1 is a footprint above 23"
 unfoldable pub unknownFootprint : ℕ → Bool
@@ -96,12 +96,12 @@ someInUse N x = not (within N 0 0 x)
 
 -- ---- 32: "no block mode has this grid, range and planes"
 
-abbrev pub isNoMode : ModeBits → Bool
+abbrev pub isNoMode : FoundMode → Bool
 isNoMode (Mode m) = false
 isNoMode NoMode = true
 
 unfoldable pub noBlockMode : WeightGrid → Bool
-noBlockMode g = isNoMode (modeBitsOf g)
+noBlockMode g = isNoMode (blockModeOf g)
 
 -- ---- 33: "modes don't fit the selector"
 
@@ -111,7 +111,7 @@ misfit selector first mode =
     pick (eqb selector 0) (not (eqb mode first)) (not (either (eqb (mode / 4) (selector - 1)) (eqb (mode / 4) selector)))
 
 -- "used modes only and several partitions"
-unfoldable pub modesMisfit : Header → Bool
+unfoldable pub modesMisfit : BlockHeader → Bool
 modesMisfit h =
     both (ltb 1 (h .partitions)) (some (λ i. misfit (h .selector) (getD (h .modes) 0 0) (getD (h .modes) i 0)) (h .partitions))
 
@@ -121,7 +121,7 @@ unfoldable pub badEndpoints : SymbolicBlock → Bool
 badEndpoints s = not (within 18 (endpointCount (headerOf s)) (mostAt (endpointRangeOf (headerOf s))) (endpointIn s))
 
 unfoldable pub badWeights : SymbolicBlock → Bool
-badWeights s = not (within 64 (weightCount (gridOf s)) (mostAt (s .range)) (weightIn s))
+badWeights s = not (within 64 (weightCount (sheetGrid s)) (mostAt (s .range)) (weightIn s))
 
 -- ---- 35, 02, i: the HDR mark "set with none", no partition's mode being HDR
 
@@ -149,7 +149,7 @@ modeRefusals fp s =
     ∷ when (badModes s) 31
     ∷ when (someInUse 4 (colourIn s)) 31
     ∷ when (someInUse 6 (extentIn s)) 31
-    ∷ when (noBlockMode (gridOf s)) 32
+    ∷ when (noBlockMode (sheetGrid s)) 32
     ∷ gridReasons fp (headerOf s)
     (when (modesMisfit (headerOf s)) 33
     ∷ endpointReasons (isMarked s) (headerOf s)

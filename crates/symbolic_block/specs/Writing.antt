@@ -8,20 +8,20 @@ use Rattle.laws.specs.Choice.{pick}
 use Rattle.bits.specs.Field.{stream, reverse}
 use Rattle.quantization.specs.Ranges.{encodingAt, bitsAt, rangeBits}
 use Rattle.integer_sequence.specs.Writing.{packed, values}
-use Rattle.block_mode.specs.declared.ModeBits.{ModeBits}
-use Rattle.block_mode.specs.declared.ModeBits.the-variants.{Mode, NoMode}
+use Rattle.block_mode.specs.declared.FoundMode.{FoundMode}
+use Rattle.block_mode.specs.declared.FoundMode.the-variants.{Mode, NoMode}
 use Rattle.footprint.specs.Footprint.{isVolume}
-use Rattle.volume_mode.specs.Either.{modeBitsOf}
+use Rattle.volume_mode.specs.Either.{blockModeOf}
 use Rattle.void_extent.specs.Writing.{voidCells}
-use Rattle.block_header.specs.declared.Header.{Header}
+use Rattle.block_header.specs.declared.BlockHeader.{BlockHeader}
 use Rattle.block_header.specs.Counts.{weightCount, weightBits, componentBits, indexBits, selectorBits, extraBits, endpointCount, endpointRangeOf}
 use Rattle.block_fault.specs.Bits.{endpointsFrom}
 use Rattle.symbolic_block.specs.declared.SymbolicBlock.{SymbolicBlock}
-use Rattle.symbolic_block.specs.Fields.{gridOf, headerOf, colourIn, extentIn}
+use Rattle.symbolic_block.specs.Fields.{sheetGrid, headerOf, colourIn, extentIn}
 use Rattle.bits.specs.Cells.{Cell, cell, laid}
 
 -- the bits of a mode; 0 where there is none
-abbrev pub modeNumber : ModeBits → ℕ
+abbrev pub modeNumber : FoundMode → ℕ
 modeNumber (Mode m) = m
 modeNumber NoMode = 0
 
@@ -31,7 +31,7 @@ classBit selector mode = (mode / 4 - (selector - 1)) % 2
 
 -- the mode bits past the selector, as one number. "0: the next four are everyone's mode." "1 to 3: first one class bit for each of the
 -- P partitions", these lie lowest, "then two mode bits for each"
-unfoldable pub modesCode : Header → ℕ
+unfoldable pub modesCode : BlockHeader → ℕ
 modesCode h =
     pick (eqb (h .selector) 0) (getD (h .modes) 0 0)
     (stream (λ i. 2 * i) (λ i. getD (h .modes) i 0 % 4) (h .partitions) * 2 ^ h .partitions
@@ -44,13 +44,13 @@ endpointStream s =
     packed (encodingAt k) (bitsAt k) (take (endpointCount (headerOf s)) (values (s .endpoints)))
 
 unfoldable pub weightStream : SymbolicBlock → ℕ
-weightStream s = packed (encodingAt (s .range)) (bitsAt (s .range)) (take (weightCount (gridOf s)) (values (s .weights)))
+weightStream s = packed (encodingAt (s .range)) (bitsAt (s .range)) (take (weightCount (sheetGrid s)) (values (s .weights)))
 
 -- where the endpoint numbers end, and where the plane channel or what lies above it begins
-unfoldable pub endpointsEnd : Header → ℕ
+unfoldable pub endpointsEnd : BlockHeader → ℕ
 endpointsEnd h = endpointsFrom (h .partitions) + rangeBits (endpointRangeOf h) (endpointCount h)
 
-unfoldable pub componentFrom : Header → ℕ
+unfoldable pub componentFrom : BlockHeader → ℕ
 componentFrom h = 128 - weightBits (h .grid) - extraBits (h .partitions) (h .selector) - componentBits (h .grid .planes)
 
 -- all bits from bit 0 to bit 127, in order
@@ -61,9 +61,9 @@ modeCells s =
     let E = rangeBits (endpointRangeOf h) (endpointCount h) in
     let C = componentBits (s .planes) in
     let X = extraBits P (s .selector) in
-    let W = weightBits (gridOf s) in
+    let W = weightBits (sheetGrid s) in
     -- "Mode is bits 10..0; partitions less one, bits 12..11."
-    cell 0 11 (modeNumber (modeBitsOf (gridOf s)))
+    cell 0 11 (modeNumber (blockModeOf (sheetGrid s)))
     ∷ cell 11 2 (P - 1)
     -- "partition index 22..13", then the selector; with one partition neither has bits
     ∷ cell 13 (indexBits P) (s .index)
@@ -84,5 +84,5 @@ modeCells s =
 
 -- the 128 bits of a symbolic block that is acceptable at a footprint, which says how a void extent is laid out
 unfoldable pub blockOf : ℕ → SymbolicBlock → ℕ
-unfolding laid voidCells modeCells modesCode endpointStream weightStream endpointsEnd componentFrom packed reverse modeBitsOf endpointsFrom endpointRangeOf weightBits componentBits indexBits selectorBits extraBits encodingAt bitsAt rangeBits
+unfolding laid voidCells modeCells modesCode endpointStream weightStream endpointsEnd componentFrom packed reverse blockModeOf endpointsFrom endpointRangeOf weightBits componentBits indexBits selectorBits extraBits encodingAt bitsAt rangeBits
 blockOf fp s = pick (eqb (s .mark) 1) (laid (voidCells (isVolume fp) (s .hdr) (extentIn s) (colourIn s))) (laid (modeCells s))

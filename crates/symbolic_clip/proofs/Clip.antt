@@ -17,12 +17,12 @@ use Rattle.quantization.proofs.Ranges.{most-le, weight-most-le}
 use Rattle.integer_sequence.specs.Reading.{stored}
 use Rattle.footprint.specs.Footprint.{isVolume}
 use Rattle.block_mode.specs.declared.WeightGrid.{WeightGrid}
-use Rattle.block_header.specs.declared.Header.{Header}
+use Rattle.block_header.specs.declared.BlockHeader.{BlockHeader}
 use Rattle.block_header.specs.Counts.{weightCount, endpointCount, endpointRangeOf}
 use Rattle.block_header.specs.Reasons.{someHdr, gridReasons, endpointReasons, endpointFault}
 use Rattle.laws.specs.Reasons.{Reason, when, firstOf}
 use Rattle.symbolic_block.specs.declared.SymbolicBlock.{SymbolicBlock}
-use Rattle.symbolic_block.specs.Fields.{gridOf, headerOf, isMarked, modeIn, endpointIn, weightIn, Sized}
+use Rattle.symbolic_block.specs.Fields.{sheetGrid, headerOf, isMarked, modeIn, endpointIn, weightIn, Sized}
 use Rattle.symbolic_block.specs.Refusals.{within, outside, unknownFootprint, badMark, badHdr, badWidth, badHeight, badDepth, badRange, badPlanes, badComponent, badPartitions, badIndex, badSelector, badModes, badColours, badExtentFields, someInUse, modesMisfit, badEndpoints, badWeights, markedWithout, modeRefusals, voidRefusals, refusals, refusalOf}
 use Rattle.laws.proofs.Reasons.{none-at, first-none, either-none}
 use Rattle.symbolic_block.proofs.Lists.{not-not, stored-at, tab-back, stored-back, within-used, within-unused}
@@ -175,7 +175,7 @@ abbrev last : Bool → Bool → ℕ
 last b k = pick b 34 (pick k 35 0)
 
 -- all stages, the HDR mark, the first and the last given
-abbrev stages : ℕ → ℕ → Bool → Header → Bool → Bool → ℕ
+abbrev stages : ℕ → ℕ → Bool → BlockHeader → Bool → Bool → ℕ
 stages fp n hdr h b k =
     orElse n (orElse (firstOf (gridReasons fp h [])) (orElse (pick (modesMisfit h) 33 0) (orElse (endpointFault hdr h) (last b k))))
 
@@ -237,7 +237,7 @@ field-below : (s : SymbolicBlock) (fp : ℕ) → firstOf (fieldReasons fp s) < 3
 unfolding fieldReasons
 field-below s fp = first-below 35 (fieldReasons fp s) (omega arith) tt
 
-endpoint-below : (hdr : Bool) (h : Header) → endpointFault hdr h < 35
+endpoint-below : (hdr : Bool) (h : BlockHeader) → endpointFault hdr h < 35
 unfolding endpointFault
 endpoint-below hdr h = first-below 35 (endpointReasons hdr h []) (omega arith) tt
 
@@ -366,7 +366,7 @@ module _ (s : SymbolicBlock) where
     unfolding badLists badModes
     modes-in = not-not (within 4 (s .partitions) 15 (modeIn s)) (either-none (badModes s) _ (either-none (badPartitioning s) (badLists s) rest-none .1) .0)
 
-    grid-is : gridOf (clip s) ≡ gridOf s
+    grid-is : sheetGrid (clip s) ≡ sheetGrid s
     unfolding badGrid badWidth badHeight badRange badPlanes
     grid-is =
         let h = either-none (badWidth s) _ grid-none .1 in
@@ -408,14 +408,14 @@ module _ (s : SymbolicBlock) where
     unfolding badWeights
     weights-same =
         ap not (ap (λ (g : WeightGrid). within 64 (weightCount g) (mostAt (g .range)) (weightIn (clip s))) grid-is
-        ∙ within-same 64 (weightCount (gridOf s)) (mostAt (s .range)) (weightIn s) (weightIn (clip s)) weight-at (omega (arith, weight-most-le (s .range) range-in)))
+        ∙ within-same 64 (weightCount (sheetGrid s)) (mostAt (s .range)) (weightIn s) (weightIn (clip s)) weight-at (omega (arith, weight-most-le (s .range) range-in)))
 
     endpoints-fit : badEndpoints s ≡ either (badEndpoints (clip s)) (not (fits s))
     unfolding badEndpoints fits
     endpoints-fit =
         ap not (within-fit 18 (endpointCount (headerOf s)) (mostAt (endpointRangeOf (headerOf s))) (endpointIn s) (endpointIn (clip s)) endpoint-at (most-le (endpointRangeOf (headerOf s))))
         ∙ not-both (within 18 (endpointCount (headerOf s)) (mostAt (endpointRangeOf (headerOf s))) (endpointIn (clip s))) (fits s)
-        ∙ ap (λ (h : Header). either (not (within 18 (endpointCount h) (mostAt (endpointRangeOf h)) (endpointIn (clip s)))) (not (fits s))) (sym header-is)
+        ∙ ap (λ (h : BlockHeader). either (not (within 18 (endpointCount h) (mostAt (endpointRangeOf h)) (endpointIn (clip s)))) (not (fits s))) (sym header-is)
 
     -- 35
     mark-same : isMarked (clip s) ≡ isMarked s
@@ -424,7 +424,7 @@ module _ (s : SymbolicBlock) where
     without-same : markedWithout (clip s) ≡ markedWithout s
     unfolding markedWithout
     without-same =
-        ap (λ (b : Bool). both b (not (someHdr (headerOf (clip s))))) mark-same ∙ ap (λ (h : Header). both (isMarked s) (not (someHdr h))) header-is
+        ap (λ (b : Bool). both b (not (someHdr (headerOf (clip s))))) mark-same ∙ ap (λ (h : BlockHeader). both (isMarked s) (not (someHdr h))) header-is
 
     fields-of : fieldReasons fp (clip s) ≡ fieldReasons fp s
     unfolding fieldReasons
@@ -440,7 +440,7 @@ module _ (s : SymbolicBlock) where
         sym (mode-stages fp s)
         ∙ ap (λ (n : ℕ). stages fp n (isMarked s) (headerOf s) (either (badEndpoints s) (badWeights s)) (markedWithout s)) (ap firstOf (sym fields-of))
         ∙ ap (λ (b : Bool). stages fp f b (headerOf s) (either (badEndpoints s) (badWeights s)) (markedWithout s)) (sym mark-same)
-        ∙ ap (λ (k : Header). stages fp f m k (either (badEndpoints s) (badWeights s)) (markedWithout s)) (sym header-is)
+        ∙ ap (λ (k : BlockHeader). stages fp f m k (either (badEndpoints s) (badWeights s)) (markedWithout s)) (sym header-is)
         ∙ ap (λ (b : Bool). stages fp f m h (either b (badWeights s)) (markedWithout s)) endpoints-fit
         ∙ ap (λ (b : Bool). stages fp f m h (either (either (badEndpoints (clip s)) (not (fits s))) b) (markedWithout s)) (sym weights-same)
         ∙ ap (λ (b : Bool). stages fp f m h (either (either (badEndpoints (clip s)) (not (fits s))) (badWeights (clip s))) b) (sym without-same)

@@ -12,7 +12,7 @@ use borrow.Author.Tests.{lt-ltb, le-ltb}
 use Rattle.laws.specs.Table.{tab}
 use Rattle.laws.proofs.Filling.{Filled, filled-all}
 use Rattle.encoding.specs.declared.Stored.{Stored}
-use Rattle.symbolic_block.specs.Fields.{numberIn}
+use Rattle.symbolic_block.specs.Fields.{storedIn}
 use Rattle.symbolic_numbers.specs.Numbers.{flatAt}
 
 -- the list is the old one, but for the n places from place p on, which hold v 0, v 1, ..
@@ -47,7 +47,7 @@ laid-4 old added e x y =
 -- settings, endpoint numbers, weights and the added fields, one after the other
 pub all-laid : (settings : List ℕ) (endpoints weights : List Stored) (added : List ℕ) {l₀ l₁ l₂ l₃ l₄ : List ℕ} {i j n : ℕ}
     → length l₀ ≡ 107 → i ≡ 21 → j ≡ 18 → n ≡ 64
-    → Laid 0 i (λ k. getD settings k 0) l₀ l₁ → Laid 21 j (numberIn endpoints) l₁ l₂ → Laid 39 n (numberIn weights) l₂ l₃ → Laid 103 4 (λ k. getD added k 0) l₃ l₄
+    → Laid 0 i (λ k. getD settings k 0) l₀ l₁ → Laid 21 j (storedIn endpoints) l₁ l₂ → Laid 39 n (storedIn weights) l₂ l₃ → Laid 103 4 (λ k. getD added k 0) l₃ l₄
     → l₄ ≡ tab (flatAt settings endpoints weights added) 107
 unfolding Filled
 all-laid settings endpoints weights added {l₀} {l₁} {l₂} {l₃} {l₄} e x y z a b c d =

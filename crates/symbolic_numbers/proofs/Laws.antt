@@ -24,21 +24,21 @@ use Rattle.symbolic_block.proofs.Lists.{tab-back, stored-back}
 use Rattle.symbolic_calls.specs.Writing.{wrote, wroteNothing, writingOf}
 use Rattle.symbolic_calls.proofs.Laws.{told-number}
 use Rattle.symbolic_reader.specs.declared.SymbolicReading.{SymbolicReading}
-use Rattle.symbolic_numbers.specs.Numbers.{settingsWith, settingsOf, addedOf, flatAt, flatOf, blockOver, blockFrom, clippedNumbers, endpointsFit}
+use Rattle.symbolic_numbers.specs.Numbers.{settingsWith, settingNumbers, addedOf, flatAt, flatOf, blockOver, blockFrom, clippedNumbers, endpointsFit}
 use Rattle.symbolic_numbers.specs.Calls.{refusedOr5, roomFor, putNumber, putNumbers, putSpare, lentRefusal, writeNumber, writeBlock}
 use Rattle.symbolic_clip.proofs.Clip.{clip, fits, refused-1}
 
 -- ---- the reader's call
 
 pub settings-same : (s : SymbolicBlock) (a b c d : ℕ) → a ≡ modeIn s 0 → b ≡ modeIn s 1 → c ≡ modeIn s 2 → d ≡ modeIn s 3
-    → settingsWith s a b c d ≡ settingsOf s
+    → settingsWith s a b c d ≡ settingNumbers s
 settings-same s a b c d p q r t =
     ap (λ (x : ℕ). settingsWith s x b c d) p
     ∙ ap (λ (x : ℕ). settingsWith s (modeIn s 0) x c d) q
     ∙ ap (λ (x : ℕ). settingsWith s (modeIn s 0) (modeIn s 1) x d) r
     ∙ ap (λ (x : ℕ). settingsWith s (modeIn s 0) (modeIn s 1) (modeIn s 2) x) t
 
-pub flat-by-position : (s : SymbolicBlock) → tab (flatAt (settingsOf s) (s .endpoints) (s .weights) (addedOf s)) 107 ≡ flatOf s
+pub flat-by-position : (s : SymbolicBlock) → tab (flatAt (settingNumbers s) (s .endpoints) (s .weights) (addedOf s)) 107 ≡ flatOf s
 unfolding flatOf tab tabFrom
 flat-by-position s = refl
 

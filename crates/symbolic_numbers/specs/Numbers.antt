@@ -11,7 +11,7 @@ use Rattle.laws.specs.Table.{tab}
 use Rattle.encoding.specs.declared.Stored.{Stored}
 use Rattle.integer_sequence.specs.Reading.{stored}
 use Rattle.symbolic_block.specs.declared.SymbolicBlock.{SymbolicBlock}
-use Rattle.symbolic_block.specs.Fields.{colourIn, extentIn, modeIn, numberIn, endpointIn, weightIn}
+use Rattle.symbolic_block.specs.Fields.{colourIn, extentIn, modeIn, storedIn, endpointIn, weightIn}
 
 -- ---- a symbolic block's list
 
@@ -26,8 +26,8 @@ settingsWith s mode0 mode1 mode2 mode3 =
     ∷ mode0 ∷ mode1 ∷ mode2 ∷ mode3
     ∷ []
 
-abbrev pub settingsOf : SymbolicBlock → List ℕ
-settingsOf s = settingsWith s (modeIn s 0) (modeIn s 1) (modeIn s 2) (modeIn s 3)
+abbrev pub settingNumbers : SymbolicBlock → List ℕ
+settingNumbers s = settingsWith s (modeIn s 0) (modeIn s 1) (modeIn s 2) (modeIn s 3)
 
 -- what 02, i and h, add, after the weights: so every field of 01 keeps its place
 abbrev pub addedOf : SymbolicBlock → List ℕ
@@ -36,12 +36,12 @@ addedOf s = s .hdr ∷ s .depth ∷ extentIn s 4 ∷ extentIn s 5 ∷ []
 -- the settings, then the endpoint numbers, then the weights, then the added fields
 unfoldable pub flatOf : SymbolicBlock → List ℕ
 unfolding tab
-flatOf s = settingsOf s ++ (tab (endpointIn s) 18 ++ (tab (weightIn s) 64 ++ addedOf s))
+flatOf s = settingNumbers s ++ (tab (endpointIn s) 18 ++ (tab (weightIn s) 64 ++ addedOf s))
 
 -- its number i, by position
 abbrev pub flatAt : List ℕ → List Stored → List Stored → List ℕ → ℕ → ℕ
 flatAt settings endpoints weights added i =
-    pick (ltb i 21) (getD settings i 0) (pick (ltb i 39) (numberIn endpoints (i - 21)) (pick (ltb i 103) (numberIn weights (i - 39)) (getD added (i - 103) 0)))
+    pick (ltb i 21) (getD settings i 0) (pick (ltb i 39) (storedIn endpoints (i - 21)) (pick (ltb i 103) (storedIn weights (i - 39)) (getD added (i - 103) 0)))
 
 -- ---- a list's symbolic block
 

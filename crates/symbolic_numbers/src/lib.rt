@@ -15,7 +15,7 @@ ghost use Rattle.integer_sequence.specs.Reading.{stored};
 ghost use Rattle.symbolic_block.specs.Refusals.{unknownFootprint};
 ghost use Rattle.symbolic_refusal.specs.inner.Stages.{or34};
 ghost use Rattle.symbolic_calls.specs.Writing.{writingOf};
-ghost use Rattle.symbolic_numbers.specs.Numbers.{settingsOf, flatOf, blockOver, blockFrom, clippedNumbers, endpointsFit};
+ghost use Rattle.symbolic_numbers.specs.Numbers.{settingNumbers, flatOf, blockOver, blockFrom, clippedNumbers, endpointsFit};
 ghost use Rattle.symbolic_numbers.specs.Calls.{refusedOr5, putNumber, putNumbers, putSpare, readNumber, readNumbers, readSpare, writeNumber, writeBlock};
 
 // ---- a symbolic block's list
@@ -28,7 +28,7 @@ fn wide(x: u8) -> u16
 
 // All fields before the endpoint numbers.
 fn settings_of(s: SymbolicBlock) -> [u16; 21]
-    ensures { λ r. ⌜ r ≡ settingsOf s ⌝ }
+    ensures { λ r. ⌜ r ≡ settingNumbers s ⌝ }
 {
     let c = s.colours;
     let e = s.extents;

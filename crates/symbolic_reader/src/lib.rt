@@ -2,7 +2,7 @@
 use bits::PhysicalBlock;
 use block_answer::Answer;
 use block_fault::Verdict;
-use block_header::Header;
+use block_header::BlockHeader;
 use block_header::Stage;
 use encoding::Stored;
 use spare_bits::Spare;
@@ -173,7 +173,7 @@ fn first_18(xs: [Stored; 64]) -> [Stored; 18]
     out
 }
 
-fn endpoints(b: PhysicalBlock, h: Header, numbers: u8, range: u8) -> [Stored; 18]
+fn endpoints(b: PhysicalBlock, h: BlockHeader, numbers: u8, range: u8) -> [Stored; 18]
     requires { ⌜ (endpointCount h ≤ 18) × (numbers ≡ endpointCount h) × (range ≡ endpointRangeOf h) ⌝ }
     ensures { λ r. ⌜ r ≡ tab (λ i. stored (endpointAt (blockNumber b) h i)) 18 ⌝ }
 {
@@ -185,7 +185,7 @@ fn endpoints(b: PhysicalBlock, h: Header, numbers: u8, range: u8) -> [Stored; 18
     ))
 }
 
-fn weights(b: PhysicalBlock, h: Header) -> [Stored; 64]
+fn weights(b: PhysicalBlock, h: BlockHeader) -> [Stored; 64]
     requires { ⌜ weightCount (h .grid) ≤ 64 ⌝ }
     ensures { λ r. ⌜ r ≡ tab (λ i. stored (weightAt (blockNumber b) h i)) 64 ⌝ }
 {
@@ -195,13 +195,13 @@ fn weights(b: PhysicalBlock, h: Header) -> [Stored; 64]
 }
 
 // The HDR mark of any other block.
-fn mark_of(h: Header) -> u8
+fn mark_of(h: BlockHeader) -> u8
     ensures { λ r. ⌜ r ≡ markOf h ⌝ }
 {
     if block_header::some_hdr(h) { 1 } else { 0 }
 }
 
-pub fn mode_block(b: PhysicalBlock, h: Header, numbers: u8, range: u8) -> SymbolicBlock
+pub fn mode_block(b: PhysicalBlock, h: BlockHeader, numbers: u8, range: u8) -> SymbolicBlock
     requires { ⌜ (weightCount (h .grid) ≤ 64) × (endpointCount h ≤ 18) × (numbers ≡ endpointCount h) × (range ≡ endpointRangeOf h) ⌝ }
     ensures { λ r. ⌜ r ≡ modeBlock h (endpointAt (blockNumber b) h) (weightAt (blockNumber b) h) ⌝ }
 {

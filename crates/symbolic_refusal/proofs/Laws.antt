@@ -9,11 +9,11 @@ use lib.Dec.{T, ltb, ltb→lt, eqb}
 use borrow.Author.Tests.{ne-eqb}
 use Rattle.laws.specs.Choice.{pick, both, either}
 use Rattle.laws.proofs.Computed.{both-left, both-right}
-use Rattle.block_header.specs.declared.Header.{Header}
+use Rattle.block_header.specs.declared.BlockHeader.{BlockHeader}
 use Rattle.block_header.specs.Reasons.{gridFault, endpointFault, gridReasons, endpointReasons, gridTooLarge, tooManyWeights, weightBitsOutside, fourWithTwoPlanes}
 use Rattle.laws.specs.Reasons.{Reason, when, firstOf}
 use Rattle.symbolic_block.specs.declared.SymbolicBlock.{SymbolicBlock}
-use Rattle.symbolic_block.specs.Fields.{gridOf, headerOf, isMarked, colourIn, extentIn}
+use Rattle.symbolic_block.specs.Fields.{sheetGrid, headerOf, isMarked, colourIn, extentIn}
 use Rattle.symbolic_block.specs.Refusals.{unknownFootprint, badMark, badHdr, badWidth, badHeight, badDepth, badRange, badPlanes, badComponent, badPartitions, badIndex, badSelector, badModes, someInUse, noBlockMode, modesMisfit, badEndpoints, badWeights, markedWithout, modeRefusals, voidRefusals}
 use Rattle.laws.proofs.Reasons.{numbered}
 use Rattle.symbolic_refusal.specs.inner.Stages.{orElse, badGrid, badPartitioning, badLists, badFields, badShown, gridInUse, partitioningInUse, numbersInUse, badVoidFields, fieldReasons, numberReasons, voidStages}
@@ -38,7 +38,7 @@ joined true b n m = refl
 joined false b n m = refl
 
 -- 14 to 16, then 17
-pub grid-stage : (fp : ℕ) (h : Header) → orElse (gridFault fp (h .grid)) (pick (both (eqb (h .grid .planes) 2) (eqb (h .partitions) 4)) 17 0)
+pub grid-stage : (fp : ℕ) (h : BlockHeader) → orElse (gridFault fp (h .grid)) (pick (both (eqb (h .grid .planes) 2) (eqb (h .partitions) 4)) 17 0)
     ≡ firstOf (gridReasons fp h [])
 unfolding gridFault fourWithTwoPlanes
 grid-stage fp h =
@@ -68,7 +68,7 @@ eachField fp s =
     ∷ when (badModes s) 31
     ∷ when (someInUse 4 (colourIn s)) 31
     ∷ when (someInUse 6 (extentIn s)) 31
-    ∷ when (noBlockMode (gridOf s)) 32
+    ∷ when (noBlockMode (sheetGrid s)) 32
     ∷ []
 
 field-stage : (fp : ℕ) (s : SymbolicBlock) → firstOf (fieldReasons fp s) ≡ firstOf (eachField fp s)

@@ -1,6 +1,6 @@
 // The first refusal of a symbolic block (01: sheet). 01, "Refusals of a sheet, in order".
-use block_header::Header;
-use block_mode::ModeBits;
+use block_header::BlockHeader;
+use block_mode::FoundMode;
 use block_mode::WeightGrid;
 use encoding::Stored;
 use symbolic_block::SymbolicBlock;
@@ -12,7 +12,7 @@ ghost use Rattle.block_header.specs.Reasons.{gridReasons};
 ghost use Rattle.laws.specs.Reasons.{firstOf};
 ghost use Rattle.footprint.specs.Footprint.{isVolume};
 ghost use Rattle.void_extent.specs.Layout.{badExtents};
-ghost use Rattle.symbolic_block.specs.Fields.{gridOf, headerOf, numberIn};
+ghost use Rattle.symbolic_block.specs.Fields.{sheetGrid, headerOf, storedIn};
 ghost use Rattle.symbolic_block.specs.Refusals.{unknownFootprint, outside, within, noBlockMode, misfit, modesMisfit, badDepth, badExtentFields, badComponent, badIndex, badSelector, badEndpoints, badWeights, markedWithout, modeRefusals, voidRefusals, refusalOf};
 ghost use Rattle.symbolic_refusal.specs.inner.Stages.{orElse, badGrid, badPartitioning, badLists, badFields, badShown, gridInUse, partitioningInUse, numbersInUse, badVoidFields, fieldReasons, numberReasons};
 
@@ -105,7 +105,7 @@ fn modes_within(modes: [u8; 4], n: usize, most: u16) -> bool
 }
 
 fn endpoints_within(xs: [Stored; 18], n: usize, most: u16) -> bool
-    ensures { λ r. ⌜ r ≡ within 18 n most (numberIn xs) ⌝ }
+    ensures { λ r. ⌜ r ≡ within 18 n most (storedIn xs) ⌝ }
 {
     let mut ok = true;
     let mut i: usize = 0;
@@ -118,7 +118,7 @@ fn endpoints_within(xs: [Stored; 18], n: usize, most: u16) -> bool
 }
 
 fn weights_within(xs: [Stored; 64], n: usize, most: u16) -> bool
-    ensures { λ r. ⌜ r ≡ within 64 n most (numberIn xs) ⌝ }
+    ensures { λ r. ⌜ r ≡ within 64 n most (storedIn xs) ⌝ }
 {
     let mut ok = true;
     let mut i: usize = 0;
@@ -211,7 +211,7 @@ fn bad_fields(fp: u8, s: SymbolicBlock) -> bool
 // ---- the settings
 
 fn grid_of(s: SymbolicBlock) -> WeightGrid
-    ensures { λ r. ⌜ r ≡ gridOf s ⌝ }
+    ensures { λ r. ⌜ r ≡ sheetGrid s ⌝ }
 {
     WeightGrid {
         width: s.width,
@@ -222,12 +222,12 @@ fn grid_of(s: SymbolicBlock) -> WeightGrid
     }
 }
 
-fn header_of(s: SymbolicBlock) -> Header
+fn header_of(s: SymbolicBlock) -> BlockHeader
     ensures { λ r. ⌜ r ≡ headerOf s ⌝ }
 {
     let grid = grid_of(s);
     let modes = s.modes;
-    Header {
+    BlockHeader {
         grid,
         component: s.component,
         partitions: s.partitions,
@@ -241,10 +241,10 @@ fn header_of(s: SymbolicBlock) -> Header
 fn no_block_mode(g: WeightGrid) -> bool
     ensures { λ r. ⌜ r ≡ noBlockMode g ⌝ }
 {
-    let bits = volume_mode::mode_bits_of(g);
+    let bits = volume_mode::block_mode_of(g);
     match bits {
-        ModeBits::Mode(_) => false,
-        ModeBits::NoMode => true,
+        FoundMode::Mode(_) => false,
+        FoundMode::NoMode => true,
     }
 }
 
@@ -259,7 +259,7 @@ fn field_refusal(fp: u8, s: SymbolicBlock) -> u8
 }
 
 // 14 to 17
-fn grid_refusal(fp: u8, h: Header) -> u8
+fn grid_refusal(fp: u8, h: BlockHeader) -> u8
     ensures { λ r. ⌜ r ≡ firstOf (gridReasons fp h []) ⌝ }
 {
     let g = h.grid;
@@ -287,7 +287,7 @@ fn misfit(selector: u8, start: u8, mode: u8) -> bool
     !either(class == selector - 1, class == selector)
 }
 
-fn modes_misfit(h: Header) -> bool
+fn modes_misfit(h: BlockHeader) -> bool
     ensures { λ r. ⌜ r ≡ modesMisfit h ⌝ }
 {
     let modes = h.modes;

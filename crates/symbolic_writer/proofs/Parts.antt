@@ -18,11 +18,11 @@ use Rattle.quantization.specs.Ranges.{encodingAt, bitsAt, rangeBits}
 use Rattle.integer_sequence.specs.Reading.{stored}
 use Rattle.integer_sequence.specs.Writing.{packed, values, withSequence}
 use Rattle.block_mode.specs.declared.WeightGrid.{WeightGrid}
-use Rattle.block_header.specs.declared.Header.{Header}
+use Rattle.block_header.specs.declared.BlockHeader.{BlockHeader}
 use Rattle.block_header.specs.Counts.{weightCount, weightBits, endpointCount, endpointRangeOf}
 use Rattle.block_fault.specs.Bits.{endpointsFrom}
 use Rattle.symbolic_block.specs.declared.SymbolicBlock.{SymbolicBlock}
-use Rattle.symbolic_block.specs.Fields.{gridOf, headerOf}
+use Rattle.symbolic_block.specs.Fields.{sheetGrid, headerOf}
 use Rattle.symbolic_block.specs.Writing.{endpointStream, weightStream}
 use Rattle.symbolic_block.proofs.Numbers.{taken, packed-size, value, reverse-top}
 use Rattle.symbolic_writer.specs.inner.Piled.{withValue, Packable}
@@ -70,7 +70,7 @@ reversed-top w x h l =
 -- ---- step by step
 
 module _ (s : SymbolicBlock) (p : Packable s) where
-  pub endpoint-steps : length (s .endpoints) ≡ 18 → (B : ℕ) {h : Header} {n k from r : ℕ} {xs : List Stored} → h ≡ headerOf s → n ≡ endpointCount h → k ≡ endpointRangeOf h
+  pub endpoint-steps : length (s .endpoints) ≡ 18 → (B : ℕ) {h : BlockHeader} {n k from r : ℕ} {xs : List Stored} → h ≡ headerOf s → n ≡ endpointCount h → k ≡ endpointRangeOf h
       → from ≡ endpointsFrom (s .partitions) → xs ≡ long (s .endpoints) → r ≡ withSequence (encodingAt k) (bitsAt k) B from (take n (values xs))
       → r ≡ withValue B (endpointsFrom (s .partitions)) (endpointStream s)
   unfolding withSequence withValue endpointStream
@@ -79,14 +79,14 @@ module _ (s : SymbolicBlock) (p : Packable s) where
       let k-is : k ≡ endpointRangeOf (headerOf s) = ek ∙ ap endpointRangeOf eh in
       er ∙ rw (n-is, k-is, ef, ex, taken-same (s .endpoints) z (endpointCount (headerOf s)) (p .endpoints-most))
 
-  pub weight-steps : length (s .weights) ≡ 64 → (B : ℕ) {g : WeightGrid} {n from w b t r : ℕ} → g ≡ gridOf s → n ≡ weightCount g
+  pub weight-steps : length (s .weights) ≡ 64 → (B : ℕ) {g : WeightGrid} {n from w b t r : ℕ} → g ≡ sheetGrid s → n ≡ weightCount g
       → b ≡ withSequence (encodingAt (s .range)) (bitsAt (s .range)) B 0 (take n (values (s .weights))) → t ≡ reverse 128 b
-      → from ≡ 128 - weightBits g → w ≡ min (weightBits g) 1000 → r ≡ field t from w → r ≡ reverse (weightBits (gridOf s)) (weightStream s)
+      → from ≡ 128 - weightBits g → w ≡ min (weightBits g) 1000 → r ≡ field t from w → r ≡ reverse (weightBits (sheetGrid s)) (weightStream s)
   unfolding weightStream weightBits
   weight-steps z B {g} {n} {from} {w} {b} {t} {r} eg en eb et ef ew er =
-      let n-is : n ≡ weightCount (gridOf s) = en ∙ ap weightCount eg in
-      let w-is : w ≡ weightBits (gridOf s) = ew ∙ ap (λ (x : WeightGrid). min (weightBits x) 1000) eg ∙ omega (arith, p .bits-most) in
-      let from-is : from ≡ 128 - weightBits (gridOf s) = ef ∙ ap (λ (x : WeightGrid). 128 - weightBits x) eg in
-      let b-is : b ≡ weightStream s = eb ∙ rw n-is (sequence-first (s .range) (weightCount (gridOf s)) B (s .weights) z (p .weights-most) (omega (arith, p .bits-most))) in
-      er ∙ rw (et, b-is, from-is, w-is) (reversed-top (weightBits (gridOf s)) (weightStream s) (omega (arith, p .bits-most))
-      (packed-size 64 (weightCount (gridOf s)) (s .range) (s .weights) z (p .weights-most)))
+      let n-is : n ≡ weightCount (sheetGrid s) = en ∙ ap weightCount eg in
+      let w-is : w ≡ weightBits (sheetGrid s) = ew ∙ ap (λ (x : WeightGrid). min (weightBits x) 1000) eg ∙ omega (arith, p .bits-most) in
+      let from-is : from ≡ 128 - weightBits (sheetGrid s) = ef ∙ ap (λ (x : WeightGrid). 128 - weightBits x) eg in
+      let b-is : b ≡ weightStream s = eb ∙ rw n-is (sequence-first (s .range) (weightCount (sheetGrid s)) B (s .weights) z (p .weights-most) (omega (arith, p .bits-most))) in
+      er ∙ rw (et, b-is, from-is, w-is) (reversed-top (weightBits (sheetGrid s)) (weightStream s) (omega (arith, p .bits-most))
+      (packed-size 64 (weightCount (sheetGrid s)) (s .range) (s .weights) z (p .weights-most)))

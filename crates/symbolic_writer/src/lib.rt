@@ -1,7 +1,7 @@
 // An acceptable symbolic block (01: sheet) packed into the 128 bits of a block, part by part from bit 0 upwards.
 use bits::PhysicalBlock;
-use block_header::Header;
-use block_mode::ModeBits;
+use block_header::BlockHeader;
+use block_mode::FoundMode;
 use block_mode::WeightGrid;
 use encoding::Stored;
 use symbolic_block::SymbolicBlock;
@@ -13,12 +13,12 @@ ghost use Rattle.bits.specs.Field.{reverse};
 ghost use Rattle.bits.specs.Block.{blockNumber};
 ghost use Rattle.integer_sequence.specs.Reading.{stored};
 ghost use Rattle.footprint.specs.Footprint.{isVolume};
-ghost use Rattle.volume_mode.specs.Either.{modeBitsOf};
+ghost use Rattle.volume_mode.specs.Either.{blockModeOf};
 ghost use Rattle.void_extent.specs.Layout.{extentPlace};
 ghost use Rattle.void_extent.specs.Writing.{fixedBits, voidCells};
 ghost use Rattle.block_header.specs.Counts.{weightBits, extraBits, endpointCount, endpointRangeOf};
 ghost use Rattle.block_fault.specs.Bits.{endpointsFrom};
-ghost use Rattle.symbolic_block.specs.Fields.{gridOf, headerOf, colourIn, extentIn};
+ghost use Rattle.symbolic_block.specs.Fields.{sheetGrid, headerOf, colourIn, extentIn};
 ghost use Rattle.symbolic_block.specs.Refusals.{refusalOf};
 ghost use Rattle.symbolic_block.specs.Writing.{modeNumber, classBit, modesCode, endpointStream, weightStream, endpointsEnd, componentFrom, modeCells, blockOf};
 ghost use Rattle.symbolic_writer.specs.inner.Piled.{withValue, piled, extentCells, Packable};
@@ -42,7 +42,7 @@ fn no_bits() -> PhysicalBlock
 }
 
 fn grid_of(s: SymbolicBlock) -> WeightGrid
-    ensures { λ r. ⌜ r ≡ gridOf s ⌝ }
+    ensures { λ r. ⌜ r ≡ sheetGrid s ⌝ }
 {
     WeightGrid {
         width: s.width,
@@ -54,12 +54,12 @@ fn grid_of(s: SymbolicBlock) -> WeightGrid
 }
 
 // The settings of a mode sheet.
-fn header_of(s: SymbolicBlock) -> Header
+fn header_of(s: SymbolicBlock) -> BlockHeader
     ensures { λ r. ⌜ r ≡ headerOf s ⌝ }
 {
     let grid = grid_of(s);
     let modes = s.modes;
-    Header {
+    BlockHeader {
         grid,
         component: s.component,
         partitions: s.partitions,
@@ -71,12 +71,12 @@ fn header_of(s: SymbolicBlock) -> Header
 
 // The bits of the block mode; 0 where there is none.
 fn mode_number(g: WeightGrid) -> u64
-    ensures { λ r. ⌜ r ≡ modeNumber (modeBitsOf g) ⌝ }
+    ensures { λ r. ⌜ r ≡ modeNumber (blockModeOf g) ⌝ }
 {
-    let m = volume_mode::mode_bits_of(g);
+    let m = volume_mode::block_mode_of(g);
     match m {
-        ModeBits::Mode(bits) => wide16(bits),
-        ModeBits::NoMode => 0,
+        FoundMode::Mode(bits) => wide16(bits),
+        FoundMode::NoMode => 0,
     }
 }
 
@@ -97,7 +97,7 @@ fn class_bit(selector: u8, mode: u64) -> u64
 }
 
 // All endpoint modes as one number: first one class bit for each partition, then two mode bits for each.
-fn modes_code(h: Header) -> u64
+fn modes_code(h: BlockHeader) -> u64
     requires { ⌜ h .partitions ≤ 4 ⌝ }
     ensures { λ r. ⌜ r ≡ modesCode h ⌝ }
 {
@@ -120,7 +120,7 @@ fn modes_code(h: Header) -> u64
 }
 
 // The bit where the endpoint numbers end, n of a range.
-fn endpoints_end(h: Header, n: u32, range: u8) -> u32
+fn endpoints_end(h: BlockHeader, n: u32, range: u8) -> u32
     requires { ⌜ (n ≡ endpointCount h) × (range ≡ endpointRangeOf h) × (n ≤ 18) ⌝ }
     ensures { λ r. ⌜ r ≡ endpointsEnd h ⌝ }
 {
@@ -135,7 +135,7 @@ fn weights_from(g: WeightGrid) -> u32
 }
 
 // The bit where the extra mode bits begin.
-fn extra_from(h: Header) -> u32
+fn extra_from(h: BlockHeader) -> u32
     ensures { λ r. ⌜ r ≡ 128 - weightBits (h .grid) - extraBits (h .partitions) (h .selector) ⌝ }
 {
     let g = h.grid;
@@ -146,7 +146,7 @@ fn extra_from(h: Header) -> u32
 }
 
 // The bit where the component selector (01: plane channel) begins.
-fn component_from(h: Header) -> u32
+fn component_from(h: BlockHeader) -> u32
     ensures { λ r. ⌜ r ≡ componentFrom h ⌝ }
 {
     let g = h.grid;
@@ -213,7 +213,7 @@ fn with_endpoints(b: PhysicalBlock, s: SymbolicBlock, n: u8, range: u8) -> Physi
 // The weights as they stand in a block, from the last bit of their stream to its first.
 fn weights_of(s: SymbolicBlock) -> PhysicalBlock
     requires { ⌜ Packable s ⌝ }
-    ensures { λ r. ⌜ blockNumber r ≡ reverse (weightBits (gridOf s)) (weightStream s) ⌝ }
+    ensures { λ r. ⌜ blockNumber r ≡ reverse (weightBits (sheetGrid s)) (weightStream s) ⌝ }
 {
     let g = grid_of(s);
     let xs = s.weights;

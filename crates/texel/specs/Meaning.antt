@@ -24,7 +24,7 @@ use Rattle.half_float.specs.Half.{unormHalf}
 use Rattle.half_pair.specs.Pair.{noHalf, halfTableOf}
 use Rattle.half_pair.specs.Texel.{halfTexel}
 use Rattle.interpolation.specs.Texel.{texelOf}
-use Rattle.block_header.specs.declared.Header.{Header}
+use Rattle.block_header.specs.declared.BlockHeader.{BlockHeader}
 use Rattle.block_header.specs.Counts.{endpointRangeOf}
 
 -- the numbers unquantised (01: widened), number i being `stored i`
@@ -43,7 +43,7 @@ partitionTexel Unorm16 modes count ends p first second component = texelOf (expa
 partitionTexel Srgb8 modes count ends p first second component = texelOf (expandedPair Srgb8 (getD (tableOf modes count ends) p noPair)) first second component
 partitionTexel Float16 modes count ends p first second component = halfTexel (getD (halfTableOf modes count ends) p noHalf) first second component
 
-module _ (fp : ℕ) (kind : Kind) (h : Header) (ends weights : List Level) (x y z : ℕ) where
+module _ (fp : ℕ) (kind : Kind) (h : BlockHeader) (ends weights : List Level) (x y z : ℕ) where
   -- "Infill gives one weight at the place for each grid"; 02, h: in a volume simplex infill, on three axes
   unfoldable pub planeWeight : ℕ → ℕ
   planeWeight plane =
@@ -68,7 +68,7 @@ module _ (fp : ℕ) (kind : Kind) (h : Header) (ends weights : List Level) (x y 
       (level (planeWeight 0)) (level secondWeight) secondComponent
 
 -- the texel from the stored numbers
-unfoldable pub texelFrom : ℕ → Kind → Header → (ℕ → ℕ) → (ℕ → ℕ) → ℕ → ℕ → ℕ → Texel
+unfoldable pub texelFrom : ℕ → Kind → BlockHeader → (ℕ → ℕ) → (ℕ → ℕ) → ℕ → ℕ → ℕ → Texel
 unfolding mixedTexel endpointLevels weightLevels
 texelFrom fp kind h endpoint weight x y z =
     mixedTexel fp kind h (endpointLevels (endpointRangeOf h) endpoint) (weightLevels (h .grid .range) weight) x y z

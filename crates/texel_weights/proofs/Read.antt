@@ -26,7 +26,7 @@ use Rattle.weight_grid.specs.Cell.{level}
 use Rattle.weight_grid.specs.Bilinear.{blendOf}
 use Rattle.weight_grid.specs.inner.Points.{noPoint, pointOf, pointsOf, stepOf, readOf}
 use Rattle.block_mode.specs.Back2D.{Limits}
-use Rattle.block_header.specs.declared.Header.{Header}
+use Rattle.block_header.specs.declared.BlockHeader.{BlockHeader}
 use Rattle.block_header.specs.Counts.{weightCount}
 use Rattle.block_fault.specs.Bits.{weightAt}
 use Rattle.block_levels.proofs.Levels.{points-le}
@@ -37,7 +37,7 @@ use Rattle.texel_weights.specs.inner.Points.{pointsAt}
 pub small : (k planes : ℕ) → k < 64 → planes ≤ 2 → k * planes ≤ 126
 small k planes h p = mul-le-mul {n₂ = 63} {m₂ = 2} (omega arith) p
 
-module _ (B : ℕ) (h : Header) (l : Limits (h .grid)) (room : weightCount (h .grid) ≤ 64) where
+module _ (B : ℕ) (h : BlockHeader) (l : Limits (h .grid)) (room : weightCount (h .grid) ≤ 64) where
   abbrev range : ℕ
   range = h .grid .range
 
@@ -52,8 +52,8 @@ module _ (B : ℕ) (h : Header) (l : Limits (h .grid)) (room : weightCount (h .g
   weight i = unquantWeight range (number (encodingAt range) (bitsAt range) sequence i)
 
   -- one of the block's weights
-  here : (i : ℕ) → i < weightCount (h .grid) → cell.weightAt (weightLevels range (weightAt B h)) i ≡ weight i
-  unfolding cell.weightAt weightLevels weightAt
+  here : (i : ℕ) → i < weightCount (h .grid) → cell.levelIn (weightLevels range (weightAt B h)) i ≡ weight i
+  unfolding cell.levelIn weightLevels weightAt
   here i k =
       ap (λ (x : Level). x .0) (getD-tab (λ j. level (unquantWeight range (weightAt B h j))) 64 i (level 0) (omega arith))
       ∙ rw (lt-ltb i (weightCount (h .grid)) k)
@@ -70,7 +70,7 @@ module _ (B : ℕ) (h : Header) (l : Limits (h .grid)) (room : weightCount (h .g
     both : (t : Bool) → eqb planes 2 ≡ t → {a b : Stored} → a ≡ stored (number (encodingAt range) (bitsAt range) sequence (k * planes))
         → (planes ≡ 2 → b ≡ stored (number (encodingAt range) (bitsAt range) sequence (k * planes + 1)))
         → levelPair (unquantWeight range (a .0)) (pick t (unquantWeight range (b .0)) 0)
-        ≡ levelPair (cell.weightAt (weightLevels range (weightAt B h)) (k * planes)) (pick t (cell.weightAt (weightLevels range (weightAt B h)) (k * planes + 1)) 0)
+        ≡ levelPair (cell.levelIn (weightLevels range (weightAt B h)) (k * planes)) (pick t (cell.levelIn (weightLevels range (weightAt B h)) (k * planes + 1)) 0)
     both true e ea eb =
         let two : planes ≡ 2 = eqb-true planes 2 e in
         rw (ea, eb two, here (k * planes) (omega (arith, last, l .planes-low)), here (k * planes + 1) (omega (arith, last, two)))
@@ -114,7 +114,7 @@ unfolding readOf
 read-told plane points width height gs gt en er eb ep ev = ev ∙ rw (ep, en, er, eb)
 
 -- their levels are bytes
-pub bytes-told : (B : ℕ) (h : Header) (n right below : ℕ) {p : List LevelPair}
+pub bytes-told : (B : ℕ) (h : BlockHeader) (n right below : ℕ) {p : List LevelPair}
     → p ≡ getD (pointsAt B h) n noPoint ∷ getD (pointsAt B h) (n + right) noPoint ∷ getD (pointsAt B h) (n + below) noPoint ∷ getD (pointsAt B h) (n + below + right) noPoint ∷ []
     → Bytes (getD p 0 noPoint) × Bytes (getD p 1 noPoint) × Bytes (getD p 2 noPoint) × Bytes (getD p 3 noPoint)
 bytes-told B h n right below ep =

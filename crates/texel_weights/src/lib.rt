@@ -1,6 +1,6 @@
 // The weights of one texel: of a block's packed weights only those of the four points around its place on the grid are read.
 use bits::PhysicalBlock;
-use block_header::Header;
+use block_header::BlockHeader;
 use block_mode::WeightGrid;
 use encoding::LevelPair;
 use sequence_numbers::StoredEight;
@@ -43,7 +43,7 @@ fn point_of(words: &[u64; 4], planes: u8, row: StoredEight, j: u32) -> LevelPair
 // The points that are n, its right neighbour, the lower one and the one right of that.
 fn points_at(
     block: PhysicalBlock,
-    h: Header,
+    h: BlockHeader,
     n: usize,
     right: usize,
     below: usize,
@@ -70,7 +70,7 @@ fn points_at(
 }
 
 // The weights of both planes at gs, gt of a block's weight grid.
-pub fn weights_at(block: PhysicalBlock, h: Header, gs: u32, gt: u32) -> LevelPair
+pub fn weights_at(block: PhysicalBlock, h: BlockHeader, gs: u32, gt: u32) -> LevelPair
     requires { ⌜ Limits (h .grid) × (weightCount (h .grid) ≤ 64) ⌝ }
     requires { ⌜ (gs ≤ 16 * (h .grid .width - 1)) × (gt ≤ 16 * (h .grid .height - 1)) ⌝ }
     ensures { λ r. ⌜ firstLevel r ≡ readOf firstLevel (pointsAt (blockNumber block) h) (h .grid .width) (h .grid .height) gs gt ⌝ }

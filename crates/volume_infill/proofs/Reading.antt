@@ -15,7 +15,7 @@ use Rattle.laws.proofs.Filling.{padded-here}
 use Rattle.encoding.specs.declared.Level.{Level}
 use Rattle.encoding.specs.declared.LevelPair.{LevelPair}
 use Rattle.encoding.specs.Levels.{firstLevel, secondLevel, levelPair}
-use Rattle.weight_grid.specs.Cell.{weightAt}
+use Rattle.weight_grid.specs.Cell.{levelIn}
 use Rattle.weight_grid.specs.inner.Points.{stepOf, noPoint, pointOf, pointsOf}
 use Rattle.weight_grid.proofs.Points.{point-lt}
 use Rattle.volume_infill.specs.declared.Walk.{Walk}
@@ -124,7 +124,7 @@ module _ (width height depth gs gt gr : ℕ) (p : Placed width height depth gs g
 
   module _ (levels : List Level) (planes plane : ℕ) where
     abbrev value : ℕ → ℕ
-    value k = weightAt levels (k * planes + plane)
+    value k = levelIn levels (k * planes + plane)
 
     -- where the fractions reach, a neighbour is in the grid and is the point that is read
     there : (i j k : ℕ) → i ≤ 1 → j ≤ 1 → k ≤ 1 → i ≤ gs % 16 → j ≤ gt % 16 → k ≤ gr % 16
@@ -150,33 +150,33 @@ module _ (width height depth gs gt gr : ℕ) (p : Placed width height depth gs g
         walked (gs % 16) (gt % 16) (gr % 16) n right below behind value
         ∙ simplex-same (gs % 16) (gt % 16) (gr % 16) _ _ there
 
-  module _ (levels : List Level) (planes : ℕ) (most : (k : ℕ) → weightAt levels k ≤ 64) where
+  module _ (levels : List Level) (planes : ℕ) (most : (k : ℕ) → levelIn levels k ≤ 64) where
     abbrev second : ℕ → ℕ
-    second k = pick (eqb planes 2) (weightAt levels (k * planes + 1)) 0
+    second k = pick (eqb planes 2) (levelIn levels (k * planes + 1)) 0
 
     second-le : (k : ℕ) → second k ≤ 64
     second-le k = go (eqb planes 2) where
-      go : (t : Bool) → pick t (weightAt levels (k * planes + 1)) 0 ≤ 64
+      go : (t : Bool) → pick t (levelIn levels (k * planes + 1)) 0 ≤ 64
       go true = most _
       go false = omega arith
 
     abbrev points : List LevelPair
     points = pointsOf levels planes (width * height * depth)
 
-    at : (k : ℕ) → k < width * height * depth → getD points k noPoint ≡ levelPair (weightAt levels (k * planes)) (second k)
+    at : (k : ℕ) → k < width * height * depth → getD points k noPoint ≡ levelPair (levelIn levels (k * planes)) (second k)
     unfolding pointsOf pointOf
     at k l = padded-here (pointOf levels planes) noPoint 64 (width * height * depth) k noPoint (omega (arith, p .room)) l
 
-    low : (k : ℕ) → k < width * height * depth → firstLevel (getD points k noPoint) ≡ weightAt levels (k * planes + 0)
+    low : (k : ℕ) → k < width * height * depth → firstLevel (getD points k noPoint) ≡ levelIn levels (k * planes + 0)
     low k l =
         ap firstLevel (at k l)
-        ∙ (let m = most (k * planes) in let e : (weightAt levels (k * planes) + 65536 * second k) % 256 ≡ weightAt levels (k * planes) = omega arith in e)
-        ∙ ap (weightAt levels) (let e : k * planes ≡ k * planes + 0 = omega arith in e)
+        ∙ (let m = most (k * planes) in let e : (levelIn levels (k * planes) + 65536 * second k) % 256 ≡ levelIn levels (k * planes) = omega arith in e)
+        ∙ ap (levelIn levels) (let e : k * planes ≡ k * planes + 0 = omega arith in e)
 
     high : (k : ℕ) → k < width * height * depth → secondLevel (getD points k noPoint) ≡ second k
     high k l =
         ap secondLevel (at k l)
-        ∙ (let m = most (k * planes) in let e : (weightAt levels (k * planes) + 65536 * second k) / 65536 ≡ second k = omega arith in e)
+        ∙ (let m = most (k * planes) in let e : (levelIn levels (k * planes) + 65536 * second k) / 65536 ≡ second k = omega arith in e)
 
     -- a plane of what is read, point by point
     corners : (plane : LevelPair → ℕ) (value : ℕ → ℕ) → ((k : ℕ) → k < width * height * depth → plane (getD points k noPoint) ≡ value k)
@@ -192,14 +192,14 @@ module _ (width height depth gs gt gr : ℕ) (p : Placed width height depth gs g
 
     -- each plane of what is read is that plane's weight, and no weight is above 64
     pub first-volume : volumeRead firstLevel points width height depth gs gt gr ≡ volumeInfill levels width height depth planes 0 gs gt gr
-    first-volume = corners firstLevel (λ k. weightAt levels (k * planes + 0)) low ∙ way-agrees levels planes 0
+    first-volume = corners firstLevel (λ k. levelIn levels (k * planes + 0)) low ∙ way-agrees levels planes 0
 
     pub second-volume : planes ≡ 2 → volumeRead secondLevel points width height depth gs gt gr ≡ volumeInfill levels width height depth planes 1 gs gt gr
     second-volume e = corners secondLevel second high ∙ rw (eq-eqb planes 2 e) (way-agrees levels planes 1)
 
     pub first-volume-le : volumeRead firstLevel points width height depth gs gt gr ≤ 64
     first-volume-le =
-        rw (corners firstLevel (λ k. weightAt levels (k * planes + 0)) low) (four-le (way .w0) (way .w1) (way .w2) (way .w3) way-sum 64 _ _ _ _ (most _) (most _) (most _) (most _))
+        rw (corners firstLevel (λ k. levelIn levels (k * planes + 0)) low) (four-le (way .w0) (way .w1) (way .w2) (way .w3) way-sum 64 _ _ _ _ (most _) (most _) (most _) (most _))
 
     pub second-volume-le : volumeRead secondLevel points width height depth gs gt gr ≤ 64
     second-volume-le =

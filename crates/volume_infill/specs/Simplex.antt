@@ -7,13 +7,13 @@ use mathlib.Core.List.{List}
 use lib.Dec.{ltb}
 use Rattle.laws.specs.Choice.{pick}
 use Rattle.encoding.specs.declared.Level.{Level}
-use Rattle.weight_grid.specs.Cell.{weightAt}
+use Rattle.weight_grid.specs.Cell.{levelIn}
 
 -- v0 = js + jt*Wwidth + jr*Wwidth*Wheight; a neighbour outside the grid counts 0 and is not read, as 01 has it in flat blocks
 unfoldable pub volumeCellOf : List Level → ℕ → ℕ → ℕ → ℕ → ℕ → ℕ → ℕ → ℕ → ℕ
 volumeCellOf levels width height depth planes plane x y z =
     pick (ltb x width)
-    (pick (ltb y height) (pick (ltb z depth) (weightAt levels (((z * height + y) * width + x) * planes + plane)) 0) 0)
+    (pick (ltb y height) (pick (ltb z depth) (levelIn levels (((z * height + y) * width + x) * planes + plane)) 0) 0)
     0
 
 -- i = (p0*w0 + p1*w1 + p2*w2 + p3*w3 + 8) >> 4

@@ -19,7 +19,7 @@ use Rattle.image_layout.specs.Call.{toldOf, toldDecoded}
 use Rattle.volume_layout.specs.declared.VolumeGrid.{VolumeGrid}
 use Rattle.volume_layout.specs.declared.CheckedVolume.the-variants.{Rejected, Accepted}
 use Rattle.volume_layout.specs.Numbers.{volumeNumbersIn}
-use Rattle.volume_layout.specs.Call.{blocksOf, volumeRefusal, gridOf, checkedOf, volumeTallyIn, volumeAnswerIn, volumeOutIn, volumeToldIn}
+use Rattle.volume_layout.specs.Call.{blocksOf, volumeRefusal, volumeGrid, checkedOf, volumeTallyIn, volumeAnswerIn, volumeOutIn, volumeToldIn}
 use Rattle.volume_layout.proofs.Sizes.{was-rejected, was-accepted}
 
 module _ (reading : Reading) (fp : ℕ) (kind : Kind) (w h d : ℕ) (s : List ℕ) where
@@ -56,7 +56,7 @@ module _ (reading : Reading) (fp : ℕ) (kind : Kind) (w h d : ℕ) (s : List �
   pub decoded : (old : List ℕ) (g : VolumeGrid) (t : Tally) (new : List ℕ) → checkedOf fp w h d (length s) (length old) ≡ Accepted g
       → t ≡ tallyOf (faultAtIn reading (g .footprint) kind s) (g .deep * g .down * g .across)
       → new ≡ volumeNumbersIn reading (g .footprint) kind (g .width) (g .height) (g .depth) s → Promised old (Decoded t) new
-  unfolding volumeAnswerIn volumeTallyIn gridOf blocksOf
+  unfolding volumeAnswerIn volumeTallyIn volumeGrid blocksOf
   decoded old g t new q e n =
       let p = was-accepted fp w h d (length s) (length old) g q in
       promised old (Decoded t) new (rw (p .none) (ap Decoded (rw (p .layout) at e))) ((rw (p .layout) at n) ∙ decoded-out old (p .none))

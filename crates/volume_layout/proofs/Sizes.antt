@@ -17,7 +17,7 @@ use Rattle.volume_layout.specs.declared.VolumeGrid.{VolumeGrid}
 use Rattle.volume_layout.specs.declared.CheckedVolume.{CheckedVolume}
 use Rattle.volume_layout.specs.declared.CheckedVolume.the-variants.{Rejected, Accepted}
 use Rattle.volume_layout.specs.Numbers.{texelsIn}
-use Rattle.volume_layout.specs.Call.{depthLimit, badDepth, badSizes, blocksOf, volumeRefusal, gridOf, checkedOf}
+use Rattle.volume_layout.specs.Call.{depthLimit, badDepth, badSizes, blocksOf, volumeRefusal, volumeGrid, checkedOf}
 
 -- ---- sizes that are not refused
 
@@ -95,7 +95,7 @@ module _ (fp w h d bytes places : ℕ) where
   unfolding checkedOf
   rejected e r n = rw (r, ne-eqb e 0 n)
 
-  pub accepted : volumeRefusal fp w h d bytes places ≡ 0 → checkedOf fp w h d bytes places ≡ Accepted (gridOf fp w h d)
+  pub accepted : volumeRefusal fp w h d bytes places ≡ 0 → checkedOf fp w h d bytes places ≡ Accepted (volumeGrid fp w h d)
   unfolding checkedOf
   accepted r = rw r
 
@@ -129,8 +129,8 @@ pub record Sound (g : VolumeGrid) : Type 0 where
   pub deep : g .deep ≡ blocksAcross (g .depth) (g .layers)
   pub deep-most : g .deep ≤ 2048
 
-pub sound : (fp w h d : ℕ) → fp < 24 → badSizes w h d ≡ false → Sound (gridOf fp w h d)
-unfolding gridOf
+pub sound : (fp w h d : ℕ) → fp < 24 → badSizes w h d ≡ false → Sound (volumeGrid fp w h d)
+unfolding volumeGrid
 sound fp w h d f e =
     let s = sized w h d e in
     let b = bounds fp f in
@@ -227,13 +227,13 @@ unfolding blocksOf texelsIn blocksAcross widthOf heightOf depthOf footprints
 reached = (refl, refl)
 
 -- the counts of a layout are the volume's
-module _ (fp w h d : ℕ) {g : VolumeGrid} (e : g ≡ gridOf fp w h d) where
+module _ (fp w h d : ℕ) {g : VolumeGrid} (e : g ≡ volumeGrid fp w h d) where
   pub block-count : {r : ℕ} → r ≡ g .deep * g .down * g .across → r ≡ blocksOf fp w h d
-  unfolding blocksOf gridOf
+  unfolding blocksOf volumeGrid
   block-count k = rw (k, e)
 
   pub texel-count : {r : ℕ} → r ≡ g .depth * g .height * g .width → r ≡ texelsIn w h d
-  unfolding texelsIn gridOf
+  unfolding texelsIn volumeGrid
   texel-count k = rw (k, e)
 
 -- ---- the first stage by its two cases
@@ -273,7 +273,7 @@ module _ (fp w h d bytes places : ℕ) where
   was-rejected e q =
       elim (ℕ-discrete (volumeRefusal fp w h d bytes places) 0) [
         | yes z ↦
-            let k : _≡_ {A = CheckedVolume} (Accepted (gridOf fp w h d)) (Rejected e) = sym (accepted fp w h d bytes places z) ∙ q in
+            let k : _≡_ {A = CheckedVolume} (Accepted (volumeGrid fp w h d)) (Rejected e) = sym (accepted fp w h d bytes places z) ∙ q in
             let z2 : _≡_ {A = ℕ} 0 1 = cc in
             absurd (omega arith)
         | no z ↦
@@ -284,18 +284,18 @@ module _ (fp w h d bytes places : ℕ) where
 
   pub record Passed (g : VolumeGrid) : Type 0 where
     pub none : volumeRefusal fp w h d bytes places ≡ 0
-    pub layout : g ≡ gridOf fp w h d
+    pub layout : g ≡ volumeGrid fp w h d
     pub is-sound : Sound g
     pub exact-bytes : bytes ≡ 16 * (g .deep * g .down * g .across)
     pub exact-places : places ≡ 4 * (g .depth * g .height * g .width)
 
   pub was-accepted : (g : VolumeGrid) → checkedOf fp w h d bytes places ≡ Accepted g → Passed g
-  unfolding gridOf blocksOf texelsIn
+  unfolding volumeGrid blocksOf texelsIn
   was-accepted g q =
       elim (ℕ-discrete (volumeRefusal fp w h d bytes places) 0) [
         | yes z ↦
-            let k : _≡_ {A = CheckedVolume} (Accepted (gridOf fp w h d)) (Accepted g) = sym (accepted fp w h d bytes places z) ∙ q in
-            let r : g ≡ gridOf fp w h d = cc in
+            let k : _≡_ {A = CheckedVolume} (Accepted (volumeGrid fp w h d)) (Accepted g) = sym (accepted fp w h d bytes places z) ∙ q in
+            let r : g ≡ volumeGrid fp w h d = cc in
             let a = accept fp w h d bytes places z in
             record {
               none = z;

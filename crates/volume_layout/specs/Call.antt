@@ -49,8 +49,8 @@ volumeRefusal fp w h d bytes places =
     ∷ [])
 
 -- a volume's layout
-unfoldable pub gridOf : ℕ → ℕ → ℕ → ℕ → VolumeGrid
-gridOf fp w h d = record {
+unfoldable pub volumeGrid : ℕ → ℕ → ℕ → ℕ → VolumeGrid
+volumeGrid fp w h d = record {
   footprint = fp;
   width = w;
   height = h;
@@ -67,7 +67,7 @@ gridOf fp w h d = record {
 unfoldable pub checkedOf : ℕ → ℕ → ℕ → ℕ → ℕ → ℕ → CheckedVolume
 checkedOf fp w h d bytes places =
     let e = volumeRefusal fp w h d bytes places in
-    pick (eqb e 0) (Accepted (gridOf fp w h d)) (Rejected e)
+    pick (eqb e 0) (Accepted (volumeGrid fp w h d)) (Rejected e)
 
 -- ---- the answer and the buffer, in a reading
 

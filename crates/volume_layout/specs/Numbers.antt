@@ -7,7 +7,6 @@ use Rattle.laws.specs.Table.{tab}
 use Rattle.footprint.specs.Footprint.{widthOf, heightOf, depthOf}
 use Rattle.interpolation.specs.declared.Kind.{Kind}
 use Rattle.block_reading.specs.declared.Reading.{Reading}
-use Rattle.block_reading.specs.declared.Reading.the-variants.{Ordinary}
 use Rattle.block_reading.specs.Shown.{numberAtIn}
 use Rattle.image_size.specs.Sides.{blocksAcross}
 use Rattle.image_layout.specs.Numbers as bytes
@@ -26,14 +25,8 @@ unfoldable pub volumeNumberAtIn : Reading → ℕ → Kind → ℕ → ℕ → L
 volumeNumberAtIn reading fp kind w h s x y z c =
     numberAtIn reading fp kind (bytes.blockAt s (blockIndex fp w h x y z)) (x % widthOf fp) (y % heightOf fp) (z % depthOf fp) c
 
-abbrev pub volumeNumberAt : ℕ → Kind → ℕ → ℕ → List ℕ → ℕ → ℕ → ℕ → ℕ → ℕ
-volumeNumberAt fp kind w h s x y z c = volumeNumberAtIn Ordinary fp kind w h s x y z c
-
 -- all numbers of a volume: number n is channel n % 4 of texel n / 4, which stands in column n / 4 % w of row n / 4 / w % h of layer n / 4 / w / h;
 -- texels of an edge block beyond the volume are dropped
 unfoldable pub volumeNumbersIn : Reading → ℕ → Kind → ℕ → ℕ → ℕ → List ℕ → List ℕ
 volumeNumbersIn reading fp kind w h d s =
     tab (λ n. volumeNumberAtIn reading fp kind w h s (n / 4 % w) (n / 4 / w % h) (n / 4 / w / h) (n % 4)) (4 * texelsIn w h d)
-
-abbrev pub volumeNumbers : ℕ → Kind → ℕ → ℕ → ℕ → List ℕ → List ℕ
-volumeNumbers fp kind w h d s = volumeNumbersIn Ordinary fp kind w h d s

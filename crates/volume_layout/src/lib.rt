@@ -2,7 +2,7 @@
 ghost use mathlib.Core.Path.{_≡_};
 ghost use mathlib.Core.Bool.{false};
 ghost use Prim.Native.Nat.{_*_, _≤_, _<_};
-ghost use Rattle.volume_layout.specs.Call.{badDepth, badSizes, gridOf, checkedOf, volumeBlocks, volumePlaces};
+ghost use Rattle.volume_layout.specs.Call.{badDepth, badSizes, volumeGrid, checkedOf, volumeBlocks, volumePlaces};
 
 // The layout of a volume: its footprint, its sides in texels, a block's sides in texels, and how many blocks lie across, down and deep.
 pub struct VolumeGrid {
@@ -59,7 +59,7 @@ pub fn bad_sizes(width: u32, height: u32, depth: u32) -> bool
 // The layout of a volume.
 fn grid_of(footprint: u8, width: u32, height: u32, depth: u32) -> VolumeGrid
     requires { ⌜ (footprint < 24) × (badSizes width height depth ≡ false) ⌝ }
-    ensures { λ r. ⌜ r ≡ gridOf footprint width height depth ⌝ }
+    ensures { λ r. ⌜ r ≡ volumeGrid footprint width height depth ⌝ }
 {
     let w = width as usize;
     let h = height as usize;

@@ -12,22 +12,22 @@ use Rattle.laws.proofs.Computed.{both-left, both-right, each}
 use Rattle.block_mode.specs.declared.WeightGrid.{WeightGrid}
 use Rattle.block_mode.specs.declared.BlockMode.{BlockMode}
 use Rattle.block_mode.specs.declared.BlockMode.the-variants.{VoidExtent, Reserved, Grid}
-use Rattle.block_mode.specs.declared.ModeBits.{ModeBits}
-use Rattle.block_mode.specs.declared.ModeBits.the-variants.{Mode, NoMode}
+use Rattle.block_mode.specs.declared.FoundMode.{FoundMode}
+use Rattle.block_mode.specs.declared.FoundMode.the-variants.{Mode, NoMode}
 use Rattle.block_mode.specs.Mode2D.{blockMode}
-use Rattle.block_mode.specs.Back2D.{Limits, modeBits}
+use Rattle.block_mode.specs.Back2D.{Limits, flatModeOf}
 use Rattle.block_mode.proofs.Modes as flat
 use Rattle.block_mode.proofs.Modes.{isMode, isGrid, is-grid, same-grid, under, never}
 use Rattle.volume_mode.specs.Mode3D.{volumeMode}
 use Rattle.volume_mode.specs.Back3D.{inVolume, Edges, volumeBits, isDouble}
-use Rattle.volume_mode.specs.Either.{blockModeIn, isDeep, modeBitsOf}
+use Rattle.volume_mode.specs.Either.{blockModeIn, isDeep, blockModeOf}
 use Rattle.volume_mode.specs.LeastMode.{LeastMode}
 use Rattle.volume_mode.proofs.Limits.{edges, edge-limits}
 
 -- ---- tests
 
 -- the answer is a mode not above m, and m itself unless the grid has two
-reaches : ModeBits → WeightGrid → ℕ → Bool
+reaches : FoundMode → WeightGrid → ℕ → Bool
 reaches (Mode n) g m = both (leb n m) (either (eqb n m) (isDouble g))
 reaches NoMode g m = false
 
@@ -38,7 +38,7 @@ readBack Reserved m = true
 readBack (Grid g) m = both (inVolume g) (reaches (volumeBits g) g m)
 
 -- bits that are written are read as the grid
-writtenBack : ModeBits → WeightGrid → Bool
+writtenBack : FoundMode → WeightGrid → Bool
 writtenBack (Mode m) g = both (ltb m 2048) (isGrid (volumeMode m) g)
 writtenBack NoMode g = true
 
@@ -60,7 +60,7 @@ test-written = tt
 -- ---- what the tests say
 
 -- the bits found for a grid: not above m, and m itself unless the grid has two modes
-pub record Found (bits : ModeBits) (double : Bool) (m : ℕ) : Type 0 where
+pub record Found (bits : FoundMode) (double : Bool) (m : ℕ) : Type 0 where
   pub mode : ℕ
   pub is : bits ≡ Mode mode
   pub least : mode ≤ m
@@ -70,7 +70,7 @@ either-left : (a b : Bool) → T (either a b) → b ≡ false → T a
 either-left true b t e = tt
 either-left false b t e = absurd (subst (λ (c : Bool). T c) e t)
 
-reached : (x : ModeBits) (g : WeightGrid) (m : ℕ) → T (reaches x g m) → Found x (isDouble g) m
+reached : (x : FoundMode) (g : WeightGrid) (m : ℕ) → T (reaches x g m) → Found x (isDouble g) m
 unfolding reaches
 reached (Mode n) g m t = record {
   mode = n;
@@ -157,22 +157,22 @@ mode-limits true m h g e = edge-limits g (volume-edges m h g e)
 mode-limits false m h g e = flat.mode-limits m h g e
 
 -- a mode that is a grid has bits found for it: not above it, and its own unless it is a volume's grid with two modes
-pub mode-found : (volume : Bool) (m : ℕ) → m < 2048 → (g : WeightGrid) → blockModeIn volume m ≡ Grid g → Found (modeBitsOf g) (both volume (isDouble g)) m
-unfolding blockModeIn modeBitsOf
+pub mode-found : (volume : Bool) (m : ℕ) → m < 2048 → (g : WeightGrid) → blockModeIn volume m ≡ Grid g → Found (blockModeOf g) (both volume (isDouble g)) m
+unfolding blockModeIn blockModeOf
 mode-found true m h g e = rw (mode-deep true m h g e) (volume-found m h g e)
 mode-found false m h g e =
     rw (mode-deep false m h g e)
     (record { mode = m; is = flat.mode-found m h g e; least = omega arith; only = λ n. refl })
 
 -- bits that are found for a grid are a mode that is this grid
-pub found-mode : (g : WeightGrid) (m : ℕ) → modeBitsOf g ≡ Mode m → (m < 2048) × (blockModeIn (isDeep g) m ≡ Grid g)
-unfolding blockModeIn modeBitsOf
+pub found-mode : (g : WeightGrid) (m : ℕ) → blockModeOf g ≡ Mode m → (m < 2048) × (blockModeIn (isDeep g) m ≡ Grid g)
+unfolding blockModeIn blockModeOf
 found-mode g m e = go (isDeep g) refl e where
-  go : (b : Bool) → isDeep g ≡ b → pick b (volumeBits g) (modeBits g) ≡ Mode m → (m < 2048) × (pick b (volumeMode m) (blockMode m) ≡ Grid g)
+  go : (b : Bool) → isDeep g ≡ b → pick b (volumeBits g) (flatModeOf g) ≡ Mode m → (m < 2048) × (pick b (volumeMode m) (blockMode m) ≡ Grid g)
   go true i q = found-volume g m q
   go false i q = flat.found-mode g m q
 
-number : ModeBits → ℕ
+number : FoundMode → ℕ
 number (Mode k) = k
 number NoMode = 0
 
@@ -181,7 +181,7 @@ unfolding number
 mode-number a b p = ap number p
 
 -- so they are the smallest of the modes that are this grid
-pub least-mode : (g : WeightGrid) (n : ℕ) → modeBitsOf g ≡ Mode n → (m : ℕ) → m < 2048 → blockModeIn (isDeep g) m ≡ Grid g → n ≤ m
+pub least-mode : (g : WeightGrid) (n : ℕ) → blockModeOf g ≡ Mode n → (m : ℕ) → m < 2048 → blockModeIn (isDeep g) m ≡ Grid g → n ≤ m
 least-mode g n e m h r =
     let f = mode-found (isDeep g) m h g r in
     let q : f .mode ≡ n = mode-number (f .mode) n (sym (f .is) ∙ e) in
@@ -194,7 +194,7 @@ any-limits true m g e = mode-limits true (m % 2048) (mod-lt m (omega arith)) g (
 any-limits false m g e = flat.any-limits m g e
 
 -- where no bits are found, no mode is this grid
-pub no-mode : (volume : Bool) (g : WeightGrid) → modeBitsOf g ≡ NoMode → (m : ℕ) → m < 2048 → blockModeIn volume m ≡ Grid g → ⊥
+pub no-mode : (volume : Bool) (g : WeightGrid) → blockModeOf g ≡ NoMode → (m : ℕ) → m < 2048 → blockModeIn volume m ≡ Grid g → ⊥
 no-mode volume g n m h e = let f = mode-found volume m h g e in never (f .mode) (sym n ∙ f .is)
 
 -- ---- the whole

@@ -2,8 +2,8 @@
 -- Assumes nothing.
 use mathlib.Core.Path.{_≡_, refl}
 use Prim.Native.Nat.{ℕ, zero, suc, _+_, _*_, _/_, _%_}
-use Rattle.block_mode.specs.declared.ModeBits.{ModeBits}
-use Rattle.block_mode.specs.declared.ModeBits.the-variants.{Mode, NoMode}
+use Rattle.block_mode.specs.declared.FoundMode.{FoundMode}
+use Rattle.block_mode.specs.declared.FoundMode.the-variants.{Mode, NoMode}
 use Rattle.block_mode.specs.declared.BlockMode.{BlockMode}
 use Rattle.block_mode.specs.declared.BlockMode.the-variants.{VoidExtent, Reserved, Grid}
 use Rattle.volume_mode.specs.Mode3D.{volumeMode}
@@ -18,7 +18,7 @@ said VoidExtent = 1
 said Reserved = 2
 said (Grid g) = 3 + g .width + 7 * (g .height + 7 * (g .depth + 7 * (g .range + 12 * g .planes)))
 
-unfoldable pub written : ModeBits → ℕ
+unfoldable pub written : FoundMode → ℕ
 written (Mode m) = 1 + m
 written NoMode = 0
 

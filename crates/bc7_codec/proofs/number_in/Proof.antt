@@ -6,25 +6,25 @@ use borrow.Author.Tests.{eq-eqb, ne-eqb}
 use Rattle.bc7_block.specs.declared.Bc7Block.{Bc7Block}
 use Rattle.bc7_block.specs.Fields.{valueIn}
 use Rattle.bc7_block.proofs.Views.{at-endpoint, at-pbit, at-primary, at-secondary}
-use Rattle.bc7_codec.specs.Numbers.{numberIn}
+use Rattle.bc7_codec.specs.Numbers.{sheetNumber}
 use Rattle.bc7_codec.proofs.Whole.{numbered}
 use Rattle.bc7_codec.proofs.number_in.Statement.{statement}
 use Rattle.bc7_codec.proofs.number_in.Tie as tie
 
 returns : tie.Need-returns
-unfolding numberIn
+unfolding sheetNumber
 returns c = rw (c .if1 .taken)
 
 returns-2 : tie.Need-returns-2
-unfolding numberIn valueIn
+unfolding sheetNumber valueIn
 returns-2 c = rw (c .if2 .taken)
 
 returns-3 : tie.Need-returns-3
-unfolding numberIn valueIn
+unfolding sheetNumber valueIn
 returns-3 c = rw (c .if3 .taken)
 
 returns-4 : tie.Need-returns-4
-unfolding numberIn valueIn
+unfolding sheetNumber valueIn
 returns-4 c = rw (c .if4 .taken)
 
 returns-5 : tie.Need-returns-5

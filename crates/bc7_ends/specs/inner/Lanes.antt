@@ -12,8 +12,8 @@ unfoldable pub lanes : ℕ → ℕ → ℕ → ℕ → ℕ
 lanes a b c d = a + b * 65536 + c * 4294967296 + d * 281474976710656
 
 -- by lane
-abbrev pub packed : (ℕ → ℕ) → ℕ
-packed f = lanes (f 0) (f 1) (f 2) (f 3)
+abbrev pub byLane : (ℕ → ℕ) → ℕ
+byLane f = lanes (f 0) (f 1) (f 2) (f 3)
 
 -- lane c of the colours g: rotation r takes one of them to alpha's place
 unfoldable pub colourLane : ℕ → (ℕ → ℕ) → ℕ → ℕ
@@ -31,10 +31,10 @@ threeOf x y z c = pick (eqb c 0) x (pick (eqb c 1) y z)
 unfoldable pub lineOf : ℕ → (ℕ → ℕ) → ℕ → List ℕ
 unfolding lanes colourLane alphaLane
 lineOf m v j =
-    packed (colourLane (v 2) (endOf m v j 0))
-    ∷ packed (colourLane (v 2) (endOf m v j 1))
-    ∷ packed (alphaLane (v 2) (endOf m v j 0 3))
-    ∷ packed (alphaLane (v 2) (endOf m v j 1 3))
+    byLane (colourLane (v 2) (endOf m v j 0))
+    ∷ byLane (colourLane (v 2) (endOf m v j 1))
+    ∷ byLane (alphaLane (v 2) (endOf m v j 0 3))
+    ∷ byLane (alphaLane (v 2) (endOf m v j 1 3))
     ∷ []
 
 -- no lane above 255

@@ -4,12 +4,12 @@ use native.Mathlib.Omega.{arith}
 use borrow.Author.Needs.{needs}
 use lib.ListN.{length}
 use Rattle.laws.proofs.Filling.{Filling, filling-start, filling-more, filling-done}
-use Rattle.bc7_codec.specs.Numbers.{numberIn}
+use Rattle.bc7_codec.specs.Numbers.{sheetNumber}
 use Rattle.bc7_numbers.proofs.put.Statement.{statement}
 use Rattle.bc7_numbers.proofs.put.Tie as tie
 
 abbrev Inv-loop : tie.InvT-loop
-Inv-loop s numbers₀ k₀ numbers k = (k ≤ 60) × Filling (numberIn s) 0 60 numbers k
+Inv-loop s numbers₀ k₀ numbers k = (k ≤ 60) × Filling (sheetNumber s) 0 60 numbers k
 
 abbrev μ-loop : tie.MeasureT-loop
 μ-loop s numbers₀ k₀ numbers k = 60 - k

@@ -39,15 +39,15 @@ volumeFrameOf fp = record {
 
 module _ (kind : Kind) (g : WeightGrid) (component : ℕ) (points : List LevelPair) (lines : List (List ℕ)) where
   -- the texel of partition p at gs, gt of the grid; `component` takes the second weight, 4 standing for none
-  unfoldable pub texelAt : ℕ → ℕ → ℕ → Texel
-  texelAt p gs gt =
+  unfoldable pub texelOnGrid : ℕ → ℕ → ℕ → Texel
+  texelOnGrid p gs gt =
       texelOn kind (getD lines p []) (readOf firstLevel points (g .width) (g .height) gs gt) (readOf secondLevel points (g .width) (g .height) gs gt) component
 
   -- the texel at x, y of a block
   unfoldable pub texelIn : Seeds → ℕ → Frame → ℕ → ℕ → Texel
-  unfolding texelAt
+  unfolding texelOnGrid
   texelIn seeds partitions f x y =
-      texelAt (pick (eqb partitions 1) 0 (selectBy seeds x y)) (gridPlace (f .across) x (g .width)) (gridPlace (f .down) y (g .height))
+      texelOnGrid (pick (eqb partitions 1) 0 (selectBy seeds x y)) (gridPlace (f .across) x (g .width)) (gridPlace (f .down) y (g .height))
 
 -- the texel of partition 0 at the weights of point t
 unfoldable pub pointTexel : Kind → ℕ → List LevelPair → List (List ℕ) → ℕ → Texel

@@ -13,7 +13,7 @@ use Rattle.interpolation.specs.Expansion.{noPair, takesHdr}
 use Rattle.interpolation.specs.inner.Line.{lineOf}
 use Rattle.half_pair.specs.Pair.{noHalf, halfTableOf}
 use Rattle.half_line.specs.inner.Line.{halfLineOf}
-use Rattle.block_header.specs.declared.Header.{Header}
+use Rattle.block_header.specs.declared.BlockHeader.{BlockHeader}
 
 -- of the pairs of a table, by kind
 unfoldable pub linesBy : Kind → List ℕ → ℕ → List Level → List (List ℕ)
@@ -21,7 +21,7 @@ linesBy kind modes count levels =
     pick (takesHdr kind) (tab (λ p. halfLineOf (getD (halfTableOf modes count levels) p noHalf)) 4) (tab (λ p. lineOf (getD (tableOf modes count levels) p noPair)) 4)
 
 -- of the four partitions of a header
-abbrev pub linesIn : Kind → Header → List Level → List (List ℕ)
+abbrev pub linesIn : Kind → BlockHeader → List Level → List (List ℕ)
 linesIn kind h ends = linesBy kind (h .modes) (h .partitions) ends
 
 -- four colours as they stand

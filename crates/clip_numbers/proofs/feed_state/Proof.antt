@@ -4,7 +4,7 @@ use borrow.Author.Needs.{needs}
 use Rattle.clip.specs.declared.Clip.{Clip}
 use Rattle.clip.specs.declared.Fed.{Fed}
 use Rattle.clip.specs.Feed.{feedOf}
-use Rattle.clip_numbers.specs.Numbers.{numbersOf, clipOf, feedNumbers, numberIn}
+use Rattle.clip_numbers.specs.Numbers.{numbersOf, clipOf, feedNumbers, eventNumber}
 use Rattle.clip_numbers.proofs.feed_state.Statement.{statement}
 use Rattle.clip_numbers.proofs.feed_state.Tie as tie
 
@@ -13,7 +13,7 @@ unfolding feedNumbers
 returns c =
     let a = c .before .before .before .before .before .before .before .before .before .before .before .before .before .before .before .before .before .before .before .before .before .before .before .before .before .args in
     let e = c .before .before .before .before .before .before .before .before .before .before .before .before .before .before .before .before .before .before .feed .ensures ∙ ap (λ (k : Clip). feedOf k (now (a .piece))) (c .before .before .before .before .before .before .before .before .before .before .before .before .before .before .before .before .before .before .before .clip-of .ensures) in (
-      c .number-in .ensures ∙ ap (λ (f : Fed). numberIn (f .event)) e,
+      c .number-in .ensures ∙ ap (λ (f : Fed). eventNumber (f .event)) e,
       (
         c .before .before .before .before .before .before .before .before .before .before .before .before .put-numbers .ensures ∙ c .before .before .before .before .before .before .before .before .before .before .before .before .before .before .numbers-of .ensures ∙ ap (λ (f : Fed). numbersOf (f .clip)) e,
         (

@@ -1,26 +1,26 @@
 use native.Mathlib.Omega.{arith}
 use borrow.Author.Needs.{needs}
-use Rattle.image_layout.specs.Geometry.{gridOf}
+use Rattle.image_layout.specs.Geometry.{imageGrid}
 use Rattle.image_layout.proofs.Calls.{sound}
 use Rattle.image_layout.proofs.grid_of.Statement.{statement}
 use Rattle.image_layout.proofs.grid_of.Tie as tie
 
 blocks-across-requires : tie.Need-blocks-across-requires
-unfolding gridOf
+unfolding imageGrid
 blocks-across-requires c κs = let b = c .before .before in
     let s = sound (b .args .footprint) (b .args .width) (b .args .height) (b .pre .0) (b .pre .1) (b .pre .2) in
     let e = c .before .width .ensures in
     omega (arith, s .columns-least, s .width-most)
 
 blocks-across-requires-2 : tie.Need-blocks-across-requires-2
-unfolding gridOf
+unfolding imageGrid
 blocks-across-requires-2 c κs = let b = c .before .before .before in
     let s = sound (b .args .footprint) (b .args .width) (b .args .height) (b .pre .0) (b .pre .1) (b .pre .2) in
     let e = c .before .height .ensures in
     omega (arith, s .rows-least, s .height-most)
 
 returns : tie.Need-returns
-unfolding gridOf
+unfolding imageGrid
 returns c = let w = c .before .before .before .width .ensures in
     let h = c .before .before .height .ensures in
     let a = c .before .blocks-across .ensures in

@@ -39,15 +39,15 @@ addOf Srgb8 = 8192
 addOf Float16 = 32
 
 -- start and step of a channel
-unfoldable pub startOf : EndpointPair → ℕ → ℕ
-startOf p c = 64 * getD (p .e0) c 0
+unfoldable pub lineStart : EndpointPair → ℕ → ℕ
+lineStart p c = 64 * getD (p .e0) c 0
 
 unfoldable pub slopeOf : EndpointPair → ℕ → ℕ
 slopeOf p c = minus (getD (p .e1) c 0) (getD (p .e0) c 0)
 
 -- the numbers of a pair: the starts of R, G, B, A and their steps; the kind does not count, and the last two are used by kind 2 alone
 unfoldable pub lineOf : EndpointPair → List ℕ
-lineOf p = startOf p 0 ∷ startOf p 1 ∷ startOf p 2 ∷ startOf p 3 ∷ slopeOf p 0 ∷ slopeOf p 1 ∷ slopeOf p 2 ∷ slopeOf p 3 ∷ 0 ∷ 0 ∷ []
+lineOf p = lineStart p 0 ∷ lineStart p 1 ∷ lineStart p 2 ∷ lineStart p 3 ∷ slopeOf p 0 ∷ slopeOf p 1 ∷ slopeOf p 2 ∷ slopeOf p 3 ∷ 0 ∷ 0 ∷ []
 
 module _ (kind : Kind) (line : List ℕ) (first second component : ℕ) where
   -- a channel at its weight; the component that the component selector names takes the second

@@ -7,7 +7,7 @@ use lib.Dec.{ltb}
 use lib.ListN.{length, getD}
 use Rattle.laws.specs.Choice.{pick}
 use Rattle.laws.proofs.Filling.{Filled}
-use Rattle.pvrtc_texel.specs.Word.{weightAt, punched}
+use Rattle.pvrtc_texel.specs.Word.{modulationWeight, punched}
 use Rattle.pvrtc_texel.specs.Texel.{relative, unorm8, modulated}
 use Rattle.pvrtc_texel.specs.Image.{imageTexel}
 use Rattle.pvrtc_word.specs.inner.Lanes.{lane, byteOf}
@@ -51,7 +51,7 @@ ownWord line x = getD line (3 * (x / 4) + 5) 0
 unfoldable pub shownBy : List ℕ → ℕ → ℕ → ℕ → ℕ
 unfolding sampleA sampleB ownWord
 shownBy line y x c =
-    byteOf (sampleA line x) (sampleB line x) (weightAt (ownWord line x) (x % 4) (y % 4)) (punched (ownWord line x) (x % 4) (y % 4)) c
+    byteOf (sampleA line x) (sampleB line x) (modulationWeight (ownWord line x) (x % 4) (y % 4)) (punched (ownWord line x) (x % 4) (y % 4)) c
 
 -- nothing in the way from the line to this texel's bytes is too large
 pub record Paintable (line : List ℕ) (y x : ℕ) : Type 0 where
@@ -60,7 +60,7 @@ pub record Paintable (line : List ℕ) (y x : ℕ) : Type 0 where
   pub right-a : getD line (3 * ((x + 2) / 4) + 3) 0 < 2 ^ 58
   pub left-b : getD line (3 * ((x + 2) / 4) + 1) 0 < 2 ^ 58
   pub right-b : getD line (3 * ((x + 2) / 4) + 4) 0 < 2 ^ 58
-  pub bytes : (c : ℕ) → c < 4 → modulated (weightAt (ownWord line x) (x % 4) (y % 4)) (unorm8 c (lane (sampleA line x) c)) (unorm8 c (lane (sampleB line x) c)) ≤ 255
+  pub bytes : (c : ℕ) → c < 4 → modulated (modulationWeight (ownWord line x) (x % 4) (y % 4)) (unorm8 c (lane (sampleA line x) c)) (unorm8 c (lane (sampleB line x) c)) ≤ 255
 
 -- a buffer after n numbers were put in from place `at` on: what it held of any function before that place, it holds up to their end
 pub record Painted (f : ℕ → ℕ) (n at : ℕ) (old new : List ℕ) : Type 0 where

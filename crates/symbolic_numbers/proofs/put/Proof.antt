@@ -5,7 +5,7 @@ use native.Mathlib.Omega.{arith}
 use borrow.Author.Needs.{needs}
 use lib.ListN.{length, getD, length-set}
 use Rattle.laws.specs.Table.{tab}
-use Rattle.symbolic_block.specs.Fields.{numberIn}
+use Rattle.symbolic_block.specs.Fields.{storedIn}
 use Rattle.symbolic_numbers.specs.Numbers.{addedOf, flatAt}
 use Rattle.symbolic_numbers.proofs.Laws.{flat-by-position}
 use Rattle.symbolic_numbers.proofs.Laid.{Laid, laid-none, laid-more, laid-4, all-laid}
@@ -19,13 +19,13 @@ abbrev μ-loop : tie.MeasureT-loop
 μ-loop numbers₀ settings endpoints weights e hdr depth i₀ numbers i = 21 - i
 
 abbrev Inv-loop2 : tie.InvT-loop2
-Inv-loop2 numbers₀ endpoints weights e hdr depth i j₀ numbers j = (j ≤ 18) × Laid 21 j (numberIn endpoints) numbers₀ numbers × (length numbers ≡ 107)
+Inv-loop2 numbers₀ endpoints weights e hdr depth i j₀ numbers j = (j ≤ 18) × Laid 21 j (storedIn endpoints) numbers₀ numbers × (length numbers ≡ 107)
 
 abbrev μ-loop2 : tie.MeasureT-loop2
 μ-loop2 numbers₀ endpoints weights e hdr depth i j₀ numbers j = 18 - j
 
 abbrev Inv-loop3 : tie.InvT-loop3
-Inv-loop3 numbers₀ weights e hdr depth i j k₀ numbers k = (k ≤ 64) × Laid 39 k (numberIn weights) numbers₀ numbers × (length numbers ≡ 107)
+Inv-loop3 numbers₀ weights e hdr depth i j k₀ numbers k = (k ≤ 64) × Laid 39 k (storedIn weights) numbers₀ numbers × (length numbers ≡ 107)
 
 abbrev μ-loop3 : tie.MeasureT-loop3
 μ-loop3 numbers₀ weights e hdr depth i j k₀ numbers k = 64 - k

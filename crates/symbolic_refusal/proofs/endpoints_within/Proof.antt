@@ -1,7 +1,7 @@
 use mathlib.Core.Path.{_≡_, refl}
 use Prim.Native.Nat.{_-_, _≤_}
 use native.Mathlib.Numerals.{add-one}
-use Rattle.symbolic_block.specs.Fields.{numberIn}
+use Rattle.symbolic_block.specs.Fields.{storedIn}
 use Rattle.symbolic_block.specs.Refusals.{within}
 use borrow.Author.Needs.{needs}
 use native.Mathlib.Omega.{arith}
@@ -9,7 +9,7 @@ use Rattle.symbolic_refusal.proofs.endpoints_within.Statement.{statemen
 use Rattle.symbolic_refusal.proofs.endpoints_within.Tie as tie
 
 abbrev Inv-loop : tie.InvT-loop
-Inv-loop n most xs ok₀ i₀ ok i = (i ≤ 18) × (ok ≡ within i n most (numberIn xs))
+Inv-loop n most xs ok₀ i₀ ok i = (i ≤ 18) × (ok ≡ within i n most (storedIn xs))
 
 abbrev μ-loop : tie.MeasureT-loop
 μ-loop n most xs ok₀ i₀ ok i = 18 - i

@@ -1,4 +1,4 @@
-use Rattle.symbolic_block.specs.Fields.{gridOf}
+use Rattle.symbolic_block.specs.Fields.{sheetGrid}
 use Rattle.symbolic_block.specs.Refusals.{unknownFootprint, noBlockMode}
 use Rattle.symbolic_refusal.specs.inner.Stages.{badFields, fieldReasons}
 use Rattle.symbolic_refusal.proofs.Laws.{three}
@@ -38,7 +38,7 @@ unfolding fieldReasons
 returns c =
     let a = c .before .before .before .before .before .before .before .before .before .args in
     rw (c .first2 .ensures, c .before .first .ensures, c .before .before .told3 .ensures, c .before .before .before .no-block-mode .ensures, c .before .before .before .before .grid-of .ensures, c .before .before .before .before .before .told2 .ensures, c .before .before .before .before .before .before .bad-fields .ensures, c .before .before .before .before .before .before .before .told .ensures, c .before .before .before .before .before .before .before .before .unknown-footprint .ensures)
-    (three (unknownFootprint (a .fp)) (badFields (a .fp) (a .s)) (noBlockMode (gridOf (a .s))) 1 31 32 tt tt)
+    (three (unknownFootprint (a .fp)) (badFields (a .fp) (a .s)) (noBlockMode (sheetGrid (a .s))) 1 31 32 tt tt)
 
 pub field-refusal-spec : {M : Type 1} → statement M
 field-refusal-spec =

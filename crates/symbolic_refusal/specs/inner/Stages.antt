@@ -9,7 +9,7 @@ use Rattle.laws.specs.Reasons.{Reason, when}
 use Rattle.footprint.specs.Footprint.{isVolume}
 use Rattle.void_extent.specs.Layout.{badExtents}
 use Rattle.symbolic_block.specs.declared.SymbolicBlock.{SymbolicBlock}
-use Rattle.symbolic_block.specs.Fields.{gridOf, colourIn, extentIn, modeIn, endpointIn, weightIn}
+use Rattle.symbolic_block.specs.Fields.{sheetGrid, colourIn, extentIn, modeIn, endpointIn, weightIn}
 use Rattle.symbolic_block.specs.Refusals.{inUse, unknownFootprint, badMark, badHdr, badWidth, badHeight, badDepth, badRange, badPlanes, badComponent, badPartitions, badIndex, badSelector, badModes, badColours, badExtentFields, someInUse, noBlockMode, badEndpoints, badWeights, markedWithout}
 
 -- the first of two told numbers, where 0 tells nothing
@@ -58,7 +58,7 @@ badVoidFields fp s = either (badShown fp s) (either (gridInUse s) (either (parti
 -- 1, 31 and 32
 unfoldable pub fieldReasons : ℕ → SymbolicBlock → List Reason
 unfolding badFields
-fieldReasons fp s = when (unknownFootprint fp) 1 ∷ when (badFields fp s) 31 ∷ when (noBlockMode (gridOf s)) 32 ∷ []
+fieldReasons fp s = when (unknownFootprint fp) 1 ∷ when (badFields fp s) 31 ∷ when (noBlockMode (sheetGrid s)) 32 ∷ []
 
 -- 34 and 35
 unfoldable pub numberReasons : SymbolicBlock → List Reason

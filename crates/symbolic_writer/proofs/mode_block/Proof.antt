@@ -1,7 +1,7 @@
 use native.Mathlib.Omega.{arith}
 use mathlib.Core.Path.{_≡_, refl, ap, _∙_}
 use Prim.Native.Nat.{ℕ, _-_, _/_, _≤_}
-use Rattle.block_header.specs.declared.Header.{Header}
+use Rattle.block_header.specs.declared.BlockHeader.{BlockHeader}
 use Rattle.block_header.specs.Counts.{weightBits, extraBits, endpointCount, endpointRangeOf}
 use Rattle.symbolic_block.specs.Fields.{headerOf}
 use Rattle.symbolic_block.specs.Writing.{modesCode, endpointsEnd, componentFrom, modeCells}
@@ -74,13 +74,13 @@ returns : tie.Need-returns
 unfolding piled modeCells
 returns c =
     let h = c .before .before .before .before .before .before .before .before .before .before .before .before .before .before .before .before .header-of .ensures in
-    placed (c .with-block .ensures) (c .before .before .weights-from .ensures .0 ∙ ap (λ (x : Header). 128 - weightBits (x .grid)) h)
-    (appended (c .before .before .before .append3 .ensures) (c .before .before .before .before .extra-from .ensures ∙ ap (λ (x : Header). 128 - weightBits (x .grid) - extraBits (x .partitions) (x .selector)) h)
+    placed (c .with-block .ensures) (c .before .before .weights-from .ensures .0 ∙ ap (λ (x : BlockHeader). 128 - weightBits (x .grid)) h)
+    (appended (c .before .before .before .append3 .ensures) (c .before .before .before .before .extra-from .ensures ∙ ap (λ (x : BlockHeader). 128 - weightBits (x .grid) - extraBits (x .partitions) (x .selector)) h)
     (appended (c .before .before .before .before .before .append2 .ensures) (c .before .before .before .before .before .before .before .component-from .ensures ∙ ap componentFrom h)
     (appended (c .before .before .before .before .before .before .before .before .append .ensures) (c .before .before .before .before .before .before .before .before .before .endpoints-end .ensures ∙ ap endpointsEnd h)
     (placed (c .before .before .before .before .before .before .before .before .before .before .with-endpoints .ensures) refl (c .before .before .before .before .before .before .before .before .before .before .before .settings .ensures) refl)
     refl)
-    (c .before .before .before .before .before .before .wide .ensures .0 ∙ ap (λ (x : Header). x .component) h))
+    (c .before .before .before .before .before .before .wide .ensures .0 ∙ ap (λ (x : BlockHeader). x .component) h))
     (ap (λ (x : ℕ). x / 16) (c .before .before .before .before .before .before .before .before .before .before .before .before .before .before .modes-code .ensures ∙ ap modesCode h)))
     (c .before .weights-of .ensures)
 

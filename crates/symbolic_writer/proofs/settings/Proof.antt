@@ -1,7 +1,7 @@
 use mathlib.Core.Path.{refl, ap, ap₂, _∙_}
 use Prim.Native.Nat.{ℕ, _+_, _-_, _%_}
 use Rattle.block_mode.specs.declared.WeightGrid.{WeightGrid}
-use Rattle.volume_mode.specs.Either.{modeBitsOf}
+use Rattle.volume_mode.specs.Either.{blockModeOf}
 use Rattle.symbolic_block.specs.Writing.{modeNumber, modeCells}
 use Rattle.symbolic_writer.specs.inner.Piled.{piled}
 use Rattle.symbolic_writer.proofs.Piled.{appended}
@@ -65,7 +65,7 @@ returns c =
     (appended (c .before .before .append4 .ensures) index-end
     (appended {p = 13} (c .before .before .before .before .append3 .ensures) refl
     (appended {p = 11} (c .before .before .before .before .before .before .append2 .ensures) refl
-    (appended {p = 0} (c .before .before .before .before .before .before .before .before .append .ensures) refl (c .before .before .before .before .before .before .before .before .before .before .before .no-bits .ensures) (c .before .before .before .before .before .before .before .before .before .mode-number .ensures ∙ ap (λ (g : WeightGrid). modeNumber (modeBitsOf g)) (c .before .before .before .before .before .before .before .before .before .before .grid-of .ensures)))
+    (appended {p = 0} (c .before .before .before .before .before .before .before .before .append .ensures) refl (c .before .before .before .before .before .before .before .before .before .before .before .no-bits .ensures) (c .before .before .before .before .before .before .before .before .before .mode-number .ensures ∙ ap (λ (g : WeightGrid). modeNumber (blockModeOf g)) (c .before .before .before .before .before .before .before .before .before .before .grid-of .ensures)))
     (ap (λ (x : ℕ). x - 1) (c .before .before .before .before .before .before .before .wide .ensures .0)))
     (c .before .before .before .before .before .wide16 .ensures))
     (c .before .before .before .wide2 .ensures .0))

@@ -1,7 +1,7 @@
 use lib.ListN.{length, length-map}
 use mathlib.Core.Path.{_≡_, ap, _∙_}
 use Rattle.block_header.specs.Counts.{weightCount}
-use Rattle.symbolic_block.specs.Fields.{gridOf}
+use Rattle.symbolic_block.specs.Fields.{sheetGrid}
 use native.Mathlib.Omega.{arith}
 use Rattle.symbolic_writer.proofs.Parts.{weight-steps}
 use borrow.Author.Needs.{needs}
@@ -20,7 +20,7 @@ long-enough c = simp length-map at (c .good .0 .1 .1 .1 .1 .1 .1 .1 .1 .1 .1 .1 
 cast-n : tie.Need-cast-n
 cast-n c =
     let s = c .before .before .before .args .s in
-    let e : c .weight-count .result ≡ weightCount (gridOf s) = c .weight-count .ensures .0 ∙ ap weightCount (c .before .before .grid-of .ensures) in
+    let e : c .weight-count .result ≡ weightCount (sheetGrid s) = c .weight-count .ensures .0 ∙ ap weightCount (c .before .before .grid-of .ensures) in
     omega (arith, c .before .before .before .pre .weights-most)
 
 no-bits-requires : tie.Need-no-bits-requires

@@ -6,7 +6,7 @@ use mathlib.Core.List.{List, [], _∷_}
 use Rattle.bits.specs.Field.{field}
 use Rattle.block_header.specs.Counts.{weightCount, weightBits, endpointCount}
 use Rattle.symbolic_block.specs.declared.SymbolicBlock.{SymbolicBlock}
-use Rattle.symbolic_block.specs.Fields.{gridOf, headerOf}
+use Rattle.symbolic_block.specs.Fields.{sheetGrid, headerOf}
 use Rattle.bits.specs.Cells.{Cell}
 use Rattle.void_extent.specs.Writing.{extentCell}
 
@@ -30,6 +30,6 @@ extentCells volume e =
 pub record Packable (s : SymbolicBlock) : Type 0 where
   pub partitions-low : 1 ≤ s .partitions
   pub partitions-most : s .partitions ≤ 4
-  pub weights-most : weightCount (gridOf s) ≤ 64
-  pub bits-most : weightBits (gridOf s) ≤ 96
+  pub weights-most : weightCount (sheetGrid s) ≤ 64
+  pub bits-most : weightBits (sheetGrid s) ≤ 96
   pub endpoints-most : endpointCount (headerOf s) ≤ 18

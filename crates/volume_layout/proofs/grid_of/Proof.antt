@@ -1,36 +1,36 @@
 use native.Mathlib.Omega.{arith}
 use borrow.Author.Needs.{needs}
-use Rattle.volume_layout.specs.Call.{gridOf}
+use Rattle.volume_layout.specs.Call.{volumeGrid}
 use Rattle.volume_layout.proofs.Sizes.{Sound, sound}
 use Rattle.volume_layout.proofs.grid_of.Statement.{statement}
 use Rattle.volume_layout.proofs.grid_of.Tie as tie
 
-facts : (c : tie.Start) → Sound (gridOf (c .args .footprint) (c .args .width) (c .args .height) (c .args .depth))
+facts : (c : tie.Start) → Sound (volumeGrid (c .args .footprint) (c .args .width) (c .args .height) (c .args .depth))
 facts c = sound _ _ _ _ (c .pre .0) (c .pre .1)
 
 blocks-across-requires : tie.Need-blocks-across-requires
-unfolding gridOf
+unfolding volumeGrid
 blocks-across-requires c κs = let b = c .before .before .before in
     let s = facts b in
     let e = c .before .before .width .ensures in
     omega (arith, s .columns-least, s .width-most)
 
 blocks-across-requires-2 : tie.Need-blocks-across-requires-2
-unfolding gridOf
+unfolding volumeGrid
 blocks-across-requires-2 c κs = let b = c .before .before .before .before in
     let s = facts b in
     let e = c .before .before .height .ensures in
     omega (arith, s .rows-least, s .height-most)
 
 blocks-across-requires-3 : tie.Need-blocks-across-requires-3
-unfolding gridOf
+unfolding volumeGrid
 blocks-across-requires-3 c κs = let b = c .before .before .before .before .before in
     let s = facts b in
     let e = c .before .before .depth .ensures in
     omega (arith, s .layers-least, s .depth-most)
 
 returns : tie.Need-returns
-unfolding gridOf
+unfolding volumeGrid
 returns c = let w = c .before .before .before .before .before .width .ensures in
     let h = c .before .before .before .before .height .ensures in
     let d = c .before .before .before .depth .ensures in

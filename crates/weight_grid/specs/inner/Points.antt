@@ -9,7 +9,7 @@ use Rattle.laws.specs.Table.{padded}
 use Rattle.encoding.specs.declared.Level.{Level}
 use Rattle.encoding.specs.declared.LevelPair.{LevelPair}
 use Rattle.encoding.specs.Levels.{levelPair}
-use Rattle.weight_grid.specs.Cell.{weightAt}
+use Rattle.weight_grid.specs.Cell.{levelIn}
 use Rattle.weight_grid.specs.Bilinear.{w00, w01, w10, w11, blendOf}
 
 -- the blends of both planes in one sum, from the numbers of four pairs; 524296 is 8 in both planes, the rounding of each. That each plane
@@ -38,7 +38,7 @@ readOf plane points width height gs gt =
 
 -- the points of a grid, so many, from its weights: with two planes they alternate, with one the second is 0
 unfoldable pub pointOf : List Level → ℕ → ℕ → LevelPair
-pointOf levels planes k = levelPair (weightAt levels (k * planes)) (pick (eqb planes 2) (weightAt levels (k * planes + 1)) 0)
+pointOf levels planes k = levelPair (levelIn levels (k * planes)) (pick (eqb planes 2) (levelIn levels (k * planes + 1)) 0)
 
 unfoldable pub pointsOf : List Level → ℕ → ℕ → List LevelPair
 pointsOf levels planes count = padded 64 count (pointOf levels planes) noPoint
