@@ -16,18 +16,6 @@ use Rattle.image.proofs.decode_image_srgb8.Reads as decode-image-srgb8-reads
 accepted : (c : tie.After-known-told2) → headerAnswer (now (c .before .before .before .before .before .before .args .file)) ≡ Accepted (c .before .answer2 .given .0 .0)
 accepted c = sym (c .before .before .before .read-header .ensures .0) ∙ c .before .answer2 .given .1
 
--- src/lib.rt:31:9
-read-header-requires : tie.Need-read-header-requires
-read-header-requires c κs = search needs
-
--- src/lib.rt:33:31
-enum-known-answer : tie.Need-enum-known-answer
-enum-known-answer c = search needs
-
--- src/lib.rt:34:32
-enum-known-answer-2 : tie.Need-enum-known-answer-2
-enum-known-answer-2 c = search needs
-
 -- src/lib.rt:35:71
 sub-decode-image-srgb8 : tie.Need-sub-decode-image-srgb8
 sub-decode-image-srgb8 c = long _ _ (accepted c)
@@ -36,23 +24,11 @@ sub-decode-image-srgb8 c = long _ _ (accepted c)
 part-decode-image-srgb8-start : tie.Need-part-decode-image-srgb8-start
 part-decode-image-srgb8-start c = let l = long _ _ (accepted c) in search needs
 
--- src/lib.rt:35:71
-part-decode-image-srgb8-end : tie.Need-part-decode-image-srgb8-end
-part-decode-image-srgb8-end c = search needs
-
--- src/lib.rt:35:13
-decode-image-srgb8-requires : tie.Need-decode-image-srgb8-requires
-decode-image-srgb8-requires c κs = search needs
-
 -- src/lib.rt:26:1
 returns : tie.Need-returns
 returns c =
     let a = c .before .before .before .before .before .before .args in
     file-refused Srgb8 (now (a .file)) (now (a .out)) _ (sym (c .before .before .before .read-header .ensures .0) ∙ c .before .answer .given .1)
-
--- src/lib.rt:26:1
-same-length : tie.Need-same-length
-same-length c = search needs
 
 -- src/lib.rt:26:1
 returns-2 : tie.Need-returns-2
@@ -66,13 +42,13 @@ pub decode-file-srgb8-spec : {M : Type 1} → statement M
 decode-file-srgb8-spec =
     tie.close
     (tie.spec
-    read-header-requires
-    enum-known-answer
-    enum-known-answer-2
+    (λ c κs. search needs)
+    (λ c. search needs)
+    (λ c. search needs)
     sub-decode-image-srgb8
     part-decode-image-srgb8-start
-    part-decode-image-srgb8-end
-    decode-image-srgb8-requires
+    (λ c. search needs)
+    (λ c κs. search needs)
     returns
-    same-length
+    (λ c. search needs)
     returns-2)

@@ -15,18 +15,6 @@ use Rattle.image.proofs.decode_image_words.Reads as decode-image-words-reads
 accepted : (c : tie.After-known-told2) → headerAnswer (now (c .before .before .before .before .before .before .args .file)) ≡ Accepted (c .before .answer2 .given .0 .0)
 accepted c = sym (c .before .before .before .read-header .ensures .0) ∙ c .before .answer2 .given .1
 
--- src/lib.rt:16:9
-read-header-requires : tie.Need-read-header-requires
-read-header-requires c κs = search needs
-
--- src/lib.rt:18:31
-enum-known-answer : tie.Need-enum-known-answer
-enum-known-answer c = search needs
-
--- src/lib.rt:19:32
-enum-known-answer-2 : tie.Need-enum-known-answer-2
-enum-known-answer-2 c = search needs
-
 -- src/lib.rt:20:73
 sub-decode-image-words : tie.Need-sub-decode-image-words
 sub-decode-image-words c = long _ _ (accepted c)
@@ -35,23 +23,11 @@ sub-decode-image-words c = long _ _ (accepted c)
 part-decode-image-words-start : tie.Need-part-decode-image-words-start
 part-decode-image-words-start c = let l = long _ _ (accepted c) in search needs
 
--- src/lib.rt:20:73
-part-decode-image-words-end : tie.Need-part-decode-image-words-end
-part-decode-image-words-end c = search needs
-
--- src/lib.rt:20:13
-decode-image-words-requires : tie.Need-decode-image-words-requires
-decode-image-words-requires c κs = search needs
-
 -- src/lib.rt:11:1
 returns : tie.Need-returns
 returns c =
     let a = c .before .before .before .before .before .before .args in
     file-refused (a .kind) (now (a .file)) (now (a .out)) _ (sym (c .before .before .before .read-header .ensures .0) ∙ c .before .answer .given .1)
-
--- src/lib.rt:11:1
-same-length : tie.Need-same-length
-same-length c = search needs
 
 -- src/lib.rt:11:1
 returns-2 : tie.Need-returns-2
@@ -65,13 +41,13 @@ pub decode-file-words-spec : {M : Type 1} → statement M
 decode-file-words-spec =
     tie.close
     (tie.spec
-    read-header-requires
-    enum-known-answer
-    enum-known-answer-2
+    (λ c κs. search needs)
+    (λ c. search needs)
+    (λ c. search needs)
     sub-decode-image-words
     part-decode-image-words-start
-    part-decode-image-words-end
-    decode-image-words-requires
+    (λ c. search needs)
+    (λ c κs. search needs)
     returns
-    same-length
+    (λ c. search needs)
     returns-2)

@@ -18,14 +18,6 @@ none c = sym (c .before .refusal .ensures) ∙ c .if1 .left
 long : (c : tie.Else1) → 16 ≤ length (now (c .before .before .before .args .file))
 long c = taken _ (none c) .form .long
 
--- src/lib.rt:156:8
-refusal-requires : tie.Need-refusal-requires
-refusal-requires c κs = search needs
-
--- src/lib.rt:157:9
-slice-aggregate-result : tie.Need-slice-aggregate-result
-slice-aggregate-result c = search needs
-
 -- src/lib.rt:157:9
 returns : tie.Need-returns
 returns c = no-blocks _ (λ e. c .before .if1 .taken (c .before .before .refusal .ensures ∙ e))
@@ -38,10 +30,6 @@ sub-result c = let k = long c in search needs
 part-result-start : tie.Need-part-result-start
 part-result-start c = let k = long c in search needs
 
--- src/lib.rt:159:5
-part-result-end : tie.Need-part-result-end
-part-result-end c = search needs
-
 -- src/lib.rt:153:1
 returns-2 : tie.Need-returns-2
 returns-2 c = let s = now (c .before .before .before .before .args .file) in part-all s (none (c .before)) ∙ its-blocks s (none (c .before))
@@ -50,10 +38,10 @@ pub file-blocks-spec : {M : Type 1} → statement M
 file-blocks-spec =
     tie.close
     (tie.spec
-    refusal-requires
-    slice-aggregate-result
+    (λ c κs. search needs)
+    (λ c. search needs)
     returns
     sub-result
     part-result-start
-    part-result-end
+    (λ c. search needs)
     returns-2)

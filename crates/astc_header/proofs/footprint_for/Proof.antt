@@ -23,32 +23,12 @@ loop-holds : tie.Need-loop-holds Inv-loop μ-loop
 unfolding footprintFor
 loop-holds c = (omega arith, refl)
 
--- src/lib.rt:67:17
-width-requires : tie.Need-width-requires Inv-loop μ-loop
-width-requires c κs = search needs
-
--- src/lib.rt:67:50
-height-requires : tie.Need-height-requires Inv-loop μ-loop
-height-requires c κs = search needs
-
--- src/lib.rt:67:12
-both-requires : tie.Need-both-requires Inv-loop μ-loop
-both-requires c κs = search needs
-
 -- src/lib.rt:68:13
 returns : tie.Need-returns Inv-loop μ-loop
 returns c =
     let b = c .before .before .before .before .before in
     let l = b .loop in
     sym (found-here (b .before .args .columns) (b .before .args .rows) (l .fp) (search needs) (rw (sym (c .before .before .before .width .ensures), sym (c .before .before .height .ensures)) (sym (c .before .both .ensures) ∙ c .if1 .taken))) ∙ l .inv .1
-
--- src/lib.rt:70:9
-add-fp : tie.Need-add-fp Inv-loop μ-loop
-add-fp c = search needs
-
--- src/lib.rt:66:5
-loop-less : tie.Need-loop-less Inv-loop μ-loop
-loop-less c = search needs
 
 -- src/lib.rt:66:5
 loop-again : tie.Need-loop-again Inv-loop μ-loop
@@ -68,11 +48,11 @@ footprint-for-spec =
     Inv-loop
     μ-loop
     loop-holds
-    width-requires
-    height-requires
-    both-requires
+    (λ c κs. search needs)
+    (λ c κs. search needs)
+    (λ c κs. search needs)
     returns
-    add-fp
-    loop-less
+    (λ c. search needs)
+    (λ c. search needs)
     loop-again
     returns-2)

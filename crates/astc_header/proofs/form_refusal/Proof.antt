@@ -12,14 +12,6 @@ use Rattle.astc_header.proofs.known_shape.Reads as known-shape-reads
 returns : tie.Need-returns
 returns c = sym (form-41 _ (c .if1 .taken))
 
--- src/lib.rt:111:8
-has-start-requires : tie.Need-has-start-requires
-has-start-requires c κs = search needs
-
--- src/lib.rt:112:12
-known-shape-requires : tie.Need-known-shape-requires
-known-shape-requires c κs = search needs
-
 -- src/lib.rt:105:1
 returns-2 : tie.Need-returns-2
 returns-2 c =
@@ -37,4 +29,4 @@ returns-4 c = sym (form-42 _ (c .before .before .if1 .left) (sym (c .before .has
 pub form-refusal-spec : {M : Type 1} → statement M
 form-refusal-spec =
     tie.close
-    (tie.spec returns has-start-requires known-shape-requires returns-2 returns-3 returns-4)
+    (tie.spec returns (λ c κs. search needs) (λ c κs. search needs) returns-2 returns-3 returns-4)

@@ -6,14 +6,10 @@ use Rattle.astc_header.proofs.has_start.Reads as reads
 use Rattle.astc_header.proofs.has_start.Lts as lts
 use Rattle.astc_header.proofs.same_four.Reads as same-four-reads
 
--- src/lib.rt:58:5
-same-four-requires : tie.Need-same-four-requires
-same-four-requires c κs = search needs
-
 -- src/lib.rt:54:1
 returns : tie.Need-returns
 unfolding hasStart
 returns c = c .same-four .ensures
 
 pub has-start-spec : {M : Type 1} → statement M
-has-start-spec = tie.close (tie.spec same-four-requires returns)
+has-start-spec = tie.close (tie.spec (λ c κs. search needs) returns)

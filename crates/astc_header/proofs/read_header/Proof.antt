@@ -11,10 +11,6 @@ use Rattle.astc_header.proofs.read_header.Lts as lts
 use Rattle.astc_header.proofs.header_in.Reads as header-in-reads
 use Rattle.astc_header.proofs.refusal.Reads as refusal-reads
 
--- src/lib.rt:145:9
-refusal-requires : tie.Need-refusal-requires
-refusal-requires c κs = search needs
-
 -- src/lib.rt:147:9
 returns : tie.Need-returns
 returns c =
@@ -36,4 +32,4 @@ returns-2 c =
     (ap Accepted h ∙ answer-accepted s z, ap toldAccepted h ∙ told-accepted s z)
 
 pub read-header-spec : {M : Type 1} → statement M
-read-header-spec = tie.close (tie.spec refusal-requires returns header-in-requires returns-2)
+read-header-spec = tie.close (tie.spec (λ c κs. search needs) returns header-in-requires returns-2)

@@ -17,10 +17,6 @@ use Rattle.image_size.proofs.size_refusal.Reads as size-refusal-reads
 formed-at : (c : tie.Else1) → Formed (now (c .before .before .before .args .s))
 formed-at c = formed _ (sym (c .before .form-refusal .ensures) ∙ c .if1 .left)
 
--- src/lib.rt:124:9
-form-refusal-requires : tie.Need-form-refusal-requires
-form-refusal-requires c κs = search needs
-
 -- src/lib.rt:126:9
 returns : tie.Need-returns
 returns c = c .before .form-refusal .ensures ∙ refused-form _ (λ e. c .if1 .taken (c .before .form-refusal .ensures ∙ e))
@@ -28,10 +24,6 @@ returns c = c .before .form-refusal .ensures ∙ refused-form _ (λ e. c .if1 .t
 -- src/lib.rt:128:9
 header-in-requires : tie.Need-header-in-requires
 header-in-requires c κs = formed-at c .long
-
--- src/lib.rt:129:9
-size-refusal-requires : tie.Need-size-refusal-requires
-size-refusal-requires c κs = search needs
 
 -- src/lib.rt:131:9
 returns-2 : tie.Need-returns-2
@@ -41,21 +33,9 @@ returns-2 c =
     let q = rw h at (c .before .size-refusal .ensures) in
     q ∙ refused-3 _ f (λ e. c .if2 .taken (q ∙ e))
 
--- src/lib.rt:133:9
-blocks-of-requires : tie.Need-blocks-of-requires
-blocks-of-requires c κs = search needs
-
 -- src/lib.rt:134:8
 sub-if3 : tie.Need-sub-if3
 sub-if3 c = formed-at (c .before .before .before .before) .long
-
--- src/lib.rt:134:30
-cast-if3 : tie.Need-cast-if3
-cast-if3 c = search needs
-
--- src/lib.rt:134:24
-mul-if3 : tie.Need-mul-if3
-mul-if3 c = search needs
 
 -- the sides are not refused, and how many blocks they ask for
 sides-at : (c : tie.Else2) → let h = headerIn (now (c .before .before .before .before .before .before .args .s)) in sizeRefusal (h .footprint) (h .width) (h .height) ≡ 0
@@ -74,14 +54,14 @@ pub refusal-spec : {M : Type 1} → statement M
 refusal-spec =
     tie.close
     (tie.spec
-    form-refusal-requires
+    (λ c κs. search needs)
     returns
     header-in-requires
-    size-refusal-requires
+    (λ c κs. search needs)
     returns-2
-    blocks-of-requires
+    (λ c κs. search needs)
     sub-if3
-    cast-if3
-    mul-if3
+    (λ c. search needs)
+    (λ c. search needs)
     returns-3
     returns-4)

@@ -12,22 +12,10 @@ use Rattle.footprint.proofs.height.Reads as height-reads
 use Rattle.footprint.proofs.width.Reads as width-reads
 use Rattle.image_size.proofs.size_refusal.Reads as size-refusal-reads
 
--- src/lib.rt:193:9
-size-refusal-requires : tie.Need-size-refusal-requires
-size-refusal-requires c κs = search needs
-
 -- src/lib.rt:195:9
 returns : tie.Need-returns
 unfolding tab tabFrom
 returns c = zeros _ _ _ _ (c .before .size-refusal .ensures) (c .if1 .taken)
-
--- src/lib.rt:200:9
-width-requires : tie.Need-width-requires
-width-requires c κs = search needs
-
--- src/lib.rt:201:9
-height-requires : tie.Need-height-requires
-height-requires c κs = search needs
 
 -- src/lib.rt:202:9
 header-with-requires : tie.Need-header-with-requires
@@ -46,9 +34,9 @@ pub write-header-spec : {M : Type 1} → statement M
 write-header-spec =
     tie.close
     (tie.spec
-    size-refusal-requires
+    (λ c κs. search needs)
     returns
-    width-requires
-    height-requires
+    (λ c κs. search needs)
+    (λ c κs. search needs)
     header-with-requires
     returns-2)

@@ -23,35 +23,11 @@ number c =
     let t = c .before .refusal-told .ensures ∙ ap (λ (t : HeaderTold). t .refusal) (c .before .before .read-header .ensures .1) in
     c .then-five .ensures ∙ ap (λ (e : ℕ). thenFive e (length (now (a .header))) 3) t ∙ read-number (now (a .file)) (now (a .header))
 
--- src/lib.rt:57:9
-read-header-requires : tie.Need-read-header-requires
-read-header-requires c κs = search needs
-
--- src/lib.rt:58:28
-refusal-told-requires : tie.Need-refusal-told-requires
-refusal-told-requires c κs = search needs
-
--- src/lib.rt:58:9
-then-five-requires : tie.Need-then-five-requires
-then-five-requires c κs = search needs
-
 -- src/lib.rt:60:9
 returns : tie.Need-returns
 returns c =
     let a = c .before .before .before .before .before .before .args in
     (number (c .before), read-kept (now (a .file)) (now (a .header)) (c .if1 .taken))
-
--- src/lib.rt:62:16
-header-told-requires : tie.Need-header-told-requires
-header-told-requires c κs = search needs
-
--- src/lib.rt:62:5
-put-header-requires : tie.Need-put-header-requires
-put-header-requires c κs = search needs
-
--- src/lib.rt:53:1
-same-length : tie.Need-same-length
-same-length c = search needs
 
 -- src/lib.rt:53:1
 returns-2 : tie.Need-returns-2
@@ -65,11 +41,11 @@ pub read-numbers-spec : {M : Type 1} → statement M
 read-numbers-spec =
     tie.close
     (tie.spec
-    read-header-requires
-    refusal-told-requires
-    then-five-requires
+    (λ c κs. search needs)
+    (λ c κs. search needs)
+    (λ c κs. search needs)
     returns
-    header-told-requires
-    put-header-requires
-    same-length
+    (λ c κs. search needs)
+    (λ c κs. search needs)
+    (λ c. search needs)
     returns-2)

@@ -20,27 +20,11 @@ number c =
     c .then-five .ensures ∙ ap (λ (w : WrittenHeader). thenFive (w .refusal) (length (now (a .header))) 16) (c .before .write-header .ensures)
     ∙ write-number (a .footprint) (a .width) (a .height) (length (now (a .header)))
 
--- src/lib.rt:71:9
-write-header-requires : tie.Need-write-header-requires
-write-header-requires c κs = search needs
-
--- src/lib.rt:72:9
-then-five-requires : tie.Need-then-five-requires
-then-five-requires c κs = search needs
-
 -- src/lib.rt:74:9
 returns : tie.Need-returns
 returns c =
     let a = c .before .before .before .before .args in
     (number (c .before), write-kept (a .footprint) (a .width) (a .height) (now (a .header)) (c .if1 .taken))
-
--- src/lib.rt:77:5
-put-block-requires : tie.Need-put-block-requires
-put-block-requires c κs = search needs
-
--- src/lib.rt:67:1
-same-length : tie.Need-same-length
-same-length c = search needs
 
 -- src/lib.rt:67:1
 returns-2 : tie.Need-returns-2
@@ -53,9 +37,9 @@ pub write-numbers-spec : {M : Type 1} → statement M
 write-numbers-spec =
     tie.close
     (tie.spec
-    write-header-requires
-    then-five-requires
+    (λ c κs. search needs)
+    (λ c κs. search needs)
     returns
-    put-block-requires
-    same-length
+    (λ c κs. search needs)
+    (λ c. search needs)
     returns-2)

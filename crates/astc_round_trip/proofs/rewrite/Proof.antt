@@ -9,22 +9,6 @@ use Rattle.astc_round_trip.proofs.rewrite.Lts as lts
 use Rattle.astc_header.proofs.read_header.Reads as read-header-reads
 use Rattle.astc_header.proofs.write_header.Reads as write-header-reads
 
--- src/lib.rt:11:9
-read-header-requires : tie.Need-read-header-requires
-read-header-requires c κs = search needs
-
--- src/lib.rt:13:31
-enum-known-answer : tie.Need-enum-known-answer
-enum-known-answer c = search needs
-
--- src/lib.rt:17:32
-enum-known-answer-2 : tie.Need-enum-known-answer-2
-enum-known-answer-2 c = search needs
-
--- src/lib.rt:18:13
-write-header-requires : tie.Need-write-header-requires
-write-header-requires c κs = search needs
-
 -- src/lib.rt:8:1
 returns : tie.Need-returns
 unfolding tab tabFrom
@@ -40,9 +24,9 @@ pub rewrite-spec : {M : Type 1} → statement M
 rewrite-spec =
     tie.close
     (tie.spec
-    read-header-requires
-    enum-known-answer
-    enum-known-answer-2
-    write-header-requires
+    (λ c κs. search needs)
+    (λ c. search needs)
+    (λ c. search needs)
+    (λ c κs. search needs)
     returns
     returns-2)

@@ -7,21 +7,12 @@ use borrow.Author.Needs.{needs}
 use Rattle.bc7_calls.proofs.read_bc7.Statement.{statement}
 use Rattle.bc7_calls.proofs.read_bc7.Tie as tie
 
-told-requires : tie.Need-told-requires
-told-requires c κs = search needs
-
 returns : tie.Need-returns
 returns c = let e = c .told .ensures ∙ wrong-length _ (c .before .if1 .taken) in (e, reading-told _ _ e)
-
-load-requires : tie.Need-load-requires
-load-requires c κs = search needs
-
-read-number-requires : tie.Need-read-number-requires
-read-number-requires c κs = search needs
 
 returns-2 : tie.Need-returns-2
 returns-2 c = let bytes : Bytes (now (c .before .before .before .before .args .block)) = λ i. c .before .before .before .shared-slice-known .given i .fits in let e = c .read-number .ensures ∙ right-length _ _ (c .before .before .if1 .left) bytes (c .before .load .ensures) in (e, reading-told _ _ e)
 
 pub read-bc7-spec : {M : Type 1} → statement M
 read-bc7-spec =
-    tie.close (tie.spec told-requires returns load-requires read-number-requires returns-2)
+    tie.close (tie.spec (λ c κs. search needs) returns (λ c κs. search needs) (λ c κs. search needs) returns-2)

@@ -6,20 +6,11 @@ use borrow.Author.Needs.{needs}
 use Rattle.bc7_calls.proofs.read_number.Statement.{statement}
 use Rattle.bc7_calls.proofs.read_number.Tie as tie
 
-mode-at-requires : tie.Need-mode-at-requires
-mode-at-requires c κs = search needs
-
-told-requires : tie.Need-told-requires
-told-requires c κs = search needs
-
 returns : tie.Need-returns
 returns c = c .told .ensures ∙ faulty _ (sym (c .before .before .mode-at .ensures .0) ∙ c .before .if1 .taken)
 
 read-fields-requires : tie.Need-read-fields-requires
 read-fields-requires c κs = let k = known-mode _ (λ q. c .if1 .left (c .before .mode-at .ensures .0 ∙ q)) in (c .before .mode-at .ensures .0, omega (arith, c .before .mode-at .ensures .0, k .1))
-
-sheet-of-requires : tie.Need-sheet-of-requires
-sheet-of-requires c κs = search needs
 
 returns-2 : tie.Need-returns-2
 returns-2 c = done _ _ _ _ (c .before .before .before .mode-at .ensures .0) (c .before .before .if1 .left) (c .before .read-fields .ensures) (rw (c .sheet-of .ensures))
@@ -28,9 +19,9 @@ pub read-number-spec : {M : Type 1} → statement M
 read-number-spec =
     tie.close
     (tie.spec
-    mode-at-requires
-    told-requires
+    (λ c κs. search needs)
+    (λ c κs. search needs)
     returns
     read-fields-requires
-    sheet-of-requires
+    (λ c κs. search needs)
     returns-2)

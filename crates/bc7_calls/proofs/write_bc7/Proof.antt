@@ -4,20 +4,11 @@ use borrow.Author.Needs.{needs}
 use Rattle.bc7_calls.proofs.write_bc7.Statement.{statement}
 use Rattle.bc7_calls.proofs.write_bc7.Tie as tie
 
-refusal-requires : tie.Need-refusal-requires
-refusal-requires c κs = search needs
-
-refused-requires : tie.Need-refused-requires
-refused-requires c κs = search needs
-
 returns : tie.Need-returns
 returns c = let e = c .refused .ensures ∙ not-written _ _ (c .before .before .refusal .ensures) (c .before .if1 .taken) in (e, writing-told _ _ e)
 
 block-of-requires : tie.Need-block-of-requires
 block-of-requires c κs = sym (c .before .refusal .ensures) ∙ c .if1 .left
-
-store-requires : tie.Need-store-requires
-store-requires c κs = search needs
 
 returns-2 : tie.Need-returns-2
 returns-2 c =
@@ -27,4 +18,4 @@ returns-2 c =
 pub write-bc7-spec : {M : Type 1} → statement M
 write-bc7-spec =
     tie.close
-    (tie.spec refusal-requires refused-requires returns block-of-requires store-requires returns-2)
+    (tie.spec (λ c κs. search needs) (λ c κs. search needs) returns block-of-requires (λ c κs. search needs) returns-2)

@@ -20,23 +20,8 @@ abbrev μ-loop : tie.MeasureT-loop
 loop-holds : tie.Need-loop-holds Inv-loop μ-loop
 loop-holds c = (omega arith, refl)
 
-width-of-requires : tie.Need-width-of-requires Inv-loop μ-loop
-width-of-requires c κs = search needs
-
-array-read-fits-width : tie.Need-array-read-fits-width Inv-loop μ-loop
-array-read-fits-width c = omega arith
-
 fits-width-requires : tie.Need-fits-width-requires Inv-loop μ-loop
 fits-width-requires c κs = rw (c .width-of .ensures .0) (width-most _ _ _ (c .before .before .before .pre .0))
-
-both-requires : tie.Need-both-requires Inv-loop μ-loop
-both-requires c κs = search needs
-
-add-k : tie.Need-add-k Inv-loop μ-loop
-add-k c = omega arith
-
-loop-less : tie.Need-loop-less Inv-loop μ-loop
-loop-less c = omega arith
 
 loop-again : tie.Need-loop-again Inv-loop μ-loop
 loop-again c = (omega arith, c .both .ensures ∙ rw (c .before .fits-width .ensures, c .before .before .width-of .ensures .0, c .before .before .before .before .loop .inv .1, add-one (c .before .before .before .before .loop .k)))
@@ -51,11 +36,11 @@ all-fit-spec =
     Inv-loop
     μ-loop
     loop-holds
-    width-of-requires
-    array-read-fits-width
+    (λ c κs. search needs)
+    (λ c. omega arith)
     fits-width-requires
-    both-requires
-    add-k
-    loop-less
+    (λ c κs. search needs)
+    (λ c. omega arith)
+    (λ c. omega arith)
     loop-again
     returns)

@@ -8,9 +8,6 @@ use Rattle.bc7_codec.proofs.block_of.Tie as tie
 fields-of-requires : tie.Need-fields-of-requires
 fields-of-requires c κs = fitting _ (c .pre) .mode
 
-plan-for-requires : tie.Need-plan-for-requires
-plan-for-requires c κs = search needs
-
 pile-requires : tie.Need-pile-requires
 pile-requires c κs = (fields-fit _ _ (c .before .fields-of .ensures) (c .before .before .pre), c .plan-for .ensures)
 
@@ -18,4 +15,4 @@ returns : tie.Need-returns
 returns c = c .pile .ensures ∙ stream-is _ _ (c .before .before .fields-of .ensures)
 
 pub block-of-spec : {M : Type 1} → statement M
-block-of-spec = tie.close (tie.spec fields-of-requires plan-for-requires pile-requires returns)
+block-of-spec = tie.close (tie.spec fields-of-requires (λ c κs. search needs) pile-requires returns)

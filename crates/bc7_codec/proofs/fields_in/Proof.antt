@@ -20,23 +20,11 @@ abbrev μ-loop : tie.MeasureT-loop
 loop-holds : tie.Need-loop-holds Inv-loop μ-loop
 loop-holds c = (omega arith, place-start _ _, filling-start _ 0 60 _ refl)
 
-width-of-requires : tie.Need-width-of-requires Inv-loop μ-loop
-width-of-requires c κs = search needs
-
 small-field-requires : tie.Need-small-field-requires Inv-loop μ-loop
 small-field-requires c κs = rw (c .width-of .ensures .0) (width-most _ _ _ (c .before .before .before .pre .0))
 
-array-write-f : tie.Need-array-write-f Inv-loop μ-loop
-array-write-f c = omega arith
-
 add-at : tie.Need-add-at Inv-loop μ-loop
 add-at c = omega (arith, c .before .width-of .ensures .1, c .before .before .before .loop .inv .1, place-bound (c .before .before .before .before .args .m) (c .before .before .before .before .args .p) (c .before .before .before .loop .k) (c .before .before .before .before .pre .0))
-
-add-k : tie.Need-add-k Inv-loop μ-loop
-add-k c = omega arith
-
-loop-less : tie.Need-loop-less Inv-loop μ-loop
-loop-less c = omega arith
 
 loop-again : tie.Need-loop-again Inv-loop μ-loop
 loop-again c = (omega arith, next-place _ _ _ _ _ (c .before .before .before .loop .inv .1) (c .before .width-of .ensures .0), filling-more _ 0 60 _ _ _ (omega arith) (c .before .before .before .loop .inv .2) (c .small-field .ensures ∙ rw (c .before .before .before .loop .inv .1, c .before .width-of .ensures .0)))
@@ -51,11 +39,11 @@ fields-in-spec =
     Inv-loop
     μ-loop
     loop-holds
-    width-of-requires
+    (λ c κs. search needs)
     small-field-requires
-    array-write-f
+    (λ c. omega arith)
     add-at
-    add-k
-    loop-less
+    (λ c. omega arith)
+    (λ c. omega arith)
     loop-again
     returns)

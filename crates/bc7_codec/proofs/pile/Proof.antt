@@ -16,33 +16,12 @@ Inv-loop m p plan f b₀ at₀ k₀ b at k = (k ≤ 60) × (at ≡ placeOf m p k
 abbrev μ-loop : tie.MeasureT-loop
 μ-loop m p plan f b₀ at₀ k₀ b at k = 60 - k
 
-no-bits-requires : tie.Need-no-bits-requires Inv-loop μ-loop
-no-bits-requires c κs = search needs
-
 loop-holds : tie.Need-loop-holds Inv-loop μ-loop
 unfolding stream
 loop-holds c = (omega arith, place-start _ _, c .no-bits .ensures)
 
-array-read-wide : tie.Need-array-read-wide Inv-loop μ-loop
-array-read-wide c = omega arith
-
-wide-requires : tie.Need-wide-requires Inv-loop μ-loop
-wide-requires c κs = search needs
-
-append-requires : tie.Need-append-requires Inv-loop μ-loop
-append-requires c κs = search needs
-
-width-of-requires : tie.Need-width-of-requires Inv-loop μ-loop
-width-of-requires c κs = search needs
-
 add-at : tie.Need-add-at Inv-loop μ-loop
 add-at c = omega (arith, c .width-of .ensures .1, c .before .before .before .before .loop .inv .1, place-bound (c .before .before .before .before .before .before .args .m) (c .before .before .before .before .before .before .args .p) (c .before .before .before .before .loop .k) (c .before .before .before .before .before .before .pre .0 .mode))
-
-add-k : tie.Need-add-k Inv-loop μ-loop
-add-k c = omega arith
-
-loop-less : tie.Need-loop-less Inv-loop μ-loop
-loop-less c = omega arith
 
 loop-again : tie.Need-loop-again Inv-loop μ-loop
 loop-again c = (omega arith, next-place _ _ _ _ _ (c .before .before .before .before .loop .inv .1) (c .width-of .ensures .0), c .before .append .ensures ∙ piled _ _ _ (c .before .before .before .before .before .before .pre .0) _ _ _ _ (omega arith) (c .before .before .before .before .loop .inv .2) (c .before .before .before .before .loop .inv .1) (c .before .before .wide .ensures))
@@ -56,14 +35,14 @@ pile-spec =
     (tie.spec
     Inv-loop
     μ-loop
-    no-bits-requires
+    (λ c κs. search needs)
     loop-holds
-    array-read-wide
-    wide-requires
-    append-requires
-    width-of-requires
+    (λ c. omega arith)
+    (λ c κs. search needs)
+    (λ c κs. search needs)
+    (λ c κs. search needs)
     add-at
-    add-k
-    loop-less
+    (λ c. omega arith)
+    (λ c. omega arith)
     loop-again
     returns)

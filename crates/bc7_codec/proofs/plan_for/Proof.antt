@@ -6,15 +6,9 @@ use borrow.Author.Needs.{needs}
 use Rattle.bc7_codec.proofs.plan_for.Statement.{statement}
 use Rattle.bc7_codec.proofs.plan_for.Tie as tie
 
-mode-row-requires : tie.Need-mode-row-requires
-mode-row-requires c κs = search needs
-
-plan-of-requires : tie.Need-plan-of-requires
-plan-of-requires c κs = search needs
-
 returns : tie.Need-returns
 unfolding subsets
 returns c = c .plan-of .ensures ∙ ap (λ (w : Mode). planOf (w .subsets) (c .before .before .args .p)) (c .before .mode-row .ensures)
 
 pub plan-for-spec : {M : Type 1} → statement M
-plan-for-spec = tie.close (tie.spec mode-row-requires plan-of-requires returns)
+plan-for-spec = tie.close (tie.spec (λ c κs. search needs) (λ c κs. search needs) returns)

@@ -8,15 +8,6 @@ use Rattle.bc7_codec.proofs.refusal.Tie as tie
 returns : tie.Need-returns
 returns c = refused-mode _ (c .if1 .taken)
 
-fields-of-requires : tie.Need-fields-of-requires
-fields-of-requires c κs = search needs
-
-plan-for-requires : tie.Need-plan-for-requires
-plan-for-requires c κs = search needs
-
-all-fit-requires : tie.Need-all-fit-requires
-all-fit-requires c κs = search needs
-
 returns-2 : tie.Need-returns-2
 returns-2 c = refused-none _ (omega arith) (sym (all-fields _ _ (c .before .before .before .fields-of .ensures)) ∙ sym (c .before .all-fit .ensures) ∙ c .if2 .taken)
 
@@ -24,4 +15,4 @@ returns-3 : tie.Need-returns-3
 returns-3 c = refused-field _ (omega arith) (sym (all-fields _ _ (c .before .before .before .fields-of .ensures)) ∙ sym (c .before .all-fit .ensures) ∙ c .if2 .left)
 
 pub refusal-spec : {M : Type 1} → statement M
-refusal-spec = tie.close (tie.spec returns fields-of-requires plan-for-requires all-fit-requires returns-2 returns-3)
+refusal-spec = tie.close (tie.spec returns (λ c κs. search needs) (λ c κs. search needs) (λ c κs. search needs) returns-2 returns-3)

@@ -10,10 +10,6 @@ use Rattle.bc7_core.proofs.alpha_factors.Lts as lts
 use Rattle.bc7_core.proofs.alpha_set.Reads as alpha-set-reads
 use Rattle.bc7_core.proofs.factors.Reads as factors-reads
 
--- src/lib.rt:169:19
-alpha-set-requires : tie.Need-alpha-set-requires
-alpha-set-requires c κs = search needs
-
 -- src/lib.rt:169:5
 factors-requires : tie.Need-factors-requires
 factors-requires c κs =
@@ -28,4 +24,4 @@ returns c =
     factors-by _ _ _ 16 (alpha-by-set _ _) (rw e at (c .factors .ensures))
 
 pub alpha-factors-spec : {M : Type 1} → statement M
-alpha-factors-spec = tie.close (tie.spec alpha-set-requires factors-requires returns)
+alpha-factors-spec = tie.close (tie.spec (λ c κs. search needs) factors-requires returns)

@@ -4,9 +4,6 @@ use Rattle.bc7_core.proofs.Indices.{alpha-alone, some-secondary, alpha-
 use Rattle.bc7_core.proofs.alpha_set.Statement.{statement}
 use Rattle.bc7_core.proofs.alpha_set.Tie as tie
 
-primary-set-requires : tie.Need-primary-set-requires
-primary-set-requires c κs = search needs
-
 returns : tie.Need-returns
 returns c = let p = c .before .before .before .before .pre in set-by _ _ _ _ (c .primary-set .ensures) (alpha-alone _ _ (p .row) (p .known) _ refl (c .before .if1 .taken))
 
@@ -18,9 +15,6 @@ returns-2 c =
     let p = c .before .before .before .before .before .before .pre in
     set-by _ _ _ _ (c .secondary-set .ensures) (alpha-always _ _ (p .row) (p .known) _ refl (c .before .before .before .if1 .left) (c .before .if2 .taken))
 
-selection-requires : tie.Need-selection-requires
-selection-requires c κs = search needs
-
 secondary-set-requires-2 : tie.Need-secondary-set-requires-2
 secondary-set-requires-2 c κs = let p = c .before .before .before .before .before .before .before .pre in (p, some-secondary _ _ (p .row) (p .known) _ refl (c .before .before .before .before .if1 .left))
 
@@ -28,9 +22,6 @@ returns-3 : tie.Need-returns-3
 returns-3 c =
     let p = c .before .before .before .before .before .before .before .before .pre in
     set-by _ _ _ _ (c .secondary-set2 .ensures) (alpha-second _ _ (p .row) (p .known) _ (c .before .before .selection .ensures) (c .before .before .before .before .before .if1 .left) (c .before .before .before .if2 .left) (c .before .if3 .taken))
-
-primary-set-requires-2 : tie.Need-primary-set-requires-2
-primary-set-requires-2 c κs = search needs
 
 returns-4 : tie.Need-returns-4
 returns-4 c =
@@ -41,12 +32,12 @@ pub alpha-set-spec : {M : Type 1} → statement M
 alpha-set-spec =
     tie.close
     (tie.spec
-    primary-set-requires
+    (λ c κs. search needs)
     returns
     secondary-set-requires
     returns-2
-    selection-requires
+    (λ c κs. search needs)
     secondary-set-requires-2
     returns-3
-    primary-set-requires-2
+    (λ c κs. search needs)
     returns-4)

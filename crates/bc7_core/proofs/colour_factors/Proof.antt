@@ -10,10 +10,6 @@ use Rattle.bc7_core.proofs.colour_factors.Lts as lts
 use Rattle.bc7_core.proofs.colour_set.Reads as colour-set-reads
 use Rattle.bc7_core.proofs.factors.Reads as factors-reads
 
--- src/lib.rt:162:19
-colour-set-requires : tie.Need-colour-set-requires
-colour-set-requires c κs = search needs
-
 -- src/lib.rt:162:5
 factors-requires : tie.Need-factors-requires
 factors-requires c κs =
@@ -28,4 +24,4 @@ returns c =
     factors-by _ _ _ 16 (colour-by-set _ _) (rw e at (c .factors .ensures))
 
 pub colour-factors-spec : {M : Type 1} → statement M
-colour-factors-spec = tie.close (tie.spec colour-set-requires factors-requires returns)
+colour-factors-spec = tie.close (tie.spec (λ c κs. search needs) factors-requires returns)

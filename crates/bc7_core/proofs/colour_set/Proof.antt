@@ -4,14 +4,8 @@ use Rattle.bc7_core.proofs.Indices.{colour-unselected, colour-second, c
 use Rattle.bc7_core.proofs.colour_set.Statement.{statement}
 use Rattle.bc7_core.proofs.colour_set.Tie as tie
 
-primary-set-requires : tie.Need-primary-set-requires
-primary-set-requires c κs = search needs
-
 returns : tie.Need-returns
 returns c = let p = c .before .before .before .before .pre in set-by _ _ _ _ (c .primary-set .ensures) (colour-unselected _ _ (p .row) (p .known) _ refl (c .before .if1 .taken))
-
-selection-requires : tie.Need-selection-requires
-selection-requires c κs = search needs
 
 secondary-set-requires : tie.Need-secondary-set-requires
 secondary-set-requires c κs = let p = c .before .before .before .before .before .pre in (p, has-secondary _ _ (p .row) (p .known) _ refl (c .before .before .if1 .left))
@@ -20,9 +14,6 @@ returns-2 : tie.Need-returns-2
 returns-2 c =
     let p = c .before .before .before .before .before .before .pre in
     set-by _ _ _ _ (c .secondary-set .ensures) (colour-second _ _ (p .row) (p .known) _ (c .before .before .selection .ensures) (c .before .before .before .if1 .left) (c .before .if2 .taken))
-
-primary-set-requires-2 : tie.Need-primary-set-requires-2
-primary-set-requires-2 c κs = search needs
 
 returns-3 : tie.Need-returns-3
 returns-3 c =
@@ -33,10 +24,10 @@ pub colour-set-spec : {M : Type 1} → statement M
 colour-set-spec =
     tie.close
     (tie.spec
-    primary-set-requires
+    (λ c κs. search needs)
     returns
-    selection-requires
+    (λ c κs. search needs)
     secondary-set-requires
     returns-2
-    primary-set-requires-2
+    (λ c κs. search needs)
     returns-3)

@@ -17,31 +17,11 @@ use Rattle.bc7_ends.proofs.frame_of.Reads as frame-of-reads
 use Rattle.bc7_ends.proofs.lines_of.Reads as lines-of-reads
 use Rattle.bc7_layout.proofs.mode_at.Reads as mode-at-reads
 
--- src/lib.rt:247:9
-mode-at-requires : tie.Need-mode-at-requires
-mode-at-requires c κs = search needs
-
--- src/lib.rt:249:9
-clear-requires : tie.Need-clear-requires
-clear-requires c κs = search needs
-
 -- src/lib.rt:250:9
 returns : tie.Need-returns
 returns c =
     let m = sym (c .before .before .before .mode-at .ensures .0) ∙ c .before .before .if1 .taken in
     (fault-told _ m, c .clear .ensures ∙ bytes-reserved _ m)
-
--- src/lib.rt:252:9
-frame-of-requires : tie.Need-frame-of-requires
-frame-of-requires c κs = search needs
-
--- src/lib.rt:253:17
-lines-of-requires : tie.Need-lines-of-requires
-lines-of-requires c κs = search needs
-
--- src/lib.rt:254:19
-colour-factors-requires : tie.Need-colour-factors-requires
-colour-factors-requires c κs = search needs
 
 -- src/lib.rt:257:9
 paint-requires : tie.Need-paint-requires
@@ -60,14 +40,6 @@ returns-2 c =
     let m : modeAt (blockNumber (b .before .before .args .b)) ≡ 8 → ⊥ = λ q. b .if1 .left (b .before .mode-at .ensures .0 ∙ q) in
     (no-fault-told _ m, c .paint .ensures ∙ bytes-shown _ m)
 
--- src/lib.rt:260:18
-alpha-factors-requires : tie.Need-alpha-factors-requires
-alpha-factors-requires c κs = search needs
-
--- src/lib.rt:261:5
-paint-requires-2 : tie.Need-paint-requires-2
-paint-requires-2 c κs = search needs
-
 -- src/lib.rt:242:1
 returns-3 : tie.Need-returns-3
 returns-3 c =
@@ -79,14 +51,14 @@ pub decode-into-spec : {M : Type 1} → statement M
 decode-into-spec =
     tie.close
     (tie.spec
-    mode-at-requires
-    clear-requires
+    (λ c κs. search needs)
+    (λ c κs. search needs)
     returns
-    frame-of-requires
-    lines-of-requires
-    colour-factors-requires
+    (λ c κs. search needs)
+    (λ c κs. search needs)
+    (λ c κs. search needs)
     paint-requires
     returns-2
-    alpha-factors-requires
-    paint-requires-2
+    (λ c κs. search needs)
+    (λ c κs. search needs)
     returns-3)

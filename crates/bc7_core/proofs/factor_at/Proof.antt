@@ -7,10 +7,6 @@ use Rattle.bc7_core.proofs.factor_at.Lts as lts
 use Rattle.bc7_core.proofs.next_factor.Reads as next-factor-reads
 use Rattle.bc7_layout.proofs.anchor_in.Reads as anchor-in-reads
 
--- src/lib.rt:146:20
-anchor-in-requires : tie.Need-anchor-in-requires
-anchor-in-requires c κs = search needs
-
 -- src/lib.rt:146:5
 next-factor-requires : tie.Need-next-factor-requires
 next-factor-requires c κs =
@@ -24,4 +20,4 @@ returns c =
     (factor-at _ _ (p .0 .0 .known) (p .0 .0 .plan) _ (p .0 .1) _ (p .1 .1) _ (p .1 .0) _ (c .before .anchor-in .ensures .0) _ (c .next-factor .ensures .0), c .next-factor .ensures .1)
 
 pub factor-at-spec : {M : Type 1} → statement M
-factor-at-spec = tie.close (tie.spec anchor-in-requires next-factor-requires returns)
+factor-at-spec = tie.close (tie.spec (λ c κs. search needs) next-factor-requires returns)

@@ -31,37 +31,13 @@ here c =
 loop-holds : tie.Need-loop-holds Inv-loop μ-loop
 loop-holds c = (omega arith, c .pre .1 .0, refl, factors-none (setFactor (blockNumber (c .args .b)) (c .args .set .first)) _)
 
--- src/lib.rt:168:35
-cast-factor-at : tie.Need-cast-factor-at Inv-loop μ-loop
-cast-factor-at c = omega arith
-
 -- src/lib.rt:168:16
 factor-at-requires : tie.Need-factor-at-requires Inv-loop μ-loop
 factor-at-requires c κs = let l : c .before .loop .i < 16 = omega arith in ((c .before .before .pre .0, l), here c)
 
--- src/lib.rt:168:9
-mul-r : tie.Need-mul-r Inv-loop μ-loop
-mul-r c = omega arith
-
--- src/lib.rt:168:9
-array-write-r : tie.Need-array-write-r Inv-loop μ-loop
-array-write-r c = omega arith
-
--- src/lib.rt:169:27
-cast-past : tie.Need-cast-past Inv-loop μ-loop
-cast-past c = omega arith
-
 -- src/lib.rt:169:9
 past-requires : tie.Need-past-requires Inv-loop μ-loop
 past-requires c κs = let l : c .before .before .loop .i < 16 = omega arith in ((c .before .before .before .pre .0, l), here (c .before))
-
--- src/lib.rt:170:9
-add-i : tie.Need-add-i Inv-loop μ-loop
-add-i c = omega arith
-
--- src/lib.rt:167:5
-loop-less : tie.Need-loop-less Inv-loop μ-loop
-loop-less c = omega arith
 
 -- src/lib.rt:167:5
 loop-again : tie.Need-loop-again Inv-loop μ-loop
@@ -87,13 +63,13 @@ factors-spec =
     Inv-loop
     μ-loop
     loop-holds
-    cast-factor-at
+    (λ c. omega arith)
     factor-at-requires
-    mul-r
-    array-write-r
-    cast-past
+    (λ c. omega arith)
+    (λ c. omega arith)
+    (λ c. omega arith)
     past-requires
-    add-i
-    loop-less
+    (λ c. omega arith)
+    (λ c. omega arith)
     loop-again
     returns)

@@ -24,48 +24,12 @@ abbrev μ-loop : tie.MeasureT-loop
 loop-holds : tie.Need-loop-holds Inv-loop μ-loop
 loop-holds c = (omega arith, c .pre .0 .1, filled-none _ 0 _)
 
--- src/lib.rt:223:13
-mul-put : tie.Need-mul-put Inv-loop μ-loop
-mul-put c = omega arith
-
--- src/lib.rt:224:33
-mul-sum-at : tie.Need-mul-sum-at Inv-loop μ-loop
-mul-sum-at c = omega arith
-
--- src/lib.rt:224:33
-element-copy-out-sum-at : tie.Need-element-copy-out-sum-at Inv-loop μ-loop
-element-copy-out-sum-at c = omega arith
-
--- src/lib.rt:224:45
-mul-sum-at-2 : tie.Need-mul-sum-at-2 Inv-loop μ-loop
-mul-sum-at-2 c = omega arith
-
--- src/lib.rt:224:45
-element-copy-out-sum-at-2 : tie.Need-element-copy-out-sum-at-2 Inv-loop μ-loop
-element-copy-out-sum-at-2 c = omega arith
-
--- src/lib.rt:224:56
-cast-sum-at : tie.Need-cast-sum-at Inv-loop μ-loop
-cast-sum-at c = omega arith
-
 -- src/lib.rt:224:13
 sum-at-requires : tie.Need-sum-at-requires Inv-loop μ-loop
 sum-at-requires c κs =
     let p = c .before .before .before .before .before .pre in
     let l : c .before .before .before .before .loop .i < 16 = omega arith in
     ((p .0 .0, l), (p .1 .0, ((p .1 .1 .0 .each _ l, p .1 .1 .0 .small _ l), (p .1 .1 .1 .each _ l, p .1 .1 .1 .small _ l))))
-
--- src/lib.rt:221:9
-put-requires : tie.Need-put-requires Inv-loop μ-loop
-put-requires c κs = omega arith
-
--- src/lib.rt:226:9
-add-i : tie.Need-add-i Inv-loop μ-loop
-add-i c = omega arith
-
--- src/lib.rt:220:5
-loop-less : tie.Need-loop-less Inv-loop μ-loop
-loop-less c = omega arith
 
 -- src/lib.rt:220:5
 loop-again : tie.Need-loop-again Inv-loop μ-loop
@@ -90,15 +54,15 @@ paint-spec =
     Inv-loop
     μ-loop
     loop-holds
-    mul-put
-    mul-sum-at
-    element-copy-out-sum-at
-    mul-sum-at-2
-    element-copy-out-sum-at-2
-    cast-sum-at
+    (λ c. omega arith)
+    (λ c. omega arith)
+    (λ c. omega arith)
+    (λ c. omega arith)
+    (λ c. omega arith)
+    (λ c. omega arith)
     sum-at-requires
-    put-requires
-    add-i
-    loop-less
+    (λ c κs. omega arith)
+    (λ c. omega arith)
+    (λ c. omega arith)
     loop-again
     returns)

@@ -8,10 +8,6 @@ use Rattle.bc7_core.proofs.past.Lts as lts
 use Rattle.bc7_core.proofs.behind.Reads as behind-reads
 use Rattle.bc7_layout.proofs.anchor_in.Reads as anchor-in-reads
 
--- src/lib.rt:155:15
-anchor-in-requires : tie.Need-anchor-in-requires
-anchor-in-requires c κs = search needs
-
 -- src/lib.rt:155:5
 behind-requires : tie.Need-behind-requires
 behind-requires c κs =
@@ -25,4 +21,4 @@ returns c =
     c .behind .ensures ∙ behind-is _ _ (p .0 .0 .known) (p .0 .0 .plan) _ (p .0 .1) _ (p .1 .1) _ (p .1 .0) _ (c .before .anchor-in .ensures .0)
 
 pub past-spec : {M : Type 1} → statement M
-past-spec = tie.close (tie.spec anchor-in-requires behind-requires returns)
+past-spec = tie.close (tie.spec (λ c κs. search needs) behind-requires returns)

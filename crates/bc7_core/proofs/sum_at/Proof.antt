@@ -10,14 +10,6 @@ use Rattle.bc7_core.proofs.sum_at.Lts as lts
 use Rattle.bc7_core.proofs.sum_on.Reads as sum-on-reads
 use Rattle.bc7_layout.proofs.subset_in.Reads as subset-in-reads
 
--- src/lib.rt:200:19
-subset-in-requires : tie.Need-subset-in-requires
-subset-in-requires c κs = search needs
-
--- src/lib.rt:200:13
-mul-q : tie.Need-mul-q
-mul-q c = search needs
-
 -- src/lib.rt:200:13
 element-copy-out-q : tie.Need-element-copy-out-q
 element-copy-out-q c = let p = c .before .pre in subset-small _ _ (p .0 .0 .known) (p .0 .0 .plan) _ (p .0 .1) _ (c .subset-in .ensures .0)
@@ -41,4 +33,4 @@ returns c =
 
 pub sum-at-spec : {M : Type 1} → statement M
 sum-at-spec =
-    tie.close (tie.spec subset-in-requires mul-q element-copy-out-q sum-on-requires returns)
+    tie.close (tie.spec (λ c κs. search needs) (λ c. search needs) element-copy-out-q sum-on-requires returns)

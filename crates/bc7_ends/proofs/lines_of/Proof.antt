@@ -20,9 +20,6 @@ Inv-loop b f n r q₀ j₀ q j = (j ≤ n) × (length q ≡ 3) × Filled (lineOf
 abbrev μ-loop : tie.MeasureT-loop
 μ-loop b f n r q₀ j₀ q j = n - j
 
-cast-n : tie.Need-cast-n Inv-loop μ-loop
-cast-n c = search needs
-
 rotation-requires : tie.Need-rotation-requires Inv-loop μ-loop
 rotation-requires c κs = c .before .before .pre
 
@@ -42,9 +39,6 @@ array-set-from-q c = let p = c .before .before .before .before .before .before .
 
 add-j : tie.Need-add-j Inv-loop μ-loop
 add-j c = let p = c .before .before .before .before .before .before .pre in omega (arith, row-subsets _ _ (p .row), subsets-most _ (p .known))
-
-loop-less : tie.Need-loop-less Inv-loop μ-loop
-loop-less c = omega arith
 
 loop-again : tie.Need-loop-again Inv-loop μ-loop
 loop-again c =
@@ -68,13 +62,13 @@ lines-of-spec =
     (tie.spec
     Inv-loop
     μ-loop
-    cast-n
+    (λ c. search needs)
     rotation-requires
     loop-holds
     line-of-requires
     mul-q
     array-set-from-q
     add-j
-    loop-less
+    (λ c. omega arith)
     loop-again
     returns)

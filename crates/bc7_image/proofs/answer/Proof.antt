@@ -19,12 +19,6 @@ passed : (c : tie.After-checked2) → let a = c .before .before .before .before 
     Passed 0 (a .width) (a .height) (length (now (a .blocks))) (length (now (a .out))) (c .checked2 .given .0 .0)
 passed c = accepted _ _ _ _ _ _ (checked-at c)
 
-enum-known-checked : tie.Need-enum-known-checked
-enum-known-checked c = search needs
-
-enum-known-checked-2 : tie.Need-enum-known-checked-2
-enum-known-checked-2 c = search needs
-
 decode-requires : tie.Need-decode-requires
 decode-requires c κs = let o = passed (c .before .before) in (o .is-sound, (o .exact-bytes, (o .exact-places, grid-0 _ _ _ _ _ (checked-at (c .before .before)))))
 
@@ -32,9 +26,6 @@ returns : tie.Need-returns
 returns c = let s = c .before .before .before .before .before in
     let a = s .args in
     refused (a .width) (a .height) (now (a .blocks)) (now (a .out)) _ (sym (s .pre) ∙ c .before .checked .given .1)
-
-same-length : tie.Need-same-length
-same-length c = search needs
 
 returns-2 : tie.Need-returns-2
 returns-2 c = let k = c .before .before in
@@ -48,9 +39,9 @@ pub answer-spec : {M : Type 1} → statement M
 answer-spec =
     tie.close
     (tie.spec
-    enum-known-checked
-    enum-known-checked-2
+    (λ c. search needs)
+    (λ c. search needs)
     decode-requires
     returns
-    same-length
+    (λ c. search needs)
     returns-2)

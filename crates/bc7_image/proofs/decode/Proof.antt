@@ -16,9 +16,6 @@ Inv-loop g s out₀ buf₀ t₀ n b₀ out buf t b = Walking (bc7NumberAt (g .wi
 abbrev μ-loop : tie.MeasureT-loop
 μ-loop g s out₀ buf₀ t₀ n b₀ out buf t b = g .down * g .across - b
 
-blank-requires : tie.Need-blank-requires Inv-loop μ-loop
-blank-requires c κs = search needs
-
 mul-n : tie.Need-mul-n Inv-loop μ-loop
 mul-n c = omega (arith, sizes _ (c .before .before .before .before .pre .0))
 
@@ -34,12 +31,6 @@ note-requires : tie.Need-note-requires Inv-loop μ-loop
 note-requires c κs = let l = c .before .before .before .before .before .before .loop in
     let p = c .before .before .before .before .before .before .before .before .before .before .before .pre in
     (tally-le _ (l .b) (l .t) (l .inv .tallied), omega (arith, sizes _ (p .0)))
-
-add-b : tie.Need-add-b Inv-loop μ-loop
-add-b c = omega arith
-
-loop-less : tie.Need-loop-less Inv-loop μ-loop
-loop-less c = omega arith
 
 loop-again : tie.Need-loop-again Inv-loop μ-loop
 loop-again c = let k = c .before .before .before in
@@ -64,13 +55,13 @@ decode-spec =
     (tie.spec
     Inv-loop
     μ-loop
-    blank-requires
+    (λ c κs. search needs)
     mul-n
     loop-holds
     show-requires
     note-requires
-    add-b
-    loop-less
+    (λ c. omega arith)
+    (λ c. omega arith)
     loop-again
     same-length
     returns)

@@ -25,12 +25,6 @@ copy-run-requires c κs = let l = c .before .before .before .loop in
     let p = c .before .before .before .before .before .pre in
     run-fits-64 _ _ (l .dy) _ _ (p .0) (p .1 .1 .1) (p .1 .0) (c .before .before .loop-test .taken) (c .before .run-of .ensures) (l .inv .1 ∙ p .1 .1 .0)
 
-add-dy : tie.Need-add-dy Inv-loop μ-loop
-add-dy c = omega arith
-
-loop-less : tie.Need-loop-less Inv-loop μ-loop
-loop-less c = omega arith
-
 loop-again : tie.Need-loop-again Inv-loop μ-loop
 loop-again c = let k = c .before .before in
     let l = c .before .before .before .before .before .before .loop in
@@ -55,8 +49,8 @@ place-spec =
     loop-holds
     run-of-requires
     copy-run-requires
-    add-dy
-    loop-less
+    (λ c. omega arith)
+    (λ c. omega arith)
     loop-again
     same-length
     returns)

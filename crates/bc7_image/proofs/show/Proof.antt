@@ -10,21 +10,6 @@ use Rattle.bc7_image.proofs.Tiles.{tile-bc7, bytes-64}
 use Rattle.bc7_image.proofs.show.Statement.{statement}
 use Rattle.bc7_image.proofs.show.Tie as tie
 
-part-of-requires : tie.Need-part-of-requires
-part-of-requires c κs = search needs
-
-block-of-requires : tie.Need-block-of-requires
-block-of-requires c κs = search needs
-
-decode-into-requires : tie.Need-decode-into-requires
-decode-into-requires c κs = search needs
-
-place-requires : tie.Need-place-requires
-place-requires c κs = search needs
-
-same-length : tie.Need-same-length
-same-length c = search needs
-
 returns : tie.Need-returns
 unfolding bc7FaultAt
 returns c = let k = c .before .before in
@@ -43,9 +28,9 @@ pub show-spec : {M : Type 1} → statement M
 show-spec =
     tie.close
     (tie.spec
-    part-of-requires
-    block-of-requires
-    decode-into-requires
-    place-requires
-    same-length
+    (λ c κs. search needs)
+    (λ c κs. search needs)
+    (λ c κs. search needs)
+    (λ c κs. search needs)
+    (λ c. search needs)
     returns)

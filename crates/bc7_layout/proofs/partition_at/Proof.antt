@@ -10,15 +10,6 @@ use borrow.Author.Needs.{needs}
 use Rattle.bc7_layout.proofs.partition_at.Statement.{statement}
 use Rattle.bc7_layout.proofs.partition_at.Tie as tie
 
-mode-row-requires : tie.Need-mode-row-requires
-mode-row-requires c κs = search needs
-
-add-small-field : tie.Need-add-small-field
-add-small-field c = search needs
-
-cast-small-field : tie.Need-cast-small-field
-cast-small-field c = search needs
-
 small-field-requires : tie.Need-small-field-requires
 unfolding partitionBits
 small-field-requires c κs = rw (c .before .mode-row .ensures) (partition-most (c .before .before .args .m) (c .before .before .pre))
@@ -30,4 +21,4 @@ returns c = let e : c .small-field .result ≡ field (blockNumber (c .before .be
 pub partition-at-spec : {M : Type 1} → statement M
 partition-at-spec =
     tie.close
-    (tie.spec mode-row-requires add-small-field cast-small-field small-field-requires returns)
+    (tie.spec (λ c κs. search needs) (λ c. search needs) (λ c. search needs) small-field-requires returns)

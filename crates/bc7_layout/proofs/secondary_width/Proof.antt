@@ -5,20 +5,8 @@ use borrow.Author.Needs.{needs}
 use Rattle.bc7_layout.proofs.secondary_width.Statement.{statement}
 use Rattle.bc7_layout.proofs.secondary_width.Tie as tie
 
-mode-row-requires : tie.Need-mode-row-requires
-mode-row-requires c κs = search needs
-
-wide-requires : tie.Need-wide-requires
-wide-requires c κs = search needs
-
-less-requires : tie.Need-less-requires
-less-requires c κs = search needs
-
 returns : tie.Need-returns
 returns c = (c .less .ensures .0 ∙ rw (c .before .wide .ensures .0) (secondary-anchor _ _ (c .before .before .before .mode-row .ensures) _ (c .before .before .if1 .taken)), omega (arith, c .less .ensures .1, c .before .wide .ensures .1))
-
-wide-requires-2 : tie.Need-wide-requires-2
-wide-requires-2 c κs = search needs
 
 returns-2 : tie.Need-returns-2
 returns-2 c = (c .wide2 .ensures .0 ∙ secondary-other _ _ (c .before .before .mode-row .ensures) _ (c .before .if1 .left), c .wide2 .ensures .1)
@@ -26,4 +14,4 @@ returns-2 c = (c .wide2 .ensures .0 ∙ secondary-other _ _ (c .before .before .
 pub secondary-width-spec : {M : Type 1} → statement M
 secondary-width-spec =
     tie.close
-    (tie.spec mode-row-requires wide-requires less-requires returns wide-requires-2 returns-2)
+    (tie.spec (λ c κs. search needs) (λ c κs. search needs) (λ c κs. search needs) returns (λ c κs. search needs) returns-2)

@@ -3,9 +3,6 @@ use borrow.Author.Needs.{needs}
 use Rattle.bits.proofs.append.Statement.{statement}
 use Rattle.bits.proofs.append.Tie as tie
 
-part-requires : tie.Need-part-requires
-part-requires c κs = search needs
-
 on-top-requires : tie.Need-on-top-requires
 on-top-requires c κs = rw (c .part .ensures) (field-lt _ 0 _)
 
@@ -13,4 +10,4 @@ returns : tie.Need-returns
 returns c = rw (c .on-top .ensures, c .before .part .ensures)
 
 pub append-spec : {M : Type 1} → statement M
-append-spec = tie.close (tie.spec part-requires on-top-requires returns)
+append-spec = tie.close (tie.spec (λ c κs. search needs) on-top-requires returns)

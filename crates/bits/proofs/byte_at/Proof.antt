@@ -6,12 +6,6 @@ use borrow.Author.Needs.{needs}
 use Rattle.bits.proofs.byte_at.Statement.{statement}
 use Rattle.bits.proofs.byte_at.Tie as tie
 
-shared-slice-read-wide : tie.Need-shared-slice-read-wide
-shared-slice-read-wide c = search needs
-
-wide-requires : tie.Need-wide-requires
-wide-requires c κs = search needs
-
 returns : tie.Need-returns
 returns c = c .wide .ensures .0 ∙ sym (byte-here (now (c .before .before .before .before .args .s)) (λ i. c .before .before .before .shared-slice-known .given i .fits) (c .before .before .before .before .args .k) (omega arith))
 
@@ -19,4 +13,4 @@ returns-2 : tie.Need-returns-2
 returns-2 c = sym (byte-past (now (c .before .before .args .s)) (λ i. c .before .shared-slice-known .given i .fits) (c .before .before .args .k) (c .if1 .left))
 
 pub byte-at-spec : {M : Type 1} → statement M
-byte-at-spec = tie.close (tie.spec shared-slice-read-wide wide-requires returns returns-2)
+byte-at-spec = tie.close (tie.spec (λ c. search needs) (λ c κs. search needs) returns returns-2)

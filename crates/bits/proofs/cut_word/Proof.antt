@@ -36,23 +36,11 @@ word-fits c =
 loop-holds : tie.Need-loop-holds Inv-loop μ-loop
 loop-holds c = (omega arith, sym (field-none _ _))
 
-sub-left : tie.Need-sub-left Inv-loop μ-loop
-sub-left c = omega arith
-
 mul-word : tie.Need-mul-word Inv-loop μ-loop
 mul-word c = record { fits = word-fits c }
 
-add-byte-at : tie.Need-add-byte-at Inv-loop μ-loop
-add-byte-at c = omega arith
-
-byte-at-requires : tie.Need-byte-at-requires Inv-loop μ-loop
-byte-at-requires c κs = search needs
-
 add-word : tie.Need-add-word Inv-loop μ-loop
 add-word c = record { fits = rw (next c) (lt-of-lt-of-le (field-lt _ _ (64 - 8 * (c .before .before .loop .left - 1))) (pow-mono {i = 64 - 8 * (c .before .before .loop .left - 1)} {j = 64} (omega arith))) }
-
-loop-less : tie.Need-loop-less Inv-loop μ-loop
-loop-less c = omega arith
 
 loop-again : tie.Need-loop-again Inv-loop μ-loop
 loop-again c = (omega arith, next c)
@@ -69,11 +57,11 @@ cut-word-spec =
     Inv-loop
     μ-loop
     loop-holds
-    sub-left
+    (λ c. omega arith)
     mul-word
-    add-byte-at
-    byte-at-requires
+    (λ c. omega arith)
+    (λ c κs. search needs)
     add-word
-    loop-less
+    (λ c. omega arith)
     loop-again
     returns)

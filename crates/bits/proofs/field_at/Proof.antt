@@ -4,14 +4,8 @@ use borrow.Author.Needs.{needs}
 use Rattle.bits.proofs.field_at.Statement.{statement}
 use Rattle.bits.proofs.field_at.Tie as tie
 
-word-at-requires : tie.Need-word-at-requires
-word-at-requires c κs = search needs
-
-low-bits-requires : tie.Need-low-bits-requires
-low-bits-requires c κs = search needs
-
 returns : tie.Need-returns
 returns c = c .low-bits .ensures ∙ rw (c .before .word-at .ensures) (low-field _ _ _)
 
 pub field-at-spec : {M : Type 1} → statement M
-field-at-spec = tie.close (tie.spec word-at-requires low-bits-requires returns)
+field-at-spec = tie.close (tie.spec (λ c κs. search needs) (λ c κs. search needs) returns)

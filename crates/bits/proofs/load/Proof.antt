@@ -5,15 +5,9 @@ use borrow.Author.Needs.{needs}
 use Rattle.bits.proofs.load.Statement.{statement}
 use Rattle.bits.proofs.load.Tie as tie
 
-word-of-requires : tie.Need-word-of-requires
-word-of-requires c κs = search needs
-
-word-of-requires-2 : tie.Need-word-of-requires-2
-word-of-requires-2 c κs = search needs
-
 returns : tie.Need-returns
 unfolding blockNumber
 returns c = rw (c .word-of2 .ensures, c .before .word-of .ensures) (sym (field-cut _ 0 64 64))
 
 pub load-spec : {M : Type 1} → statement M
-load-spec = tie.close (tie.spec word-of-requires word-of-requires-2 returns)
+load-spec = tie.close (tie.spec (λ c κs. search needs) (λ c κs. search needs) returns)

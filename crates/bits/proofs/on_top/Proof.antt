@@ -12,30 +12,12 @@ returns-2 : tie.Need-returns-2
 unfolding blockNumber
 returns-2 c = top-first (c .before .before .args .a) (omega arith) (omega arith) (c .before .before .args .p) (c .before .before .args .v) (c .before .before .pre) (c .if2 .taken) (omega arith)
 
-shl-t8 : tie.Need-shl-t8
-shl-t8 c = search needs
-
 add-t9 : tie.Need-add-t9
 add-t9 c = record { fits = low-fits (c .before .before .before .args .a) (omega arith) (omega arith) (c .before .before .before .args .p) (c .before .before .before .args .v) (c .before .before .before .pre) (c .if3 .taken) }
-
-sub-t10 : tie.Need-sub-t10
-sub-t10 c = search needs
-
-cast-t11 : tie.Need-cast-t11
-cast-t11 c = search needs
-
-shr-t12 : tie.Need-shr-t12
-shr-t12 c = search needs
 
 returns-3 : tie.Need-returns-3
 unfolding blockNumber
 returns-3 c = top-low (c .before .before .before .args .a) (omega arith) (omega arith) (c .before .before .before .args .p) (c .before .before .before .args .v) (c .before .before .before .pre) (c .if3 .taken) (omega arith) (omega arith)
-
-cast-t14 : tie.Need-cast-t14
-cast-t14 c = search needs
-
-shl-t15 : tie.Need-shl-t15
-shl-t15 c = search needs
 
 add-t16 : tie.Need-add-t16
 add-t16 c = record { fits = high-fits (c .before .before .before .args .a) (omega arith) (omega arith) (c .before .before .before .args .p) (c .before .before .before .args .v) (c .before .before .before .pre) (c .if3 .left) (omega arith) }
@@ -50,13 +32,13 @@ on-top-spec =
     (tie.spec
     returns
     returns-2
-    shl-t8
+    (λ c. search needs)
     add-t9
-    sub-t10
-    cast-t11
-    shr-t12
+    (λ c. search needs)
+    (λ c. search needs)
+    (λ c. search needs)
     returns-3
-    cast-t14
-    shl-t15
+    (λ c. search needs)
+    (λ c. search needs)
     add-t16
     returns-4)

@@ -3,15 +3,9 @@ use borrow.Author.Needs.{needs}
 use Rattle.bits.proofs.part.Statement.{statement}
 use Rattle.bits.proofs.part.Tie as tie
 
-shifted-requires : tie.Need-shifted-requires
-shifted-requires c κs = search needs
-
-first-bits-requires : tie.Need-first-bits-requires
-first-bits-requires c κs = search needs
-
 returns : tie.Need-returns
 unfolding field
 returns c = rw (c .first-bits .ensures, c .before .shifted .ensures)
 
 pub part-spec : {M : Type 1} → statement M
-part-spec = tie.close (tie.spec shifted-requires first-bits-requires returns)
+part-spec = tie.close (tie.spec (λ c κs. search needs) (λ c κs. search needs) returns)

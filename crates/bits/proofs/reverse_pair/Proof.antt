@@ -4,14 +4,8 @@ use borrow.Author.Needs.{needs}
 use Rattle.bits.proofs.reverse_pair.Statement.{statement}
 use Rattle.bits.proofs.reverse_pair.Tie as tie
 
-mul-result : tie.Need-mul-result
-mul-result c = search needs
-
-add-result : tie.Need-add-result
-add-result c = search needs
-
 returns : tie.Need-returns
 returns c = (reverse-two (c .args .x) (c .pre), omega arith)
 
 pub reverse-pair-spec : {M : Type 1} → statement M
-reverse-pair-spec = tie.close (tie.spec mul-result add-result returns)
+reverse-pair-spec = tie.close (tie.spec (λ c. search needs) (λ c. search needs) returns)

@@ -4,18 +4,6 @@ use borrow.Author.Needs.{needs}
 use Rattle.bits.proofs.word_at.Statement.{statement}
 use Rattle.bits.proofs.word_at.Tie as tie
 
-across-requires : tie.Need-across-requires
-across-requires c κs = search needs
-
-returns : tie.Need-returns
-returns c = search needs
-
-cast-result : tie.Need-cast-result
-cast-result c = search needs
-
-shr-result : tie.Need-shr-result
-shr-result c = search needs
-
 returns-2 : tie.Need-returns-2
 returns-2 c = word-high (c .before .before .args .b) (omega arith) (omega arith) (c .before .before .args .p) (omega arith)
 
@@ -23,4 +11,4 @@ returns-3 : tie.Need-returns-3
 returns-3 c = word-past (c .before .before .args .b) (omega arith) (omega arith) (c .before .before .args .p) (omega arith)
 
 pub word-at-spec : {M : Type 1} → statement M
-word-at-spec = tie.close (tie.spec across-requires returns cast-result shr-result returns-2 returns-3)
+word-at-spec = tie.close (tie.spec (λ c κs. search needs) (λ c. search needs) (λ c. search needs) (λ c. search needs) returns-2 returns-3)

@@ -10,15 +10,6 @@ returns c = unknown-footprint _ _ _ (omega arith)
 returns-2 : tie.Need-returns-2
 returns-2 c = not-sixteen _ _ _ (omega arith) (λ q. omega (arith, q))
 
-texels-requires : tie.Need-texels-requires
-texels-requires c κs = search needs
-
-cast-if3 : tie.Need-cast-if3
-cast-if3 c = search needs
-
-mul-if3 : tie.Need-mul-if3
-mul-if3 c = search needs
-
 returns-3 : tie.Need-returns-3
 returns-3 c = wrong-numbers _ _ _ (omega arith) (omega arith) (λ q. omega (arith, q))
 
@@ -27,4 +18,4 @@ returns-4 c = accepted _ _ _ (omega arith) (omega arith) (omega arith)
 
 pub refusal-spec : {M : Type 1} → statement M
 refusal-spec =
-    tie.close (tie.spec returns returns-2 texels-requires cast-if3 mul-if3 returns-3 returns-4)
+    tie.close (tie.spec returns returns-2 (λ c κs. search needs) (λ c. search needs) (λ c. search needs) returns-3 returns-4)

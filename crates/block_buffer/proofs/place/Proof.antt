@@ -17,8 +17,5 @@ add-result c = omega (arith, small c)
 mul-result-2 : tie.Need-mul-result-2
 mul-result-2 c = omega (arith, small c)
 
-returns : tie.Need-returns
-returns c = search needs
-
 pub place-spec : {M : Type 1} → statement M
-place-spec = tie.close (tie.spec mul-result add-result mul-result-2 returns)
+place-spec = tie.close (tie.spec mul-result add-result mul-result-2 (λ c. search needs))

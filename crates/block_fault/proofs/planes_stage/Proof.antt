@@ -4,9 +4,6 @@ use borrow.Author.Needs.{needs}
 use Rattle.block_fault.proofs.planes_stage.Statement.{statement}
 use Rattle.block_fault.proofs.planes_stage.Tie as tie
 
-both-requires : tie.Need-both-requires
-both-requires c κs = search needs
-
 returns : tie.Need-returns
 unfolding stageOf
 returns c = rw (← c .before .both .ensures, c .if1 .taken)
@@ -16,4 +13,4 @@ unfolding stageOf
 returns-2 c = rw (← c .before .both .ensures, c .if1 .left)
 
 pub planes-stage-spec : {M : Type 1} → statement M
-planes-stage-spec = tie.close (tie.spec both-requires returns returns-2)
+planes-stage-spec = tie.close (tie.spec (λ c κs. search needs) returns returns-2)

@@ -15,20 +15,11 @@ returns : tie.Need-returns
 unfolding stageOf
 returns c = ap stageOf (count-over (c .before .args .hdr) (c .before .args .h) (omega arith))
 
-mul-if2 : tie.Need-mul-if2
-mul-if2 c = search needs
-
-add-if2 : tie.Need-add-if2
-add-if2 c = search needs
-
 returns-2 : tie.Need-returns-2
 unfolding stageOf
 returns-2 c =
     let p = c .before .before .pre in
     ap stageOf (bits-short (c .before .before .args .hdr) (c .before .before .args .h) (omega arith) (rw (← p .0, ← p .2) (c .if2 .taken)))
-
-hdr-refused-requires : tie.Need-hdr-refused-requires
-hdr-refused-requires c κs = search needs
 
 returns-3 : tie.Need-returns-3
 unfolding stageOf
@@ -43,9 +34,9 @@ endpoint-stage-spec =
     tie.close
     (tie.spec
     returns
-    mul-if2
-    add-if2
+    (λ c. search needs)
+    (λ c. search needs)
     returns-2
-    hdr-refused-requires
+    (λ c κs. search needs)
     returns-3
     returns-4)

@@ -6,29 +6,17 @@ use borrow.Author.Needs.{needs}
 use Rattle.block_header.proofs.grid_stage.Statement.{statement}
 use Rattle.block_header.proofs.grid_stage.Tie as tie
 
-width-requires : tie.Need-width-requires
-width-requires c κs = search needs
-
 returns : tie.Need-returns
 unfolding stageOf
 returns c = ap stageOf (too-wide (c .before .before .before .args .fp) (c .before .before .before .args .g) (omega arith))
-
-height-requires : tie.Need-height-requires
-height-requires c κs = search needs
 
 returns-2 : tie.Need-returns-2
 unfolding stageOf
 returns-2 c = ap stageOf (too-high (c .before .before .before .before .before .before .args .fp) (c .before .before .before .before .before .before .args .g) (omega arith) (omega arith))
 
-depth-requires : tie.Need-depth-requires
-depth-requires c κs = search needs
-
 returns-3 : tie.Need-returns-3
 unfolding stageOf
 returns-3 c = ap stageOf (too-deep (c .before .before .before .before .before .before .before .before .before .args .fp) (c .before .before .before .before .before .before .before .before .before .args .g) (omega arith) (omega arith) (omega arith))
-
-weight-count-requires : tie.Need-weight-count-requires
-weight-count-requires c κs = search needs
 
 returns-4 : tie.Need-returns-4
 unfolding stageOf
@@ -50,13 +38,13 @@ pub grid-stage-spec : {M : Type 1} → statement M
 grid-stage-spec =
     tie.close
     (tie.spec
-    width-requires
+    (λ c κs. search needs)
     returns
-    height-requires
+    (λ c κs. search needs)
     returns-2
-    depth-requires
+    (λ c κs. search needs)
     returns-3
-    weight-count-requires
+    (λ c κs. search needs)
     returns-4
     returns-5
     returns-6

@@ -20,20 +20,8 @@ loop-holds : tie.Need-loop-holds Inv-loop μ-loop
 unfolding tab
 loop-holds c = (omega arith, so-far-start 18 _ _ _ refl)
 
-array-copy-out-level-by : tie.Need-array-copy-out-level-by Inv-loop μ-loop
-array-copy-out-level-by c = omega arith
-
 level-by-requires : tie.Need-level-by-requires Inv-loop μ-loop
 level-by-requires c κs = tt
-
-array-set-from-out : tie.Need-array-set-from-out Inv-loop μ-loop
-array-set-from-out c = omega arith
-
-add-i : tie.Need-add-i Inv-loop μ-loop
-add-i c = omega arith
-
-loop-less : tie.Need-loop-less Inv-loop μ-loop
-loop-less c = omega arith
 
 loop-again : tie.Need-loop-again Inv-loop μ-loop
 loop-again c = (omega arith, so-far-next 18 _ _ (c .before .before .before .loop .out) (c .before .before .before .loop .i) (omega arith) refl (c .level-by .ensures .1) (c .level-by .ensures .0) (c .before .before .before .loop .inv .1))
@@ -49,10 +37,10 @@ endpoint-levels-spec =
     μ-loop
     endpoint-rule-requires
     loop-holds
-    array-copy-out-level-by
+    (λ c. omega arith)
     level-by-requires
-    array-set-from-out
-    add-i
-    loop-less
+    (λ c. omega arith)
+    (λ c. omega arith)
+    (λ c. omega arith)
     loop-again
     returns)

@@ -7,12 +7,6 @@ use borrow.Author.Needs.{needs}
 use Rattle.block_levels.proofs.endpoints_of.Statement.{statement}
 use Rattle.block_levels.proofs.endpoints_of.Tie as tie
 
-read-sequence-requires : tie.Need-read-sequence-requires
-read-sequence-requires c κs = search needs
-
-endpoint-levels-requires : tie.Need-endpoint-levels-requires
-endpoint-levels-requires c κs = search needs
-
 returns : tie.Need-returns
 unfolding endpointLevels
 returns c =
@@ -20,4 +14,4 @@ returns c =
     levels-read (unquantEndpoint (a .range)) (endpoint-zero (a .range)) 18 (encodingAt (a .range)) (bitsAt (a .range)) _ (a .n) (omega (arith, c .before .before .pre)) (c .before .read-sequence .ensures) (c .endpoint-levels .ensures)
 
 pub endpoints-of-spec : {M : Type 1} → statement M
-endpoints-of-spec = tie.close (tie.spec read-sequence-requires endpoint-levels-requires returns)
+endpoints-of-spec = tie.close (tie.spec (λ c κs. search needs) (λ c κs. search needs) returns)

@@ -25,9 +25,6 @@ few : (c : tie.In-loop Inv-loop μ-loop) → c .before .loop .i < 64
 few c = let s = c .before .before .before in
     omega (arith, last c, mul-le-mul-left (c .before .loop .i) (s .pre .0), mul-one (c .before .loop .i))
 
-weight-words-requires : tie.Need-weight-words-requires Inv-loop μ-loop
-weight-words-requires c κs = search needs
-
 loop-holds : tie.Need-loop-holds Inv-loop μ-loop
 unfolding tab
 loop-holds c = (omega arith, sym (padded-none (pointOf (levelsOf (c .before .args .range) (c .before .args .t3)) (c .before .args .planes)) noPoint 64))
@@ -46,9 +43,6 @@ sub-weight-pair c = omega (arith, c .before .before .before .before .before .pre
 
 array-copy-out-weight-pair-2 : tie.Need-array-copy-out-weight-pair-2 Inv-loop μ-loop
 array-copy-out-weight-pair-2 c = omega (arith, last (c .before .before), c .before .before .before .before .before .pre .0)
-
-weight-pair-requires : tie.Need-weight-pair-requires Inv-loop μ-loop
-weight-pair-requires c κs = search needs
 
 mul-out : tie.Need-mul-out Inv-loop μ-loop
 mul-out c = omega (arith, few (c .before .before .before .before))
@@ -86,14 +80,14 @@ grid-points-spec =
     (tie.spec
     Inv-loop
     μ-loop
-    weight-words-requires
+    (λ c κs. search needs)
     loop-holds
     mul-k
     array-copy-out-weight-pair
     add-weight-pair
     sub-weight-pair
     array-copy-out-weight-pair-2
-    weight-pair-requires
+    (λ c κs. search needs)
     mul-out
     array-set-from-out
     add-i

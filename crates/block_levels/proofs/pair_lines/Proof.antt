@@ -17,27 +17,12 @@ Inv-loop n t out₀ p₀ out p = (p ≤ n) × (out ≡ padded 4 p (λ k. lineOf 
 abbrev μ-loop : tie.MeasureT-loop
 μ-loop n t out₀ p₀ out p = n - p
 
-zero-pair-requires : tie.Need-zero-pair-requires Inv-loop μ-loop
-zero-pair-requires c κs = search needs
-
-line-of-requires : tie.Need-line-of-requires Inv-loop μ-loop
-line-of-requires c κs = search needs
-
 loop-holds : tie.Need-loop-holds Inv-loop μ-loop
 unfolding tab
 loop-holds c = (omega arith, rw (c .line-of .ensures, c .before .zero-pair .ensures) (sym (padded-none (λ k. lineOf (getD (c .before .before .args .t1) k noPair)) (lineOf zeroPair) 4)))
 
-mul-line-of : tie.Need-mul-line-of Inv-loop μ-loop
-mul-line-of c = search needs
-
 array-copy-out-line-of : tie.Need-array-copy-out-line-of Inv-loop μ-loop
 array-copy-out-line-of c = omega (arith, c .loop-test .taken, c .before .before .before .before .pre)
-
-line-of-requires-2 : tie.Need-line-of-requires-2 Inv-loop μ-loop
-line-of-requires-2 c κs = search needs
-
-mul-out : tie.Need-mul-out Inv-loop μ-loop
-mul-out c = search needs
 
 array-set-from-out : tie.Need-array-set-from-out Inv-loop μ-loop
 array-set-from-out c = omega (arith, c .before .before .loop-test .taken, c .before .before .before .before .before .before .pre)
@@ -71,13 +56,13 @@ pair-lines-spec =
     (tie.spec
     Inv-loop
     μ-loop
-    zero-pair-requires
-    line-of-requires
+    (λ c κs. search needs)
+    (λ c κs. search needs)
     loop-holds
-    mul-line-of
+    (λ c. search needs)
     array-copy-out-line-of
-    line-of-requires-2
-    mul-out
+    (λ c κs. search needs)
+    (λ c. search needs)
     array-set-from-out
     add-p
     loop-less

@@ -13,27 +13,6 @@ use borrow.Author.Needs.{needs}
 use Rattle.block_levels.proofs.points_of.Statement.{statement}
 use Rattle.block_levels.proofs.points_of.Tie as tie
 
-weight-count-requires : tie.Need-weight-count-requires
-weight-count-requires c κs = search needs
-
-cast-n : tie.Need-cast-n
-cast-n c = search needs
-
-reversed-requires : tie.Need-reversed-requires
-reversed-requires c κs = search needs
-
-read-sequence-requires : tie.Need-read-sequence-requires
-read-sequence-requires c κs = search needs
-
-cast-grid-points : tie.Need-cast-grid-points
-cast-grid-points c = search needs
-
-cast-grid-points-2 : tie.Need-cast-grid-points-2
-cast-grid-points-2 c = search needs
-
-cast-grid-points-3 : tie.Need-cast-grid-points-3
-cast-grid-points-3 c = search needs
-
 mul-grid-points : tie.Need-mul-grid-points
 mul-grid-points c = let s = c .before .before .before .before .before in omega (arith, layer-le (s .args .g) (s .pre .0) (s .pre .1))
 
@@ -58,14 +37,14 @@ pub points-of-spec : {M : Type 1} → statement M
 points-of-spec =
     tie.close
     (tie.spec
-    weight-count-requires
-    cast-n
-    reversed-requires
-    read-sequence-requires
-    cast-grid-points
-    cast-grid-points-2
+    (λ c κs. search needs)
+    (λ c. search needs)
+    (λ c κs. search needs)
+    (λ c κs. search needs)
+    (λ c. search needs)
+    (λ c. search needs)
     mul-grid-points
-    cast-grid-points-3
+    (λ c. search needs)
     mul-grid-points-2
     grid-points-requires
     returns)

@@ -6,26 +6,14 @@ use borrow.Author.Needs.{needs}
 use Rattle.block_levels.proofs.stored_colours.Statement.{statement}
 use Rattle.block_levels.proofs.stored_colours.Tie as tie
 
-field-at-requires : tie.Need-field-at-requires
-field-at-requires c κs = search needs
-
 cast-r : tie.Need-cast-r
 cast-r c = omega (arith, narrow _ _ 16 16 (omega arith) (omega arith) (c .field-at .ensures) .below)
-
-field-at-requires-2 : tie.Need-field-at-requires-2
-field-at-requires-2 c κs = search needs
 
 cast-g : tie.Need-cast-g
 cast-g c = omega (arith, narrow _ _ 16 16 (omega arith) (omega arith) (c .field-at2 .ensures) .below)
 
-field-at-requires-3 : tie.Need-field-at-requires-3
-field-at-requires-3 c κs = search needs
-
 cast-b : tie.Need-cast-b
 cast-b c = omega (arith, narrow _ _ 16 16 (omega arith) (omega arith) (c .field-at3 .ensures) .below)
-
-field-at-requires-4 : tie.Need-field-at-requires-4
-field-at-requires-4 c κs = search needs
 
 cast-a : tie.Need-cast-a
 cast-a c = omega (arith, narrow _ _ 16 16 (omega arith) (omega arith) (c .field-at4 .ensures) .below)
@@ -38,12 +26,12 @@ pub stored-colours-spec : {M : Type 1} → statement M
 stored-colours-spec =
     tie.close
     (tie.spec
-    field-at-requires
+    (λ c κs. search needs)
     cast-r
-    field-at-requires-2
+    (λ c κs. search needs)
     cast-g
-    field-at-requires-3
+    (λ c κs. search needs)
     cast-b
-    field-at-requires-4
+    (λ c κs. search needs)
     cast-a
     returns)

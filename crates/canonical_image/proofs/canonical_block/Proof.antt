@@ -14,9 +14,6 @@ use borrow.Author.Needs.{needs}
 use Rattle.canonical_image.proofs.canonical_block.Statement.{statement}
 use Rattle.canonical_image.proofs.canonical_block.Tie as tie
 
-one-refusal-requires : tie.Need-one-refusal-requires
-one-refusal-requires c κs = search needs
-
 returns : tie.Need-returns
 returns c =
     let a = c .before .before .before .before .args in
@@ -25,26 +22,11 @@ returns c =
 none : (c : tie.Else1) → let a = c .before .before .before .before .args in oneRefusal (a .fp) (length (now (a .block))) (length (now (a .out))) ≡ 0
 none c = sym (c .before .one-refusal .ensures) ∙ c .if1 .left
 
-load-requires : tie.Need-load-requires
-load-requires c κs = search needs
-
-is-volume-requires : tie.Need-is-volume-requires
-is-volume-requires c κs = search needs
-
 canonical-requires : tie.Need-canonical-requires
 canonical-requires c κs = (taken _ _ _ (none (c .before .before)) .known, c .before .is-volume .ensures)
 
-store-requires : tie.Need-store-requires
-store-requires c κs = search needs
-
 put-block-requires : tie.Need-put-block-requires
 put-block-requires c κs = taken _ _ _ (none (c .before .before .before .before .before)) .room
-
-answer-for-requires : tie.Need-answer-for-requires
-answer-for-requires c κs = search needs
-
-same-length : tie.Need-same-length
-same-length c = search needs
 
 returns-2 : tie.Need-returns-2
 returns-2 c =
@@ -66,13 +48,13 @@ pub canonical-block-spec : {M : Type 1} → statement M
 canonical-block-spec =
     tie.close
     (tie.spec
-    one-refusal-requires
+    (λ c κs. search needs)
     returns
-    is-volume-requires
-    load-requires
+    (λ c κs. search needs)
+    (λ c κs. search needs)
     canonical-requires
-    store-requires
+    (λ c κs. search needs)
     put-block-requires
-    answer-for-requires
-    same-length
+    (λ c κs. search needs)
+    (λ c. search needs)
     returns-2)

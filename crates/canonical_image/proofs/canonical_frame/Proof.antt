@@ -12,9 +12,6 @@ use borrow.Author.Needs.{needs}
 use Rattle.canonical_image.proofs.canonical_frame.Statement.{statement}
 use Rattle.canonical_image.proofs.canonical_frame.Tie as tie
 
-frame-refusal-requires : tie.Need-frame-refusal-requires
-frame-refusal-requires c κs = search needs
-
 returns : tie.Need-returns
 returns c =
     let a = c .before .before .before .before .args in
@@ -38,9 +35,6 @@ rewrite-requires c κs =
     let e = k .before .before in
     (all e .known, subst (λ (l : List ℕ). (length l ≡ 16 * (length l / 16)) × (length l / 16 ≤ 268435456)) (sym (k .copy .ensures)) (blocks e .sixteens, blocks e .most))
 
-same-length : tie.Need-same-length
-same-length c = search needs
-
 returns-2 : tie.Need-returns-2
 returns-2 c =
     let r = c .before .before in
@@ -55,4 +49,4 @@ returns-2 c =
 pub canonical-frame-spec : {M : Type 1} → statement M
 canonical-frame-spec =
     tie.close
-    (tie.spec frame-refusal-requires returns copy-requires rewrite-requires same-length returns-2)
+    (tie.spec (λ c κs. search needs) returns copy-requires rewrite-requires (λ c. search needs) returns-2)

@@ -12,9 +12,6 @@ use borrow.Author.Needs.{needs}
 use Rattle.canonical_image.proofs.canonical_in_place.Statement.{statement}
 use Rattle.canonical_image.proofs.canonical_in_place.Tie as tie
 
-frame-refusal-requires : tie.Need-frame-refusal-requires
-frame-refusal-requires c κs = search needs
-
 returns : tie.Need-returns
 returns c =
     let a = c .before .before .before .args in
@@ -32,9 +29,6 @@ blocks c = counted _ _ _ _ _ (all c)
 rewrite-requires : tie.Need-rewrite-requires
 rewrite-requires c κs = (all (c .before) .known, (blocks (c .before) .sixteens, blocks (c .before) .most))
 
-same-length : tie.Need-same-length
-same-length c = search needs
-
 returns-2 : tie.Need-returns-2
 returns-2 c =
     let r = c .before .before in
@@ -45,4 +39,4 @@ returns-2 c =
 
 pub canonical-in-place-spec : {M : Type 1} → statement M
 canonical-in-place-spec =
-    tie.close (tie.spec frame-refusal-requires returns rewrite-requires same-length returns-2)
+    tie.close (tie.spec (λ c κs. search needs) returns rewrite-requires (λ c. search needs) returns-2)

@@ -6,9 +6,6 @@ use borrow.Author.Needs.{needs}
 use Rattle.canonical_image.proofs.frame_refusal.Statement.{statement}
 use Rattle.canonical_image.proofs.frame_refusal.Tie as tie
 
-size-refusal-requires : tie.Need-size-refusal-requires
-size-refusal-requires c κs = search needs
-
 returns : tie.Need-returns
 returns c = frame-size _ _ _ _ _ _ (c .before .size-refusal .ensures) (c .if1 .taken)
 
@@ -18,15 +15,6 @@ none c = sym (c .before .size-refusal .ensures) ∙ c .if1 .left
 -- sixteen bytes for each block
 sixteen : (c : tie.After-blocks-of) → let a = c .before .before .before .args in 16 * c .blocks-of .result ≡ 16 * blocksOf (a .fp) (a .width) (a .height)
 sixteen c = ap (λ (n : ℕ). 16 * n) (c .blocks-of .ensures .0)
-
-blocks-of-requires : tie.Need-blocks-of-requires
-blocks-of-requires c κs = search needs
-
-cast-if2 : tie.Need-cast-if2
-cast-if2 c = search needs
-
-mul-if2 : tie.Need-mul-if2
-mul-if2 c = search needs
 
 returns-2 : tie.Need-returns-2
 returns-2 c = frame-4 _ _ _ _ _ (none (c .before .before)) (λ q. c .if2 .taken (q ∙ sym (sixteen (c .before))))
@@ -41,11 +29,11 @@ pub frame-refusal-spec : {M : Type 1} → statement M
 frame-refusal-spec =
     tie.close
     (tie.spec
-    size-refusal-requires
+    (λ c κs. search needs)
     returns
-    blocks-of-requires
-    cast-if2
-    mul-if2
+    (λ c κs. search needs)
+    (λ c. search needs)
+    (λ c. search needs)
     returns-2
     returns-3
     returns-4)

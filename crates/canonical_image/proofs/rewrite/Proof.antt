@@ -37,9 +37,6 @@ canonical-requires c κs = let h = start (c .before .before) .pre .0 in (omega a
 mul-put : tie.Need-mul-put Inv-loop μ-loop
 mul-put c = omega (arith, c .before .before .before .before .loop-test .taken, start (c .before .before .before .before) .pre .1 .1)
 
-store-requires : tie.Need-store-requires Inv-loop μ-loop
-store-requires c κs = search needs
-
 put-requires : tie.Need-put-requires Inv-loop μ-loop
 put-requires c κs = let i = c .before .before .before .before .before in omega (arith, room i, i .before .loop .inv .1 .size)
 
@@ -88,7 +85,7 @@ rewrite-spec =
     block-of-requires
     canonical-requires
     mul-put
-    store-requires
+    (λ c κs. search needs)
     put-requires
     note-requires
     add-b

@@ -7,30 +7,6 @@ use Rattle.grey_caption.proofs.Picture.{expanded}
 use Rattle.caption_block.proofs.grey.Statement.{statement}
 use Rattle.caption_block.proofs.grey.Tie as tie
 
-unquantize-weight-requires : tie.Need-unquantize-weight-requires
-unquantize-weight-requires c κs = search needs
-
-wide-requires : tie.Need-wide-requires
-wide-requires c κs = search needs
-
-mul-mixed : tie.Need-mul-mixed
-mul-mixed c = search needs
-
-add-mixed : tie.Need-add-mixed
-add-mixed c = search needs
-
-wide-requires-2 : tie.Need-wide-requires-2
-wide-requires-2 c κs = search needs
-
-mul-mixed-2 : tie.Need-mul-mixed-2
-mul-mixed-2 c = search needs
-
-add-mixed-2 : tie.Need-add-mixed-2
-add-mixed-2 c = search needs
-
-wide-requires-3 : tie.Need-wide-requires-3
-wide-requires-3 c κs = search needs
-
 mixed-requires : tie.Need-mixed-requires
 mixed-requires c κs =
     let level = c .before .before .before .unquantize-weight in
@@ -48,13 +24,13 @@ pub grey-spec : {M : Type 1} → statement M
 grey-spec =
     tie.close
     (tie.spec
-    unquantize-weight-requires
-    wide-requires
-    mul-mixed
-    add-mixed
-    wide-requires-2
-    mul-mixed-2
-    add-mixed-2
-    wide-requires-3
+    (λ c κs. search needs)
+    (λ c κs. search needs)
+    (λ c. search needs)
+    (λ c. search needs)
+    (λ c κs. search needs)
+    (λ c. search needs)
+    (λ c. search needs)
+    (λ c κs. search needs)
     mixed-requires
     returns)

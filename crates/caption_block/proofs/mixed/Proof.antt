@@ -10,9 +10,6 @@ use Rattle.caption_block.proofs.mixed.Tie as tie
 total : (c : tie.Start) → c .args .c0 * (64 - c .args .level) + c .args .c1 * c .args .level ≤ 4194240
 total c = sum-le (c .args .c0) (c .args .c1) (c .args .level) (c .pre .0) (c .pre .1) (c .pre .2)
 
-sub-result : tie.Need-sub-result
-sub-result c = search needs
-
 mul-result : tie.Need-mul-result
 mul-result c = omega (arith, total c)
 
@@ -35,4 +32,4 @@ returns c = refl
 pub mixed-spec : {M : Type 1} → statement M
 mixed-spec =
     tie.close
-    (tie.spec sub-result mul-result mul-result-2 add-result add-result-2 cast-result returns)
+    (tie.spec (λ c. search needs) mul-result mul-result-2 add-result add-result-2 cast-result returns)

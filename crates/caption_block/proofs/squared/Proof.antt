@@ -5,9 +5,6 @@ use Rattle.caption_block.proofs.Laws.{square-le}
 use Rattle.caption_block.proofs.squared.Statement.{statement}
 use Rattle.caption_block.proofs.squared.Tie as tie
 
-apart-requires : tie.Need-apart-requires
-apart-requires c κs = search needs
-
 mul-result : tie.Need-mul-result
 mul-result c = omega (arith, square-le (c .apart .result) (c .apart .ensures .1))
 
@@ -16,4 +13,4 @@ unfolding squared
 returns c = rw (c .apart .ensures .0)
 
 pub squared-spec : {M : Type 1} → statement M
-squared-spec = tie.close (tie.spec apart-requires mul-result returns)
+squared-spec = tie.close (tie.spec (λ c κs. search needs) mul-result returns)

@@ -26,20 +26,8 @@ no-weights-requires c κs = tt
 loop-holds : tie.Need-loop-holds Inv-loop μ-loop
 loop-holds c = (omega arith, c .no-weights .ensures ∙ sym (padded-none _ (stored 0) 64))
 
-array-read-best-weight : tie.Need-array-read-best-weight Inv-loop μ-loop
-array-read-best-weight c = omega arith
-
 best-weight-requires : tie.Need-best-weight-requires Inv-loop μ-loop
 best-weight-requires c κs = tt
-
-array-set-from-out : tie.Need-array-set-from-out Inv-loop μ-loop
-array-set-from-out c = omega arith
-
-add-i : tie.Need-add-i Inv-loop μ-loop
-add-i c = omega arith
-
-loop-less : tie.Need-loop-less Inv-loop μ-loop
-loop-less c = omega arith
 
 loop-again : tie.Need-loop-again Inv-loop μ-loop
 loop-again c =
@@ -61,10 +49,10 @@ weights-of-spec =
     μ-loop
     no-weights-requires
     loop-holds
-    array-read-best-weight
+    (λ c. omega arith)
     best-weight-requires
-    array-set-from-out
-    add-i
-    loop-less
+    (λ c. omega arith)
+    (λ c. omega arith)
+    (λ c. omega arith)
     loop-again
     returns)

@@ -11,9 +11,6 @@ use borrow.Author.Needs.{needs}
 use Rattle.caption_image.proofs.caption_image.Statement.{statement}
 use Rattle.caption_image.proofs.caption_image.Tie as tie
 
-refusal-requires : tie.Need-refusal-requires
-refusal-requires c κs = search needs
-
 returns : tie.Need-returns
 returns c = (c .before .refusal .ensures, untouched _ _ _ _ _ _ (λ e. c .if1 .taken (c .before .refusal .ensures ∙ e)))
 
@@ -30,16 +27,10 @@ all c = let a = accepted _ _ _ _ (none c) in (lent _ _ _ (a .wide) (a .high) (a 
 blocks-across-requires : tie.Need-blocks-across-requires
 blocks-across-requires c κs = (omega arith, all c .0 .w-most)
 
-cast-across : tie.Need-cast-across
-cast-across c = search needs
-
 fill-requires : tie.Need-fill-requires
 fill-requires c κs =
     let f = all (c .before .before) in
     (f .0, (c .before .blocks-across .ensures .0, f .1))
-
-same-length : tie.Need-same-length
-same-length c = search needs
 
 returns-2 : tie.Need-returns-2
 returns-2 c =
@@ -51,10 +42,10 @@ pub caption-image-spec : {M : Type 1} → statement M
 caption-image-spec =
     tie.close
     (tie.spec
-    refusal-requires
+    (λ c κs. search needs)
     returns
     blocks-across-requires
-    cast-across
+    (λ c. search needs)
     fill-requires
-    same-length
+    (λ c. search needs)
     returns-2)

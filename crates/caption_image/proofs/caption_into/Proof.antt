@@ -9,18 +9,6 @@ returns c = block-4 _ _ _ _ (c .if1 .taken)
 returns-2 : tie.Need-returns-2
 returns-2 c = block-5 _ _ _ _ (c .before .if1 .left) (c .if2 .taken)
 
-gather-requires : tie.Need-gather-requires
-gather-requires c κs = search needs
-
-caption-requires : tie.Need-caption-requires
-caption-requires c κs = search needs
-
-put-requires : tie.Need-put-requires
-put-requires c κs = search needs
-
-same-length : tie.Need-same-length
-same-length c = search needs
-
 returns-3 : tie.Need-returns-3
 returns-3 c =
     let p = c .before .before in
@@ -35,8 +23,8 @@ caption-into-spec =
     (tie.spec
     returns
     returns-2
-    gather-requires
-    caption-requires
-    put-requires
-    same-length
+    (λ c κs. search needs)
+    (λ c κs. search needs)
+    (λ c κs. search needs)
+    (λ c. search needs)
     returns-3)

@@ -39,20 +39,11 @@ mul-gather-2 c = omega (arith, here c .row, start c .pre .0 .h-most)
 gather-requires : tie.Need-gather-requires Inv-loop μ-loop
 gather-requires c κs = (start c .pre .0, (omega (arith, here c .column, start c .pre .0 .w-most), omega (arith, here c .row, start c .pre .0 .h-most)))
 
-mul-put : tie.Need-mul-put Inv-loop μ-loop
-mul-put c = omega arith
-
 caption-requires : tie.Need-caption-requires Inv-loop μ-loop
 caption-requires c κs = tt
 
 put-requires : tie.Need-put-requires Inv-loop μ-loop
 put-requires c κs = omega (arith, c .before .before .before .before .loop .inv .1 .size)
-
-add-b : tie.Need-add-b Inv-loop μ-loop
-add-b c = omega arith
-
-loop-less : tie.Need-loop-less Inv-loop μ-loop
-loop-less c = omega arith
 
 loop-again : tie.Need-loop-again Inv-loop μ-loop
 loop-again c =
@@ -89,11 +80,11 @@ fill-spec =
     div-gather
     mul-gather-2
     gather-requires
-    mul-put
+    (λ c. omega arith)
     caption-requires
     put-requires
-    add-b
-    loop-less
+    (λ c. omega arith)
+    (λ c. omega arith)
     loop-again
     same-length
     returns)

@@ -28,15 +28,6 @@ add-grey-at-2 c = omega (arith, c .before .before .before .pre .1 .1)
 grey-at-requires : tie.Need-grey-at-requires Inv-loop μ-loop
 grey-at-requires c κs = c .before .before .before .pre .0
 
-array-write-out : tie.Need-array-write-out Inv-loop μ-loop
-array-write-out c = omega arith
-
-add-i : tie.Need-add-i Inv-loop μ-loop
-add-i c = omega arith
-
-loop-less : tie.Need-loop-less Inv-loop μ-loop
-loop-less c = omega arith
-
 loop-again : tie.Need-loop-again Inv-loop μ-loop
 loop-again c =
     let l = c .before .before .loop in
@@ -55,8 +46,8 @@ gather-spec =
     add-grey-at
     add-grey-at-2
     grey-at-requires
-    array-write-out
-    add-i
-    loop-less
+    (λ c. omega arith)
+    (λ c. omega arith)
+    (λ c. omega arith)
     loop-again
     returns)

@@ -7,12 +7,6 @@ use borrow.Author.Needs.{needs}
 use Rattle.caption_image.proofs.grey_at.Statement.{statement}
 use Rattle.caption_image.proofs.grey_at.Tie as tie
 
-nearest-requires : tie.Need-nearest-requires
-nearest-requires c κs = search needs
-
-nearest-requires-2 : tie.Need-nearest-requires-2
-nearest-requires-2 c κs = search needs
-
 -- the place is one of the greys'
 inside : (c : tie.After-nearest2) → c .before .nearest .result * c .before .before .before .args .width + c .nearest2 .result < length (c .before .before .before .args .wanted .now)
 inside c =
@@ -37,8 +31,8 @@ pub grey-at-spec : {M : Type 1} → statement M
 grey-at-spec =
     tie.close
     (tie.spec
-    nearest-requires
-    nearest-requires-2
+    (λ c κs. search needs)
+    (λ c κs. search needs)
     mul-result
     add-result
     shared-slice-read-result

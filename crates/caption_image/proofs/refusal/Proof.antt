@@ -9,20 +9,8 @@ use borrow.Author.Needs.{needs}
 use Rattle.caption_image.proofs.refusal.Statement.{statement}
 use Rattle.caption_image.proofs.refusal.Tie as tie
 
-size-refusal-requires : tie.Need-size-refusal-requires
-size-refusal-requires c κs = search needs
-
 returns : tie.Need-returns
 returns c = refused-3 _ _ _ _ (λ q. c .if1 .taken (c .before .size-refusal .ensures ∙ q))
-
-blocks-of-requires : tie.Need-blocks-of-requires
-blocks-of-requires c κs = search needs
-
-cast-if2 : tie.Need-cast-if2
-cast-if2 c = search needs
-
-mul-if2 : tie.Need-mul-if2
-mul-if2 c = search needs
 
 fine : (c : tie.Else1) → sizeRefusal footprint (c .before .before .args .width) (c .before .before .args .height) ≡ 0
 fine c = sym (c .before .size-refusal .ensures) ∙ c .if1 .left
@@ -51,11 +39,11 @@ pub refusal-spec : {M : Type 1} → statement M
 refusal-spec =
     tie.close
     (tie.spec
-    size-refusal-requires
+    (λ c κs. search needs)
     returns
-    blocks-of-requires
-    cast-if2
-    mul-if2
+    (λ c κs. search needs)
+    (λ c. search needs)
+    (λ c. search needs)
     returns-2
     mul-if3
     returns-3

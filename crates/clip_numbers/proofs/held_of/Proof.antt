@@ -18,27 +18,6 @@ abbrev μ-loop : tie.MeasureT-loop
 loop-holds : tie.Need-loop-holds Inv-loop μ-loop
 loop-holds c = (omega arith, filling-start _ 0 16 _ refl)
 
-add-low : tie.Need-add-low Inv-loop μ-loop
-add-low c = omega arith
-
-mul-low : tie.Need-mul-low Inv-loop μ-loop
-mul-low c = search needs
-
-shared-slice-read-low : tie.Need-shared-slice-read-low Inv-loop μ-loop
-shared-slice-read-low c = search needs
-
-low-requires : tie.Need-low-requires Inv-loop μ-loop
-low-requires c κs = search needs
-
-array-write-held : tie.Need-array-write-held Inv-loop μ-loop
-array-write-held c = omega arith
-
-add-k : tie.Need-add-k Inv-loop μ-loop
-add-k c = omega arith
-
-loop-less : tie.Need-loop-less Inv-loop μ-loop
-loop-less c = omega arith
-
 loop-again : tie.Need-loop-again Inv-loop μ-loop
 loop-again c = (omega arith, filling-more _ 0 16 _ _ _ (omega arith) (c .before .before .before .loop .inv .1) (c .low .ensures))
 
@@ -53,12 +32,12 @@ held-of-spec =
     Inv-loop
     μ-loop
     loop-holds
-    add-low
-    mul-low
-    shared-slice-read-low
-    low-requires
-    array-write-held
-    add-k
-    loop-less
+    (λ c. omega arith)
+    (λ c. search needs)
+    (λ c. search needs)
+    (λ c κs. search needs)
+    (λ c. omega arith)
+    (λ c. omega arith)
+    (λ c. omega arith)
     loop-again
     returns)

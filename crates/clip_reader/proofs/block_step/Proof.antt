@@ -10,18 +10,6 @@ use Rattle.clip_reader.proofs.hand.Reads as hand-reads
 use Rattle.clip_reader.proofs.hold.Reads as hold-reads
 use Rattle.clip_reader.proofs.with.Reads as with-reads
 
--- src/lib.rt:298:9
-hold-requires : tie.Need-hold-requires
-hold-requires c κs = search needs
-
--- src/lib.rt:301:17
-with-requires : tie.Need-with-requires
-with-requires c κs = search needs
-
--- src/lib.rt:301:9
-hand-requires : tie.Need-hand-requires
-hand-requires c κs = search needs
-
 -- src/lib.rt:294:1
 returns : tie.Need-returns
 unfolding blockStep
@@ -33,4 +21,4 @@ unfolding blockStep
 returns-2 c = rw (c .hand .ensures, c .before .with .ensures, le-ltb _ 15 (c .before .before .before .if1 .left))
 
 pub block-step-spec : {M : Type 1} → statement M
-block-step-spec = tie.close (tie.spec hold-requires with-requires hand-requires returns returns-2)
+block-step-spec = tie.close (tie.spec (λ c κs. search needs) (λ c κs. search needs) (λ c κs. search needs) returns returns-2)

@@ -11,38 +11,6 @@ use Rattle.clip_reader.proofs.header_step.Reads as header-step-reads
 use Rattle.clip_reader.proofs.quiet.Reads as quiet-reads
 use Rattle.clip_reader.proofs.version_step.Reads as version-step-reads
 
--- src/lib.rt:311:27
-enum-told : tie.Need-enum-told
-enum-told c = search needs
-
--- src/lib.rt:311:27
-version-step-requires : tie.Need-version-step-requires
-version-step-requires c κs = search needs
-
--- src/lib.rt:312:26
-enum-told-2 : tie.Need-enum-told-2
-enum-told-2 c = search needs
-
--- src/lib.rt:312:26
-header-step-requires : tie.Need-header-step-requires
-header-step-requires c κs = search needs
-
--- src/lib.rt:313:26
-enum-told-3 : tie.Need-enum-told-3
-enum-told-3 c = search needs
-
--- src/lib.rt:313:26
-block-step-requires : tie.Need-block-step-requires
-block-step-requires c κs = search needs
-
--- src/lib.rt:314:21
-enum-known-phase : tie.Need-enum-known-phase
-enum-known-phase c = search needs
-
--- src/lib.rt:314:27
-quiet-requires : tie.Need-quiet-requires
-quiet-requires c κs = search needs
-
 -- src/lib.rt:306:1
 returns : tie.Need-returns
 unfolding stepOf
@@ -71,14 +39,14 @@ pub byte-step-spec : {M : Type 1} → statement M
 byte-step-spec =
     tie.close
     (tie.spec
-    enum-told
-    version-step-requires
-    enum-told-2
-    header-step-requires
-    enum-told-3
-    block-step-requires
-    enum-known-phase
-    quiet-requires
+    (λ c. search needs)
+    (λ c κs. search needs)
+    (λ c. search needs)
+    (λ c κs. search needs)
+    (λ c. search needs)
+    (λ c κs. search needs)
+    (λ c. search needs)
+    (λ c κs. search needs)
     returns
     returns-2
     returns-3

@@ -15,29 +15,9 @@ use Rattle.clip_frame.proofs.length_in.Reads as length-in-reads
 use Rattle.clip_reader.proofs.quiet.Reads as quiet-reads
 use Rattle.clip_reader.proofs.stop.Reads as stop-reads
 
--- src/lib.rt:235:9
-frame-in-requires : tie.Need-frame-in-requires
-frame-in-requires c κs = search needs
-
--- src/lib.rt:236:30
-length-in-requires : tie.Need-length-in-requires
-length-in-requires c κs = search needs
-
--- src/lib.rt:236:9
-frame-refusal-requires : tie.Need-frame-refusal-requires
-frame-refusal-requires c κs = search needs
-
 -- src/lib.rt:238:15
 begin-requires : tie.Need-begin-requires
 begin-requires c κs = let f = c .before .before .before .frame-in .result in size-fine f (own-of-frame f _ (sym (c .before .frame-refusal .ensures) ∙ c .if1 .taken))
-
--- src/lib.rt:238:9
-quiet-requires : tie.Need-quiet-requires
-quiet-requires c κs = search needs
-
--- src/lib.rt:240:9
-stop-requires : tie.Need-stop-requires
-stop-requires c κs = search needs
 
 -- src/lib.rt:232:1
 returns : tie.Need-returns
@@ -51,11 +31,11 @@ pub check-spec : {M : Type 1} → statement M
 check-spec =
     tie.close
     (tie.spec
-    frame-in-requires
-    length-in-requires
-    frame-refusal-requires
+    (λ c κs. search needs)
+    (λ c κs. search needs)
+    (λ c κs. search needs)
     begin-requires
-    quiet-requires
-    stop-requires
+    (λ c κs. search needs)
+    (λ c κs. search needs)
     returns
     returns-2)

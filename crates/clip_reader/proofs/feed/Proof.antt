@@ -7,33 +7,9 @@ use Rattle.clip_reader.proofs.feed.Reads as reads
 use Rattle.clip_reader.proofs.feed.Lts as lts
 use Rattle.clip_reader.proofs.go_on.Reads as go-on-reads
 
--- src/lib.rt:387:27
-enum-told : tie.Need-enum-told
-enum-told c = search needs
-
--- src/lib.rt:387:27
-go-on-requires : tie.Need-go-on-requires
-go-on-requires c κs = search needs
-
--- src/lib.rt:388:26
-enum-told-2 : tie.Need-enum-told-2
-enum-told-2 c = search needs
-
--- src/lib.rt:388:26
-go-on-requires-2 : tie.Need-go-on-requires-2
-go-on-requires-2 c κs = search needs
-
--- src/lib.rt:389:26
-enum-told-3 : tie.Need-enum-told-3
-enum-told-3 c = search needs
-
 -- src/lib.rt:389:26
 feed-blocks-requires : tie.Need-feed-blocks-requires
 feed-blocks-requires c κs = c .enum-told3 .given .1
-
--- src/lib.rt:390:21
-enum-known-phase : tie.Need-enum-known-phase
-enum-known-phase c = search needs
 
 -- src/lib.rt:382:1
 returns : tie.Need-returns
@@ -55,13 +31,13 @@ pub feed-spec : {M : Type 1} → statement M
 feed-spec =
     tie.close
     (tie.spec
-    enum-told
-    go-on-requires
-    enum-told-2
-    go-on-requires-2
-    enum-told-3
+    (λ c. search needs)
+    (λ c κs. search needs)
+    (λ c. search needs)
+    (λ c κs. search needs)
+    (λ c. search needs)
     feed-blocks-requires
-    enum-known-phase
+    (λ c. search needs)
     returns
     returns-2
     returns-3

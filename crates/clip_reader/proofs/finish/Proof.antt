@@ -8,18 +8,10 @@ use Rattle.clip_reader.proofs.finish.Lts as lts
 use Rattle.clip_reader.proofs.enter.Reads as enter-reads
 use Rattle.clip_reader.proofs.finish_number.Reads as finish-number-reads
 
--- src/lib.rt:397:9
-finish-number-requires : tie.Need-finish-number-requires
-finish-number-requires c κs = search needs
-
--- src/lib.rt:399:15
-enter-requires : tie.Need-enter-requires
-enter-requires c κs = search needs
-
 -- src/lib.rt:394:1
 returns : tie.Need-returns
 unfolding finishOf
 returns c = rw (c .enter .ensures, c .before .finish-number .ensures)
 
 pub finish-spec : {M : Type 1} → statement M
-finish-spec = tie.close (tie.spec finish-number-requires enter-requires returns)
+finish-spec = tie.close (tie.spec (λ c κs. search needs) (λ c κs. search needs) returns)

@@ -24,47 +24,15 @@ abbrev μ-loop : tie.MeasureT-loop
 loop-holds : tie.Need-loop-holds Inv-loop μ-loop
 loop-holds c = (omega arith, begun-feed _ _)
 
--- src/lib.rt:369:33
-shared-slice-read-byte-step : tie.Need-shared-slice-read-byte-step Inv-loop μ-loop
-shared-slice-read-byte-step c = search needs
-
--- src/lib.rt:369:13
-byte-step-requires : tie.Need-byte-step-requires Inv-loop μ-loop
-byte-step-requires c κs = search needs
-
--- src/lib.rt:370:9
-add-i : tie.Need-add-i Inv-loop μ-loop
-add-i c = omega arith
-
--- src/lib.rt:372:12
-is-handed-requires : tie.Need-is-handed-requires Inv-loop μ-loop
-is-handed-requires c κs = search needs
-
--- src/lib.rt:373:13
-fed-by-requires : tie.Need-fed-by-requires Inv-loop μ-loop
-fed-by-requires c κs = search needs
-
 -- src/lib.rt:373:13
 returns : tie.Need-returns Inv-loop μ-loop
 returns c = let l = c .before .before .before .before .before .before .loop in
     stop-here _ _ _ _ _ (l .inv .1) _ (c .before .before .before .before .before .loop-test .taken) (c .before .before .before .byte-step .ensures) (sym (c .before .before .is-handed .ensures) ∙ c .before .if1 .taken) (c .fed-by .ensures)
 
 -- src/lib.rt:368:5
-loop-less : tie.Need-loop-less Inv-loop μ-loop
-loop-less c = omega arith
-
--- src/lib.rt:368:5
 loop-again : tie.Need-loop-again Inv-loop μ-loop
 loop-again c = let l = c .before .before .before .before .before .before .loop in
     (omega arith, next-here _ _ _ _ _ (l .inv .1) (c .before .before .before .before .before .loop-test .taken) (c .before .before .before .byte-step .ensures) (sym (c .before .before .is-handed .ensures) ∙ c .before .if1 .left))
-
--- src/lib.rt:378:12
-quiet-requires : tie.Need-quiet-requires Inv-loop μ-loop
-quiet-requires c κs = search needs
-
--- src/lib.rt:378:5
-fed-by-requires-2 : tie.Need-fed-by-requires-2 Inv-loop μ-loop
-fed-by-requires-2 c κs = search needs
 
 -- src/lib.rt:363:1
 returns-2 : tie.Need-returns-2 Inv-loop μ-loop
@@ -78,14 +46,14 @@ go-on-spec =
     Inv-loop
     μ-loop
     loop-holds
-    shared-slice-read-byte-step
-    byte-step-requires
-    add-i
-    is-handed-requires
-    fed-by-requires
+    (λ c. search needs)
+    (λ c κs. search needs)
+    (λ c. omega arith)
+    (λ c κs. search needs)
+    (λ c κs. search needs)
     returns
-    loop-less
+    (λ c. omega arith)
     loop-again
-    quiet-requires
-    fed-by-requires-2
+    (λ c κs. search needs)
+    (λ c κs. search needs)
     returns-2)

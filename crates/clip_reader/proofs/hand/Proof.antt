@@ -6,13 +6,9 @@ use Rattle.clip_reader.proofs.hand.Reads as reads
 use Rattle.clip_reader.proofs.hand.Lts as lts
 use Rattle.clip_reader.proofs.pass.Reads as pass-reads
 
--- src/lib.rt:288:15
-pass-requires : tie.Need-pass-requires
-pass-requires c κs = search needs
-
 -- src/lib.rt:284:1
 returns : tie.Need-returns
 returns c = rw (c .pass .ensures)
 
 pub hand-spec : {M : Type 1} → statement M
-hand-spec = tie.close (tie.spec pass-requires returns)
+hand-spec = tie.close (tie.spec (λ c κs. search needs) returns)

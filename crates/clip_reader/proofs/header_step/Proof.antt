@@ -10,18 +10,6 @@ use Rattle.clip_reader.proofs.check.Reads as check-reads
 use Rattle.clip_reader.proofs.hold.Reads as hold-reads
 use Rattle.clip_reader.proofs.with.Reads as with-reads
 
--- src/lib.rt:248:9
-hold-requires : tie.Need-hold-requires
-hold-requires c κs = search needs
-
--- src/lib.rt:251:18
-with-requires : tie.Need-with-requires
-with-requires c κs = search needs
-
--- src/lib.rt:251:9
-check-requires : tie.Need-check-requires
-check-requires c κs = search needs
-
 -- src/lib.rt:244:1
 returns : tie.Need-returns
 unfolding headerStep
@@ -34,4 +22,4 @@ returns-2 c = rw (c .check .ensures, c .before .with .ensures, le-ltb _ 9 (c .be
 
 pub header-step-spec : {M : Type 1} → statement M
 header-step-spec =
-    tie.close (tie.spec hold-requires with-requires check-requires returns returns-2)
+    tie.close (tie.spec (λ c κs. search needs) (λ c κs. search needs) (λ c κs. search needs) returns returns-2)

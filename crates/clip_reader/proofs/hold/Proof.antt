@@ -7,25 +7,9 @@ use Rattle.clip_reader.proofs.hold.Lts as lts
 use Rattle.clip_reader.proofs.quiet.Reads as quiet-reads
 use Rattle.clip_reader.proofs.with.Reads as with-reads
 
--- src/lib.rt:145:19
-add-t6 : tie.Need-add-t6
-add-t6 c = search needs
-
--- src/lib.rt:146:30
-cast-with : tie.Need-cast-with
-cast-with c = search needs
-
--- src/lib.rt:146:19
-with-requires : tie.Need-with-requires
-with-requires c κs = search needs
-
--- src/lib.rt:142:5
-quiet-requires : tie.Need-quiet-requires
-quiet-requires c κs = search needs
-
 -- src/lib.rt:135:1
 returns : tie.Need-returns
 returns c = rw (c .quiet .ensures, c .before .with .ensures)
 
 pub hold-spec : {M : Type 1} → statement M
-hold-spec = tie.close (tie.spec add-t6 cast-with with-requires quiet-requires returns)
+hold-spec = tie.close (tie.spec (λ c. search needs) (λ c. search needs) (λ c κs. search needs) (λ c κs. search needs) returns)

@@ -6,13 +6,9 @@ use Rattle.clip_reader.proofs.next_frame.Reads as reads
 use Rattle.clip_reader.proofs.next_frame.Lts as lts
 use Rattle.std.proofs.num.wrapping_add_u32.Reads as wrapping-add-u32-reads
 
--- src/lib.rt:283:16
-wrapping-add-u32-requires : tie.Need-wrapping-add-u32-requires
-wrapping-add-u32-requires c κs = search needs
-
 -- src/lib.rt:275:1
 returns : tie.Need-returns
 returns c = rw (c .wrapping-add-u32 .ensures)
 
 pub next-frame-spec : {M : Type 1} → statement M
-next-frame-spec = tie.close (tie.spec wrapping-add-u32-requires returns)
+next-frame-spec = tie.close (tie.spec (λ c κs. search needs) returns)

@@ -9,14 +9,6 @@ use Rattle.clip_reader.proofs.pass.Lts as lts
 use Rattle.clip_reader.proofs.next_block.Reads as next-block-reads
 use Rattle.clip_reader.proofs.next_frame.Reads as next-frame-reads
 
--- src/lib.rt:295:9
-next-block-requires : tie.Need-next-block-requires
-next-block-requires c κs = search needs
-
--- src/lib.rt:297:9
-next-frame-requires : tie.Need-next-frame-requires
-next-frame-requires c κs = search needs
-
 -- src/lib.rt:291:1
 returns : tie.Need-returns
 unfolding past
@@ -28,4 +20,4 @@ unfolding past
 returns-2 c = rw (c .next-frame .ensures, le-ltb _ _ (c .before .if1 .left))
 
 pub pass-spec : {M : Type 1} → statement M
-pass-spec = tie.close (tie.spec next-block-requires next-frame-requires returns returns-2)
+pass-spec = tie.close (tie.spec (λ c κs. search needs) (λ c κs. search needs) returns returns-2)

@@ -6,13 +6,9 @@ use Rattle.clip_reader.proofs.stop.Reads as reads
 use Rattle.clip_reader.proofs.stop.Lts as lts
 use Rattle.clip_reader.proofs.enter.Reads as enter-reads
 
--- src/lib.rt:119:15
-enter-requires : tie.Need-enter-requires
-enter-requires c κs = search needs
-
 -- src/lib.rt:115:1
 returns : tie.Need-returns
 returns c = rw (c .enter .ensures)
 
 pub stop-spec : {M : Type 1} → statement M
-stop-spec = tie.close (tie.spec enter-requires returns)
+stop-spec = tie.close (tie.spec (λ c κs. search needs) returns)

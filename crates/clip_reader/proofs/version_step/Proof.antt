@@ -10,18 +10,6 @@ use Rattle.clip_reader.proofs.enter.Reads as enter-reads
 use Rattle.clip_reader.proofs.quiet.Reads as quiet-reads
 use Rattle.clip_reader.proofs.stop.Reads as stop-reads
 
--- src/lib.rt:161:15
-enter-requires : tie.Need-enter-requires
-enter-requires c κs = search needs
-
--- src/lib.rt:161:9
-quiet-requires : tie.Need-quiet-requires
-quiet-requires c κs = search needs
-
--- src/lib.rt:163:9
-stop-requires : tie.Need-stop-requires
-stop-requires c κs = search needs
-
 -- src/lib.rt:157:1
 returns : tie.Need-returns
 unfolding versionStep
@@ -34,4 +22,4 @@ returns-2 c = rw (c .stop .ensures, ne-eqb _ 1 (c .before .if1 .left))
 
 pub version-step-spec : {M : Type 1} → statement M
 version-step-spec =
-    tie.close (tie.spec enter-requires quiet-requires stop-requires returns returns-2)
+    tie.close (tie.spec (λ c κs. search needs) (λ c κs. search needs) (λ c κs. search needs) returns returns-2)

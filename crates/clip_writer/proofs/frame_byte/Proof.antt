@@ -8,14 +8,6 @@ use Rattle.clip_writer.proofs.frame_byte.Tie as tie
 use Rattle.clip_writer.proofs.frame_byte.Reads as reads
 use Rattle.clip_writer.proofs.frame_byte.Lts as lts
 
--- src/lib.rt:482:17
-element-copy-out-result : tie.Need-element-copy-out-result
-element-copy-out-result c = search needs
-
--- src/lib.rt:482:34
-shared-slice-read-result : tie.Need-shared-slice-read-result
-shared-slice-read-result c = search needs
-
 -- src/lib.rt:478:1
 returns : tie.Need-returns
 returns c = let a = c .before .before .args in
@@ -28,4 +20,4 @@ returns-2 c = let a = c .before .before .args in
 
 pub frame-byte-spec : {M : Type 1} → statement M
 frame-byte-spec =
-    tie.close (tie.spec element-copy-out-result shared-slice-read-result returns returns-2)
+    tie.close (tie.spec (λ c. search needs) (λ c. search needs) returns returns-2)

@@ -17,17 +17,9 @@ use Rattle.clip_writer.proofs.fill.Reads as fill-reads
 use Rattle.clip_writer.proofs.head_of.Reads as head-of-reads
 use Rattle.clip_frame.proofs.write_refusal.Reads as write-refusal-reads
 
--- src/lib.rt:502:9
-write-refusal-requires : tie.Need-write-refusal-requires
-write-refusal-requires c κs = search needs
-
 -- src/lib.rt:504:9
 returns : tie.Need-returns
 returns c = (c .before .write-refusal .ensures, frame-refused _ _ _ (λ e. c .if1 .taken (c .before .write-refusal .ensures ∙ e)))
-
--- src/lib.rt:506:24
-add-head-of : tie.Need-add-head-of
-add-head-of c = search needs
 
 -- src/lib.rt:506:16
 head-of-requires : tie.Need-head-of-requires
@@ -38,10 +30,6 @@ fill-requires : tie.Need-fill-requires
 fill-requires c κs = (ap (λ (l : List ℕ). length l) (c .before .before .head-of .ensures), accepted _ _ _ (sym (c .before .before .before .before .write-refusal .ensures) ∙ c .before .before .before .if1 .left) .buffer)
 
 -- src/lib.rt:498:1
-same-length : tie.Need-same-length
-same-length c = search needs
-
--- src/lib.rt:498:1
 returns-2 : tie.Need-returns-2
 returns-2 c = let z = sym (c .before .before .before .before .before .before .before .write-refusal .ensures) ∙ c .before .before .before .before .before .before .if1 .left in (sym z, frame-written _ _ _ z refl (c .before .before .before .before .before .head-of .ensures) (c .before .before .fill .ensures))
 
@@ -49,10 +37,10 @@ pub write-frame-spec : {M : Type 1} → statement M
 write-frame-spec =
     tie.close
     (tie.spec
-    write-refusal-requires
+    (λ c κs. search needs)
     returns
-    add-head-of
+    (λ c. search needs)
     head-of-requires
     fill-requires
-    same-length
+    (λ c. search needs)
     returns-2)

@@ -5,39 +5,6 @@ use borrow.Author.Needs.{needs}
 use Rattle.color_endpoint.proofs.endpoint_pair.Statement.{statement}
 use Rattle.color_endpoint.proofs.endpoint_pair.Tie as tie
 
-mode-0-requires : tie.Need-mode-0-requires
-mode-0-requires c κs = search needs
-
-mode-1-requires : tie.Need-mode-1-requires
-mode-1-requires c κs = search needs
-
-mode-4-requires : tie.Need-mode-4-requires
-mode-4-requires c κs = search needs
-
-mode-5-requires : tie.Need-mode-5-requires
-mode-5-requires c κs = search needs
-
-mode-6-requires : tie.Need-mode-6-requires
-mode-6-requires c κs = search needs
-
-mode-8-requires : tie.Need-mode-8-requires
-mode-8-requires c κs = search needs
-
-mode-9-requires : tie.Need-mode-9-requires
-mode-9-requires c κs = search needs
-
-mode-10-requires : tie.Need-mode-10-requires
-mode-10-requires c κs = search needs
-
-mode-12-requires : tie.Need-mode-12-requires
-mode-12-requires c κs = search needs
-
-mode-13-requires : tie.Need-mode-13-requires
-mode-13-requires c κs = search needs
-
-zero-pair-requires : tie.Need-zero-pair-requires
-zero-pair-requires c κs = search needs
-
 returns : tie.Need-returns
 unfolding pairOf
 returns c = rw (c .before .match .keys1) (c .mode-0 .ensures)
@@ -101,17 +68,17 @@ pub endpoint-pair-spec : {M : Type 1} → statement M
 endpoint-pair-spec =
     tie.close
     (tie.spec
-    mode-0-requires
-    mode-1-requires
-    mode-4-requires
-    mode-5-requires
-    mode-6-requires
-    mode-8-requires
-    mode-9-requires
-    mode-10-requires
-    mode-12-requires
-    mode-13-requires
-    zero-pair-requires
+    (λ c κs. search needs)
+    (λ c κs. search needs)
+    (λ c κs. search needs)
+    (λ c κs. search needs)
+    (λ c κs. search needs)
+    (λ c κs. search needs)
+    (λ c κs. search needs)
+    (λ c κs. search needs)
+    (λ c κs. search needs)
+    (λ c κs. search needs)
+    (λ c κs. search needs)
     returns
     returns-2
     returns-3

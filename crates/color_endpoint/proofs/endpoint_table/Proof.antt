@@ -25,32 +25,11 @@ loop-holds : tie.Need-loop-holds Inv-loop μ-loop
 unfolding startOf tableBy entryBy
 loop-holds c = (omega arith, omega arith, refl, rw (c .zero-pair .ensures))
 
-array-read-mode : tie.Need-array-read-mode Inv-loop μ-loop
-array-read-mode c = omega arith
-
-numbers-from-requires : tie.Need-numbers-from-requires Inv-loop μ-loop
-numbers-from-requires c κs = omega arith
-
 endpoint-pair-requires : tie.Need-endpoint-pair-requires Inv-loop μ-loop
 endpoint-pair-requires c κs = tt
 
-mul-t : tie.Need-mul-t Inv-loop μ-loop
-mul-t c = omega arith
-
-array-set-from-t : tie.Need-array-set-from-t Inv-loop μ-loop
-array-set-from-t c = omega arith
-
 number-count-requires : tie.Need-number-count-requires Inv-loop μ-loop
 number-count-requires c κs = tt
-
-add-start : tie.Need-add-start Inv-loop μ-loop
-add-start c = omega arith
-
-add-p : tie.Need-add-p Inv-loop μ-loop
-add-p c = omega arith
-
-loop-less : tie.Need-loop-less Inv-loop μ-loop
-loop-less c = omega arith
 
 loop-again : tie.Need-loop-again Inv-loop μ-loop
 loop-again c =
@@ -77,14 +56,14 @@ endpoint-table-spec =
     filled-requires
     zero-pair-requires
     loop-holds
-    array-read-mode
-    numbers-from-requires
+    (λ c. omega arith)
+    (λ c κs. omega arith)
     endpoint-pair-requires
-    mul-t
-    array-set-from-t
+    (λ c. omega arith)
+    (λ c. omega arith)
     number-count-requires
-    add-start
-    add-p
-    loop-less
+    (λ c. omega arith)
+    (λ c. omega arith)
+    (λ c. omega arith)
     loop-again
     returns)

@@ -6,14 +6,8 @@ use borrow.Author.Needs.{needs}
 use Rattle.color_endpoint.proofs.level_at.Statement.{statement}
 use Rattle.color_endpoint.proofs.level_at.Tie as tie
 
-array-copy-out-result : tie.Need-array-copy-out-result
-array-copy-out-result c = search needs
-
-returns : tie.Need-returns
-returns c = search needs
-
 returns-2 : tie.Need-returns-2
 returns-2 c = let e : length (c .before .args .t1) ≡ 18 = search needs in sym (List·getD-eq-default (c .before .args .t1) _ (omega arith))
 
 pub level-at-spec : {M : Type 1} → statement M
-level-at-spec = tie.close (tie.spec array-copy-out-result returns returns-2)
+level-at-spec = tie.close (tie.spec (λ c. search needs) (λ c. search needs) returns-2)

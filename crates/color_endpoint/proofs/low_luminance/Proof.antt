@@ -5,15 +5,9 @@ use borrow.Author.Needs.{needs}
 use Rattle.color_endpoint.proofs.low_luminance.Statement.{statement}
 use Rattle.color_endpoint.proofs.low_luminance.Tie as tie
 
-mul-result : tie.Need-mul-result
-mul-result c = search needs
-
-add-result : tie.Need-add-result
-add-result c = search needs
-
 returns : tie.Need-returns
 unfolding lowLuminance
 returns c = refl
 
 pub low-luminance-spec : {M : Type 1} → statement M
-low-luminance-spec = tie.close (tie.spec mul-result add-result returns)
+low-luminance-spec = tie.close (tie.spec (λ c. search needs) (λ c. search needs) returns)

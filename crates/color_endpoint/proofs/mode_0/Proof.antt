@@ -4,15 +4,6 @@ use borrow.Author.Needs.{needs}
 use Rattle.color_endpoint.proofs.mode_0.Statement.{statement}
 use Rattle.color_endpoint.proofs.mode_0.Tie as tie
 
-element-copy-out-luminance-pair : tie.Need-element-copy-out-luminance-pair
-element-copy-out-luminance-pair c = search needs
-
-element-copy-out-luminance-pair-2 : tie.Need-element-copy-out-luminance-pair-2
-element-copy-out-luminance-pair-2 c = search needs
-
-luminance-pair-requires : tie.Need-luminance-pair-requires
-luminance-pair-requires c κs = search needs
-
 returns : tie.Need-returns
 unfolding mode0
 returns c = c .luminance-pair .ensures
@@ -21,7 +12,7 @@ pub mode-0-spec : {M : Type 1} → statement M
 mode-0-spec =
     tie.close
     (tie.spec
-    element-copy-out-luminance-pair
-    element-copy-out-luminance-pair-2
-    luminance-pair-requires
+    (λ c. search needs)
+    (λ c. search needs)
+    (λ c κs. search needs)
     returns)

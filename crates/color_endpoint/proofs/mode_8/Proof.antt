@@ -4,27 +4,6 @@ use borrow.Author.Needs.{needs}
 use Rattle.color_endpoint.proofs.mode_8.Statement.{statement}
 use Rattle.color_endpoint.proofs.mode_8.Tie as tie
 
-element-copy-out-t5 : tie.Need-element-copy-out-t5
-element-copy-out-t5 c = search needs
-
-element-copy-out-t8 : tie.Need-element-copy-out-t8
-element-copy-out-t8 c = search needs
-
-element-copy-out-t11 : tie.Need-element-copy-out-t11
-element-copy-out-t11 c = search needs
-
-element-copy-out-t15 : tie.Need-element-copy-out-t15
-element-copy-out-t15 c = search needs
-
-element-copy-out-t18 : tie.Need-element-copy-out-t18
-element-copy-out-t18 c = search needs
-
-element-copy-out-t21 : tie.Need-element-copy-out-t21
-element-copy-out-t21 c = search needs
-
-direct-pair-requires : tie.Need-direct-pair-requires
-direct-pair-requires c κs = search needs
-
 returns : tie.Need-returns
 unfolding mode8
 returns c = c .direct-pair .ensures
@@ -33,11 +12,11 @@ pub mode-8-spec : {M : Type 1} → statement M
 mode-8-spec =
     tie.close
     (tie.spec
-    element-copy-out-t5
-    element-copy-out-t8
-    element-copy-out-t11
-    element-copy-out-t15
-    element-copy-out-t18
-    element-copy-out-t21
-    direct-pair-requires
+    (λ c. search needs)
+    (λ c. search needs)
+    (λ c. search needs)
+    (λ c. search needs)
+    (λ c. search needs)
+    (λ c. search needs)
+    (λ c κs. search needs)
     returns)

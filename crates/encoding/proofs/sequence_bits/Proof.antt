@@ -14,9 +14,6 @@ product c = mul-le-mul {n₂ = 4294967295} {m₂ = 255} (omega arith) (omega ari
 mul-result : tie.Need-mul-result
 mul-result c = omega (arith, product c)
 
-code-bits-requires : tie.Need-code-bits-requires
-code-bits-requires c κs = search needs
-
 add-result : tie.Need-add-result
 add-result c = omega (arith, product (c .before), code-le (c .before .args .encoding) (c .before .args .n))
 
@@ -25,4 +22,4 @@ unfolding sequenceBits
 returns c = rw (c .code-bits .ensures)
 
 pub sequence-bits-spec : {M : Type 1} → statement M
-sequence-bits-spec = tie.close (tie.spec mul-result code-bits-requires add-result returns)
+sequence-bits-spec = tie.close (tie.spec mul-result (λ c κs. search needs) add-result returns)

@@ -19,15 +19,6 @@ six s = s .args .a .0 / 2 % 64
 below : (m : ℕ) → 32 ≤ m → m < 64 → SFits w8 (pos m -ℤ pos 64)
 below m h k = within-fits w8 {lo = 32} {hi = 31} (record { near = rw (lt-ltb m 64 k) (omega arith) }) (omega arith) (omega arith)
 
-mul-base : tie.Need-mul-base
-mul-base c = search needs
-
-add-base : tie.Need-add-base
-add-base c = search needs
-
-cast-z : tie.Need-cast-z
-cast-z c = search needs
-
 sub-t13 : tie.Need-sub-t13
 sub-t13 c = rw (toZ-pos w8 (six (c .before)) (omega arith)) (below (six (c .before)) (c .if1 .left) (omega arith))
 
@@ -40,4 +31,4 @@ unfolding bitTransfer baseOf offsetOf
 returns-2 c = rw (toZ-pos w8 (six (c .before)) (omega arith), toZ-ofZ w8 _ (below (six (c .before)) (c .if1 .left) (omega arith)), le-ltb (six (c .before)) 32 (c .if1 .left))
 
 pub bit-transfer-spec : {M : Type 1} → statement M
-bit-transfer-spec = tie.close (tie.spec mul-base add-base cast-z sub-t13 returns returns-2)
+bit-transfer-spec = tie.close (tie.spec (λ c. search needs) (λ c. search needs) (λ c. search needs) sub-t13 returns returns-2)

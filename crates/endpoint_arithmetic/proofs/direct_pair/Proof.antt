@@ -6,18 +6,6 @@ use borrow.Author.Needs.{needs}
 use Rattle.endpoint_arithmetic.proofs.direct_pair.Statement.{statement}
 use Rattle.endpoint_arithmetic.proofs.direct_pair.Tie as tie
 
-rgb-sum-requires : tie.Need-rgb-sum-requires
-rgb-sum-requires c κs = search needs
-
-rgb-sum-requires-2 : tie.Need-rgb-sum-requires-2
-rgb-sum-requires-2 c κs = search needs
-
-blue-of-requires : tie.Need-blue-of-requires
-blue-of-requires c κs = search needs
-
-blue-of-requires-2 : tie.Need-blue-of-requires-2
-blue-of-requires-2 c κs = search needs
-
 returns : tie.Need-returns
 unfolding directPair
 returns c = rw (← c .before .before .rgb-sum .ensures, ← c .before .rgb-sum2 .ensures, le-leb _ _ (c .if1 .taken))
@@ -32,9 +20,9 @@ pub direct-pair-spec : {M : Type 1} → statement M
 direct-pair-spec =
     tie.close
     (tie.spec
-    rgb-sum-requires
-    rgb-sum-requires-2
-    blue-of-requires
-    blue-of-requires-2
+    (λ c κs. search needs)
+    (λ c κs. search needs)
+    (λ c κs. search needs)
+    (λ c κs. search needs)
     returns
     returns-2)

@@ -8,11 +8,8 @@ use borrow.Author.Needs.{needs}
 use Rattle.endpoint_arithmetic.proofs.level.Statement.{statement}
 use Rattle.endpoint_arithmetic.proofs.level.Tie as tie
 
-cast-t2 : tie.Need-cast-t2
-cast-t2 c = search needs
-
 returns : tie.Need-returns
 returns c = rw (toZ-pos w32 (c .args .n) (omega arith)) (refl, within-pos (omega arith))
 
 pub level-spec : {M : Type 1} → statement M
-level-spec = tie.close (tie.spec cast-t2 returns)
+level-spec = tie.close (tie.spec (λ c. search needs) returns)

@@ -5,15 +5,6 @@ use borrow.Author.Needs.{needs}
 use Rattle.endpoint_arithmetic.proofs.offset_pair.Statement.{statement}
 use Rattle.endpoint_arithmetic.proofs.offset_pair.Tie as tie
 
-falls-requires : tie.Need-falls-requires
-falls-requires c κs = search needs
-
-contracted-pair-requires : tie.Need-contracted-pair-requires
-contracted-pair-requires c κs = search needs
-
-raised-pair-requires : tie.Need-raised-pair-requires
-raised-pair-requires c κs = search needs
-
 returns : tie.Need-returns
 unfolding offsetPair
 returns c = rw (sym (c .before .before .falls .ensures) ∙ c .before .if1 .taken) (c .contracted-pair .ensures)
@@ -25,4 +16,4 @@ returns-2 c = rw (sym (c .before .before .falls .ensures) ∙ c .before .if1 .le
 pub offset-pair-spec : {M : Type 1} → statement M
 offset-pair-spec =
     tie.close
-    (tie.spec falls-requires contracted-pair-requires raised-pair-requires returns returns-2)
+    (tie.spec (λ c κs. search needs) (λ c κs. search needs) (λ c κs. search needs) returns returns-2)

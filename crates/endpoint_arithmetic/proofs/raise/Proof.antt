@@ -21,9 +21,6 @@ module _ (c : tie.After-struct-told) where
   fit : SFits w32 (pos (c .before .args .t .base) +ℤ c .before .args .t .offset)
   fit = within-fits w32 near (omega arith) (omega arith)
 
-cast-t4 : tie.Need-cast-t4
-cast-t4 c = search needs
-
 cast-t5 : tie.Need-cast-t5
 cast-t5 c = rw (toZ-ofZ w8 _ (held c)) (within-fits w32 (fits-within (held c)) (omega arith) (omega arith))
 
@@ -35,4 +32,4 @@ unfolding raised
 returns c = rw (toZ-pos w32 (c .before .args .t .base) (omega arith), widened _ (held c), toZ-ofZ w32 _ (fit c)) (refl, near c)
 
 pub raise-spec : {M : Type 1} → statement M
-raise-spec = tie.close (tie.spec cast-t4 cast-t5 add-t6 returns)
+raise-spec = tie.close (tie.spec (λ c. search needs) cast-t5 add-t6 returns)

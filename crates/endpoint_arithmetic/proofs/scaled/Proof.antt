@@ -15,8 +15,5 @@ mul-result c = omega (arith, product c)
 cast-result : tie.Need-cast-result
 cast-result c = omega (arith, product c)
 
-returns : tie.Need-returns
-returns c = search needs
-
 pub scaled-spec : {M : Type 1} → statement M
-scaled-spec = tie.close (tie.spec mul-result cast-result returns)
+scaled-spec = tie.close (tie.spec mul-result cast-result (λ c. search needs))

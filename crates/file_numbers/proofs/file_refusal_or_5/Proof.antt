@@ -4,15 +4,6 @@ use borrow.Author.Needs.{needs}
 use Rattle.file_numbers.proofs.file_refusal_or_5.Statement.{statement}
 use Rattle.file_numbers.proofs.file_refusal_or_5.Tie as tie
 
-read-header-requires : tie.Need-read-header-requires
-read-header-requires c κs = search needs
-
-enum-known-answer : tie.Need-enum-known-answer
-enum-known-answer c = search needs
-
-enum-told : tie.Need-enum-told
-enum-told c = search needs
-
 returns : tie.Need-returns
 returns c = file-stopped _ _ (sym (c .before .before .before .read-header .ensures .0) ∙ c .before .answer .given .1)
 
@@ -21,4 +12,4 @@ returns-2 c = file-passed _ _ (sym (c .before .before .read-header .ensures .0) 
 
 pub file-refusal-or-5-spec : {M : Type 1} → statement M
 file-refusal-or-5-spec =
-    tie.close (tie.spec read-header-requires enum-known-answer enum-told returns returns-2)
+    tie.close (tie.spec (λ c κs. search needs) (λ c. search needs) (λ c. search needs) returns returns-2)

@@ -12,32 +12,11 @@ use Rattle.file_numbers.proofs.file_words.Statement.{
 }
 use Rattle.file_numbers.proofs.file_words.Tie as tie
 
-file-refusal-or-5-requires : tie.Need-file-refusal-or-5-requires
-file-refusal-or-5-requires c κs = search needs
-
 returns : tie.Need-returns
 returns c =
     let a = c .before .before .before .before .before .args in
     let u = untold (fileTold (a .kind) (now (a .file)) (length (now (a .out)))) (headerRefusal (now (a .file))) (fileOut (a .kind) (now (a .file)) (now (a .out))) (now (a .out)) (now (a .tally)) (c .before .if1 .taken) in
     (c .file-refusal-or-5 .ensures ∙ u .number, (u .out, u .its-tally))
-
-decode-file-words-requires : tie.Need-decode-file-words-requires
-decode-file-words-requires c κs = search needs
-
-tally-told-requires : tie.Need-tally-told-requires
-tally-told-requires c κs = search needs
-
-put-tally-requires : tie.Need-put-tally-requires
-put-tally-requires c κs = search needs
-
-refusal-told-requires : tie.Need-refusal-told-requires
-refusal-told-requires c κs = search needs
-
-same-length : tie.Need-same-length
-same-length c = search needs
-
-same-length-2 : tie.Need-same-length-2
-same-length-2 c = search needs
 
 returns-2 : tie.Need-returns-2
 returns-2 c =
@@ -55,12 +34,12 @@ pub file-words-spec : {M : Type 1} → statement M
 file-words-spec =
     tie.close
     (tie.spec
-    file-refusal-or-5-requires
+    (λ c κs. search needs)
     returns
-    decode-file-words-requires
-    tally-told-requires
-    put-tally-requires
-    refusal-told-requires
-    same-length
-    same-length-2
+    (λ c κs. search needs)
+    (λ c κs. search needs)
+    (λ c κs. search needs)
+    (λ c κs. search needs)
+    (λ c. search needs)
+    (λ c. search needs)
     returns-2)

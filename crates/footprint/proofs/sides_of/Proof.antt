@@ -28,15 +28,6 @@ side m n f t u none fp =
       ]
     ]
 
-side-in-requires : tie.Need-side-in-requires
-side-in-requires c κs = search needs
-
-side-in-requires-2 : tie.Need-side-in-requires-2
-side-in-requires-2 c κs = search needs
-
-side-in-requires-3 : tie.Need-side-in-requires-3
-side-in-requires-3 c κs = search needs
-
 returns : tie.Need-returns
 unfolding sidesOf widthOf heightOf depthOf footprints
 returns c =
@@ -47,4 +38,4 @@ returns c =
     rw (w, h, d)
 
 pub sides-of-spec : {M : Type 1} → statement M
-sides-of-spec = tie.close (tie.spec side-in-requires side-in-requires-2 side-in-requires-3 returns)
+sides-of-spec = tie.close (tie.spec (λ c κs. search needs) (λ c κs. search needs) (λ c κs. search needs) returns)

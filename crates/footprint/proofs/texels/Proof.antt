@@ -7,23 +7,8 @@ use borrow.Author.Needs.{needs}
 use Rattle.footprint.proofs.texels.Statement.{statement}
 use Rattle.footprint.proofs.texels.Tie as tie
 
-width-requires : tie.Need-width-requires
-width-requires c κs = search needs
-
-cast-layer : tie.Need-cast-layer
-cast-layer c = search needs
-
-height-requires : tie.Need-height-requires
-height-requires c κs = search needs
-
-cast-layer-2 : tie.Need-cast-layer-2
-cast-layer-2 c = search needs
-
 mul-layer : tie.Need-mul-layer
 mul-layer c = let h : c .before .width .result * c .height .result ≤ 255 * 255 = mul-le-mul {n₂ = 255} {m₂ = 255} (omega arith) (omega arith) in omega arith
-
-depth-requires : tie.Need-depth-requires
-depth-requires c κs = search needs
 
 times-requires : tie.Need-times-requires
 unfolding texelsOf
@@ -37,11 +22,11 @@ pub texels-spec : {M : Type 1} → statement M
 texels-spec =
     tie.close
     (tie.spec
-    width-requires
-    cast-layer
-    height-requires
-    cast-layer-2
+    (λ c κs. search needs)
+    (λ c. search needs)
+    (λ c κs. search needs)
+    (λ c. search needs)
     mul-layer
-    depth-requires
+    (λ c κs. search needs)
     times-requires
     returns)

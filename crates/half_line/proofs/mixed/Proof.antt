@@ -13,9 +13,6 @@ low c = mul-le-mul {n₂ = 65535} {m₂ = 64} (omega arith) (c .rest .ensures .1
 high : (c : tie.After-rest) → c .before .args .c1 * c .before .args .i ≤ 65535 * 65535
 high c = mul-le-mul {n₂ = 65535} {m₂ = 65535} (omega arith) (omega arith)
 
-rest-requires : tie.Need-rest-requires
-rest-requires c κs = search needs
-
 mul-result : tie.Need-mul-result
 mul-result c = record { fits = omega (arith, low c) }
 
@@ -28,9 +25,6 @@ add-result c = record { fits = omega (arith, low c, high c) }
 add-result-2 : tie.Need-add-result-2
 add-result-2 c = record { fits = omega (arith, low c, high c) }
 
-cast-result : tie.Need-cast-result
-cast-result c = search needs
-
 returns : tie.Need-returns
 unfolding mixOf
 returns c = rw (c .rest .ensures .0)
@@ -38,4 +32,4 @@ returns c = rw (c .rest .ensures .0)
 pub mixed-spec : {M : Type 1} → statement M
 mixed-spec =
     tie.close
-    (tie.spec rest-requires mul-result mul-result-2 add-result add-result-2 cast-result returns)
+    (tie.spec (λ c κs. search needs) mul-result mul-result-2 add-result add-result-2 (λ c. search needs) returns)

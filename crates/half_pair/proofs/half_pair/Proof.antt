@@ -5,18 +5,6 @@ use borrow.Author.Needs.{needs}
 use Rattle.half_pair.proofs.half_pair.Statement.{statement}
 use Rattle.half_pair.proofs.half_pair.Tie as tie
 
-is-hdr-requires : tie.Need-is-hdr-requires
-is-hdr-requires c κs = search needs
-
-hdr-pair-requires : tie.Need-hdr-pair-requires
-hdr-pair-requires c κs = search needs
-
-expanded-hdr-requires : tie.Need-expanded-hdr-requires
-expanded-hdr-requires c κs = search needs
-
-expanded-ldr-requires : tie.Need-expanded-ldr-requires
-expanded-ldr-requires c κs = search needs
-
 returns : tie.Need-returns
 unfolding halfPairOf
 returns c =
@@ -33,9 +21,9 @@ pub half-pair-spec : {M : Type 1} → statement M
 half-pair-spec =
     tie.close
     (tie.spec
-    is-hdr-requires
-    hdr-pair-requires
-    expanded-hdr-requires
-    expanded-ldr-requires
+    (λ c κs. search needs)
+    (λ c κs. search needs)
+    (λ c κs. search needs)
+    (λ c κs. search needs)
     returns
     returns-2)

@@ -31,12 +31,6 @@ loop-holds : tie.Need-loop-holds Inv-loop μ-loop
 unfolding startOf tableBy entryBy
 loop-holds c = (omega arith, omega arith, refl, rw (c .zero-half .ensures))
 
-array-read-mode : tie.Need-array-read-mode Inv-loop μ-loop
-array-read-mode c = omega arith
-
-numbers-from-requires : tie.Need-numbers-from-requires Inv-loop μ-loop
-numbers-from-requires c κs = omega arith
-
 -- the pair that was made of it in the other kinds
 made : (modes : List ℕ) (count : ℕ) (levels : List Level) (p : ℕ) {t : List EndpointPair} {start : ℕ} {v : List Level} → p < 4 → p < count
     → t ≡ tableOf modes count levels → start ≡ startOf modes p → v ≡ numbersFrom levels start → getD t p noPair ≡ pairOf (getD modes p 0) v
@@ -50,23 +44,8 @@ half-pair-requires c κs =
     let f = i .before .before .before in
     made _ _ _ (l .p) (omega (arith, i .loop-test .taken, f .filled .ensures)) (omega (arith, i .loop-test .taken, f .filled .ensures)) (f .before .pre) (l .inv .2) (c .before .numbers-from .ensures)
 
-mul-t : tie.Need-mul-t Inv-loop μ-loop
-mul-t c = omega arith
-
-array-set-from-t : tie.Need-array-set-from-t Inv-loop μ-loop
-array-set-from-t c = omega arith
-
 number-count-requires : tie.Need-number-count-requires Inv-loop μ-loop
 number-count-requires c κs = tt
-
-add-start : tie.Need-add-start Inv-loop μ-loop
-add-start c = omega arith
-
-add-p : tie.Need-add-p Inv-loop μ-loop
-add-p c = omega arith
-
-loop-less : tie.Need-loop-less Inv-loop μ-loop
-loop-less c = omega arith
 
 loop-again : tie.Need-loop-again Inv-loop μ-loop
 loop-again c =
@@ -93,16 +72,16 @@ half-table-spec =
     filled-requires
     zero-half-requires
     loop-holds
-    array-read-mode
-    numbers-from-requires
+    (λ c. omega arith)
+    (λ c κs. omega arith)
     (λ c. omega arith)
     (λ c. omega arith)
     half-pair-requires
-    mul-t
-    array-set-from-t
+    (λ c. omega arith)
+    (λ c. omega arith)
     number-count-requires
-    add-start
-    add-p
-    loop-less
+    (λ c. omega arith)
+    (λ c. omega arith)
+    (λ c. omega arith)
     loop-again
     returns)

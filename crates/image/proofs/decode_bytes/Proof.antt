@@ -15,9 +15,6 @@ Inv-loop reading g s out₀ buf₀ t₀ n b₀ out buf t b = Decoding reading Sr
 abbrev μ-loop : tie.MeasureT-loop
 μ-loop reading g s out₀ buf₀ t₀ n b₀ out buf t b = g .down * g .across - b
 
-blank-requires : tie.Need-blank-requires Inv-loop μ-loop
-blank-requires c κs = search needs
-
 mul-n : tie.Need-mul-n Inv-loop μ-loop
 mul-n c = omega (arith, sizes _ (c .before .before .before .before .pre .0))
 
@@ -33,12 +30,6 @@ note-requires : tie.Need-note-requires Inv-loop μ-loop
 note-requires c κs = let l = c .before .before .before .before .before .before .loop in
     let p = c .before .before .before .before .before .before .before .before .before .before .before .pre in
     (tally-le _ (l .b) (l .t) (l .inv .tallied), omega (arith, sizes _ (p .0)))
-
-add-b : tie.Need-add-b Inv-loop μ-loop
-add-b c = omega arith
-
-loop-less : tie.Need-loop-less Inv-loop μ-loop
-loop-less c = omega arith
 
 loop-again : tie.Need-loop-again Inv-loop μ-loop
 loop-again c = let k = c .before .before .before in
@@ -62,13 +53,13 @@ decode-bytes-spec =
     (tie.spec
     Inv-loop
     μ-loop
-    blank-requires
+    (λ c κs. search needs)
     mul-n
     loop-holds
     show-bytes-requires
     note-requires
-    add-b
-    loop-less
+    (λ c. omega arith)
+    (λ c. omega arith)
     loop-again
     same-length
     returns)

@@ -14,9 +14,6 @@ Inv-loop reading g kind s out₀ buf₀ t₀ n b₀ out buf t b = Decoding readi
 abbrev μ-loop : tie.MeasureT-loop
 μ-loop reading g kind s out₀ buf₀ t₀ n b₀ out buf t b = g .down * g .across - b
 
-blank-requires : tie.Need-blank-requires Inv-loop μ-loop
-blank-requires c κs = search needs
-
 mul-n : tie.Need-mul-n Inv-loop μ-loop
 mul-n c = omega (arith, sizes _ (c .before .before .before .before .pre .1 .0))
 
@@ -32,12 +29,6 @@ note-requires : tie.Need-note-requires Inv-loop μ-loop
 note-requires c κs = let l = c .before .before .before .before .before .before .loop in
     let p = c .before .before .before .before .before .before .before .before .before .before .before .pre in
     (tally-le _ (l .b) (l .t) (l .inv .tallied), omega (arith, sizes _ (p .1 .0)))
-
-add-b : tie.Need-add-b Inv-loop μ-loop
-add-b c = omega arith
-
-loop-less : tie.Need-loop-less Inv-loop μ-loop
-loop-less c = omega arith
 
 loop-again : tie.Need-loop-again Inv-loop μ-loop
 loop-again c = let k = c .before .before .before in
@@ -61,13 +52,13 @@ decode-numbers-spec =
     (tie.spec
     Inv-loop
     μ-loop
-    blank-requires
+    (λ c κs. search needs)
     mul-n
     loop-holds
     show-numbers-requires
     note-requires
-    add-b
-    loop-less
+    (λ c. omega arith)
+    (λ c. omega arith)
     loop-again
     same-length
     returns)

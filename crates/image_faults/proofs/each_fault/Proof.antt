@@ -35,25 +35,10 @@ abbrev μ-loop : tie.MeasureT-loop
 loop-holds : tie.Need-loop-holds Inv-loop μ-loop
 loop-holds c = (filling-start _ 0 _ _ refl, (omega arith, sym (tally-start _)))
 
-block-of-requires : tie.Need-block-of-requires Inv-loop μ-loop
-block-of-requires c κs = omega arith
-
-fault-of-requires : tie.Need-fault-of-requires Inv-loop μ-loop
-fault-of-requires c κs = search needs
-
-slice-write-faults : tie.Need-slice-write-faults Inv-loop μ-loop
-slice-write-faults c = omega arith
-
 note-requires : tie.Need-note-requires Inv-loop μ-loop
 note-requires c κs =
     let l = c .before .before .before .loop in
     (tally-le _ (l .b) (l .t) (l .inv .1 .1), omega (arith, l .inv .1 .0))
-
-add-b : tie.Need-add-b Inv-loop μ-loop
-add-b c = omega arith
-
-loop-less : tie.Need-loop-less Inv-loop μ-loop
-loop-less c = omega arith
 
 loop-again : tie.Need-loop-again Inv-loop μ-loop
 loop-again c =
@@ -75,4 +60,4 @@ returns c =
 pub each-fault-spec : {M : Type 1} → statement M
 each-fault-spec =
     tie.close
-    (tie.spec Inv-loop μ-loop loop-holds block-of-requires fault-of-requires slice-write-faults note-requires add-b loop-less loop-again same-length returns)
+    (tie.spec Inv-loop μ-loop loop-holds (λ c κs. omega arith) (λ c κs. search needs) (λ c. omega arith) note-requires (λ c. omega arith) (λ c. omega arith) loop-again same-length returns)

@@ -8,18 +8,6 @@ use borrow.Author.Needs.{needs}
 use Rattle.image_faults.proofs.fault_of.Statement.{statement}
 use Rattle.image_faults.proofs.fault_of.Tie as tie
 
-enum-told : tie.Need-enum-told
-enum-told c = search needs
-
-ordinary-fault-requires : tie.Need-ordinary-fault-requires
-ordinary-fault-requires c κs = search needs
-
-enum-told-2 : tie.Need-enum-told-2
-enum-told-2 c = search needs
-
-takes-hdr-requires : tie.Need-takes-hdr-requires
-takes-hdr-requires c κs = search needs
-
 strict-fault-requires : tie.Need-strict-fault-requires
 strict-fault-requires c κs = let h = c .before .before .before .pre in (omega arith, sym (flat _ (omega arith)))
 
@@ -33,4 +21,4 @@ returns-2 c =
 
 pub fault-of-spec : {M : Type 1} → statement M
 fault-of-spec =
-    tie.close (tie.spec enum-told ordinary-fault-requires enum-told-2 takes-hdr-requires strict-fault-requires returns returns-2)
+    tie.close (tie.spec (λ c. search needs) (λ c κs. search needs) (λ c. search needs) (λ c κs. search needs) strict-fault-requires returns returns-2)

@@ -18,20 +18,8 @@ verdict-is c =
     sym (ap (λ (s : Settings). s .verdict) (c .read-settings .ensures ∙ ap (λ (t : Bool). settingsOf t (a .fp) (blockNumber (a .block))) (c .before .takes-hdr .ensures))
     ∙ settings-verdict (takesHdr (a .kind)) (a .fp) (blockNumber (a .block)))
 
-takes-hdr-requires : tie.Need-takes-hdr-requires
-takes-hdr-requires c κs = search needs
-
 read-settings-requires : tie.Need-read-settings-requires
 read-settings-requires c κs = let h = c .before .pre in sym (flat _ (omega arith))
-
-enum-known-v : tie.Need-enum-known-v
-enum-known-v c = search needs
-
-enum-told : tie.Need-enum-told
-enum-told c = search needs
-
-enum-told-2 : tie.Need-enum-told-2
-enum-told-2 c = search needs
 
 returns : tie.Need-returns
 returns c = sym (told-fault _ _ _ _ (verdict-is (c .before .before .before) ∙ c .before .v .given .1) .0)
@@ -46,11 +34,11 @@ pub ordinary-fault-spec : {M : Type 1} → statement M
 ordinary-fault-spec =
     tie.close
     (tie.spec
-    takes-hdr-requires
+    (λ c κs. search needs)
     read-settings-requires
-    enum-known-v
-    enum-told
-    enum-told-2
+    (λ c. search needs)
+    (λ c. search needs)
+    (λ c. search needs)
     returns
     returns-2
     returns-3)

@@ -10,20 +10,8 @@ returns c = bad-footprint _ _ _ _ _ _ (c .if1 .taken)
 returns-2 : tie.Need-returns-2
 returns-2 c = bad-kind _ _ _ _ _ _ (c .before .if1 .left) (c .if2 .taken)
 
-size-refusal-requires : tie.Need-size-refusal-requires
-size-refusal-requires c κs = search needs
-
 returns-3 : tie.Need-returns-3
 returns-3 c = bad-size _ _ _ _ _ _ (c .before .before .before .if1 .left) (c .before .before .if2 .left) _ (c .before .size-refusal .ensures) (c .if3 .taken)
-
-blocks-of-requires : tie.Need-blocks-of-requires
-blocks-of-requires c κs = search needs
-
-cast-blocks : tie.Need-cast-blocks
-cast-blocks c = search needs
-
-mul-if4 : tie.Need-mul-if4
-mul-if4 c = search needs
 
 returns-4 : tie.Need-returns-4
 returns-4 c = let b = c .before in let s = b .before .before in bad-bytes _ _ _ _ _ _ (s .before .before .if1 .left) (s .before .if2 .left) _ (s .size-refusal .ensures) (b .before .if3 .left) _ (b .blocks-of .ensures .0) (c .if4 .taken)
@@ -37,4 +25,4 @@ returns-6 c = let b = c .before .before in let s = b .before .before in all-good
 pub refusal-spec : {M : Type 1} → statement M
 refusal-spec =
     tie.close
-    (tie.spec returns returns-2 size-refusal-requires returns-3 blocks-of-requires cast-blocks mul-if4 returns-4 returns-5 returns-6)
+    (tie.spec returns returns-2 (λ c κs. search needs) returns-3 (λ c κs. search needs) (λ c. search needs) (λ c. search needs) returns-4 returns-5 returns-6)

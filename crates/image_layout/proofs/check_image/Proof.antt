@@ -25,17 +25,11 @@ returns : tie.Need-returns
 returns c = let a = c .before .args in
     sym (checked-rejected _ _ _ _ _ 1 (refused-1 (a .footprint) (a .width) (a .height) (a .bytes) (a .places) (c .if1 .taken)) (λ e. omega arith))
 
-bad-side-requires : tie.Need-bad-side-requires
-bad-side-requires c κs = search needs
-
 returns-2 : tie.Need-returns-2
 returns-2 c = let a = c .before .before .before .args in
     let f = c .before .before .if1 .left in
     let w = sym (c .before .bad-side .ensures) ∙ c .if2 .taken in
     sym (checked-rejected _ _ _ _ _ 3 (refused-3w (a .footprint) (a .width) (a .height) (a .bytes) (a .places) f w) (λ e. omega arith))
-
-bad-side-requires-2 : tie.Need-bad-side-requires-2
-bad-side-requires-2 c κs = search needs
 
 returns-3 : tie.Need-returns-3
 returns-3 c = let a = c .before .before .before .before .before .args in
@@ -76,9 +70,9 @@ check-image-spec =
     tie.close
     (tie.spec
     returns
-    bad-side-requires
+    (λ c κs. search needs)
     returns-2
-    bad-side-requires-2
+    (λ c κs. search needs)
     returns-3
     grid-of-requires
     mul-if4

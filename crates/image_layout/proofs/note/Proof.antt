@@ -13,13 +13,10 @@ unfolding noted
 returns-2 c = let a = c .before .before .before .args in
     rw (ne-eqb (a .e) 0 (c .before .before .if1 .left), eq-eqb (a .t .count) 0 (c .if2 .taken))
 
-add-t5 : tie.Need-add-t5
-add-t5 c = search needs
-
 returns-3 : tie.Need-returns-3
 unfolding noted
 returns-3 c = let a = c .before .before .before .before .args in
     rw (ne-eqb (a .e) 0 (c .before .before .before .if1 .left), ne-eqb (a .t .count) 0 (c .before .if2 .left))
 
 pub note-spec : {M : Type 1} → statement M
-note-spec = tie.close (tie.spec returns returns-2 add-t5 returns-3)
+note-spec = tie.close (tie.spec returns returns-2 (λ c. search needs) returns-3)

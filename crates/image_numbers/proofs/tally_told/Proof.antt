@@ -2,12 +2,6 @@ use borrow.Author.Needs.{needs}
 use Rattle.image_numbers.proofs.tally_told.Statement.{statement}
 use Rattle.image_numbers.proofs.tally_told.Tie as tie
 
-enum-told : tie.Need-enum-told
-enum-told c = search needs
-
-enum-known-a : tie.Need-enum-known-a
-enum-known-a c = search needs
-
 returns : tie.Need-returns
 returns c = rw (c .enum-told .given .1)
 
@@ -15,4 +9,4 @@ returns-2 : tie.Need-returns-2
 returns-2 c = rw (c .before .a .given .1)
 
 pub tally-told-spec : {M : Type 1} → statement M
-tally-told-spec = tie.close (tie.spec enum-told enum-known-a returns returns-2)
+tally-told-spec = tie.close (tie.spec (λ c. search needs) (λ c. search needs) returns returns-2)

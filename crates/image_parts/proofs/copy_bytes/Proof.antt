@@ -17,29 +17,8 @@ abbrev μ-loop : tie.MeasureT-loop
 loop-holds : tie.Need-loop-holds Inv-loop μ-loop
 loop-holds c = (omega arith, refl, pasted-none _ _ _ _ _)
 
-add-top-byte : tie.Need-add-top-byte Inv-loop μ-loop
-add-top-byte c = omega arith
-
-mul-top-byte : tie.Need-mul-top-byte Inv-loop μ-loop
-mul-top-byte c = omega arith
-
-element-copy-out-top-byte : tie.Need-element-copy-out-top-byte Inv-loop μ-loop
-element-copy-out-top-byte c = omega arith
-
 top-byte-requires : tie.Need-top-byte-requires Inv-loop μ-loop
 top-byte-requires c κs = tt
-
-add-out : tie.Need-add-out Inv-loop μ-loop
-add-out c = omega arith
-
-slice-write-out : tie.Need-slice-write-out Inv-loop μ-loop
-slice-write-out c = omega arith
-
-add-i : tie.Need-add-i Inv-loop μ-loop
-add-i c = omega arith
-
-loop-less : tie.Need-loop-less Inv-loop μ-loop
-loop-less c = omega arith
 
 loop-again : tie.Need-loop-again Inv-loop μ-loop
 loop-again c = let l = c .before .before .before .loop in
@@ -58,14 +37,14 @@ copy-bytes-spec =
     Inv-loop
     μ-loop
     loop-holds
-    add-top-byte
-    mul-top-byte
-    element-copy-out-top-byte
+    (λ c. omega arith)
+    (λ c. omega arith)
+    (λ c. omega arith)
     top-byte-requires
-    add-out
-    slice-write-out
-    add-i
-    loop-less
+    (λ c. omega arith)
+    (λ c. omega arith)
+    (λ c. omega arith)
+    (λ c. omega arith)
     loop-again
     same-length
     returns)

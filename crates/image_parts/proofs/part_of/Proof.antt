@@ -8,14 +8,8 @@ use Rattle.image_parts.proofs.part_of.Tie as tie
 facts : (c : tie.Start) → Begins (c .args .g) (c .args .b)
 facts c = begins (c .args .g) (c .args .b) (c .pre .0) (c .pre .1)
 
-rem-x : tie.Need-rem-x
-rem-x c = search needs
-
 mul-x : tie.Need-mul-x
 mul-x c = let f = facts (c .before .before) in omega (arith, f .x)
-
-div-y : tie.Need-div-y
-div-y c = search needs
 
 mul-y : tie.Need-mul-y
 mul-y c = let f = facts (c .before .before .before .before) in omega (arith, f .y)
@@ -26,8 +20,5 @@ crop-requires c κs = let f = facts (c .before .before .before .before) in f .x
 crop-requires-2 : tie.Need-crop-requires-2
 crop-requires-2 c κs = let f = facts (c .before .before .before .before .before) in f .y
 
-returns : tie.Need-returns
-returns c = search needs
-
 pub part-of-spec : {M : Type 1} → statement M
-part-of-spec = tie.close (tie.spec rem-x mul-x div-y mul-y crop-requires crop-requires-2 returns)
+part-of-spec = tie.close (tie.spec (λ c. search needs) mul-x (λ c. search needs) mul-y crop-requires crop-requires-2 (λ c. search needs))

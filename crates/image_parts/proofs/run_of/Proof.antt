@@ -13,9 +13,6 @@ mul-t9 c = omega (arith, facts c)
 mul-t10 : tie.Need-mul-t10
 mul-t10 c = omega (arith, facts c)
 
-add-t11 : tie.Need-add-t11
-add-t11 c = search needs
-
 mul-t12 : tie.Need-mul-t12
 mul-t12 c = omega (arith, facts c)
 
@@ -25,11 +22,5 @@ add-t13 c = omega (arith, facts c)
 mul-t14 : tie.Need-mul-t14
 mul-t14 c = omega (arith, facts c)
 
-mul-t15 : tie.Need-mul-t15
-mul-t15 c = search needs
-
-returns : tie.Need-returns
-returns c = search needs
-
 pub run-of-spec : {M : Type 1} → statement M
-run-of-spec = tie.close (tie.spec mul-t9 mul-t10 add-t11 mul-t12 add-t13 mul-t14 mul-t15 returns)
+run-of-spec = tie.close (tie.spec mul-t9 mul-t10 (λ c. search needs) mul-t12 add-t13 mul-t14 (λ c. search needs) (λ c. search needs))

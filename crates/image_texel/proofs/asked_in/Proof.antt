@@ -16,26 +16,14 @@ facts c =
     let a = s .args in
     bounded (a .footprint) (a .width) (a .height) (length (now (a .blocks))) (s .pre .0) (a .x) (a .y) (s .pre .1 .0) (s .pre .1 .1) (c .before .before .width .ensures) (c .before .height .ensures) (c .blocks-across .ensures .0)
 
-width-requires : tie.Need-width-requires
-width-requires c κs = search needs
-
-height-requires : tie.Need-height-requires
-height-requires c κs = search needs
-
 blocks-across-requires : tie.Need-blocks-across-requires
 blocks-across-requires c κs = let s = c .before .before .before in let a = s .args in wide-fine (a .footprint) (a .width) (a .height) (length (now (a .blocks))) (s .pre .0) (c .before .width .ensures)
-
-cast-b : tie.Need-cast-b
-cast-b c = search needs
 
 div-b : tie.Need-div-b
 div-b c = let f = facts c in omega (arith, f .small, f .column, f .row)
 
 mul-b : tie.Need-mul-b
 mul-b c = let f = facts c in omega (arith, f .small, f .column, f .row)
-
-cast-b-2 : tie.Need-cast-b-2
-cast-b-2 c = search needs
 
 div-b-2 : tie.Need-div-b-2
 div-b-2 c = let f = facts c in omega (arith, f .small, f .column, f .row)
@@ -49,17 +37,11 @@ cast-block-of c = let f = facts c in omega (arith, f .small, f .column, f .row)
 block-of-requires : tie.Need-block-of-requires
 block-of-requires c κs = facts c .room
 
-cast-texel-of : tie.Need-cast-texel-of
-cast-texel-of c = search needs
-
 rem-texel-of : tie.Need-rem-texel-of
 rem-texel-of c = let f = facts (c .before) in omega (arith, f .column, f .row, f .columns-most, f .rows-most)
 
 cast-texel-of-2 : tie.Need-cast-texel-of-2
 cast-texel-of-2 c = let f = facts (c .before) in omega (arith, f .column, f .row, f .columns-most, f .rows-most)
-
-cast-texel-of-3 : tie.Need-cast-texel-of-3
-cast-texel-of-3 c = search needs
 
 rem-texel-of-2 : tie.Need-rem-texel-of-2
 rem-texel-of-2 c = let f = facts (c .before) in omega (arith, f .column, f .row, f .columns-most, f .rows-most)
@@ -74,9 +56,6 @@ texel-of-requires c κs =
     let s = h .before .before .before in
     let a = s .args in
     (flat-blocks (a .footprint) (a .width) (a .height) (length (now (a .blocks))) (s .pre .0), (omega (arith, f .column, h .before .width .ensures), omega (arith, f .row, h .height .ensures)))
-
-shown-requires : tie.Need-shown-requires
-shown-requires c κs = search needs
 
 returns : tie.Need-returns
 returns c =
@@ -95,23 +74,23 @@ pub asked-in-spec : {M : Type 1} → statement M
 asked-in-spec =
     tie.close
     (tie.spec
-    width-requires
-    height-requires
+    (λ c κs. search needs)
+    (λ c κs. search needs)
     blocks-across-requires
-    cast-b
+    (λ c. search needs)
     div-b
     mul-b
-    cast-b-2
+    (λ c. search needs)
     div-b-2
     add-b
     cast-block-of
     block-of-requires
-    cast-texel-of
+    (λ c. search needs)
     rem-texel-of
     cast-texel-of-2
-    cast-texel-of-3
+    (λ c. search needs)
     rem-texel-of-2
     cast-texel-of-4
     texel-of-requires
-    shown-requires
+    (λ c κs. search needs)
     returns)

@@ -7,23 +7,8 @@ use borrow.Author.Needs.{needs}
 use Rattle.integer_sequence.proofs.read_sequence.Statement.{statement}
 use Rattle.integer_sequence.proofs.read_sequence.Tie as tie
 
-encoding-at-requires : tie.Need-encoding-at-requires
-encoding-at-requires c κs = search needs
-
-bits-at-requires : tie.Need-bits-at-requires
-bits-at-requires c κs = search needs
-
-sequence-bits-requires : tie.Need-sequence-bits-requires
-sequence-bits-requires c κs = search needs
-
 cast-w : tie.Need-cast-w
 cast-w c = omega (arith, c .sequence-bits .ensures, bits-small (c .before .before .encoding-at .result) (c .before .bits-at .result) (c .before .before .before .args .n) (omega arith) (omega arith))
-
-part-requires : tie.Need-part-requires
-part-requires c κs = search needs
-
-at-most-64-requires : tie.Need-at-most-64-requires
-at-most-64-requires c κs = search needs
 
 read-requires : tie.Need-read-requires
 read-requires c κs =
@@ -40,11 +25,11 @@ pub read-sequence-spec : {M : Type 1} → statement M
 read-sequence-spec =
     tie.close
     (tie.spec
-    encoding-at-requires
-    bits-at-requires
-    sequence-bits-requires
+    (λ c κs. search needs)
+    (λ c κs. search needs)
+    (λ c κs. search needs)
     cast-w
-    part-requires
-    at-most-64-requires
+    (λ c κs. search needs)
+    (λ c κs. search needs)
     read-requires
     returns)

@@ -6,24 +6,6 @@ use borrow.Author.Needs.{needs}
 use Rattle.interpolation.proofs.on_line.Statement.{statement}
 use Rattle.interpolation.proofs.on_line.Tie as tie
 
-times-requires : tie.Need-times-requires
-times-requires c κs = search needs
-
-wrapping-add-u16-requires : tie.Need-wrapping-add-u16-requires
-wrapping-add-u16-requires c κs = search needs
-
-times-requires-2 : tie.Need-times-requires-2
-times-requires-2 c κs = search needs
-
-times-requires-3 : tie.Need-times-requires-3
-times-requires-3 c κs = search needs
-
-wrapping-add-u16-requires-2 : tie.Need-wrapping-add-u16-requires-2
-wrapping-add-u16-requires-2 c κs = search needs
-
-wrapping-add-u16-requires-3 : tie.Need-wrapping-add-u16-requires-3
-wrapping-add-u16-requires-3 c κs = search needs
-
 -- the steps, with the definitions of each step shut
 steps : (start step k add i far t four low sum r : ℕ) → far ≡ times step i → t ≡ plus start far → four ≡ times t 4 → low ≡ times t k → sum ≡ plus low add
     → r ≡ plus four (sum / 64) → r ≡ onLine start step k add i
@@ -43,10 +25,10 @@ pub on-line-spec : {M : Type 1} → statement M
 on-line-spec =
     tie.close
     (tie.spec
-    times-requires
-    wrapping-add-u16-requires
-    times-requires-2
-    times-requires-3
-    wrapping-add-u16-requires-2
-    wrapping-add-u16-requires-3
+    (λ c κs. search needs)
+    (λ c κs. search needs)
+    (λ c κs. search needs)
+    (λ c κs. search needs)
+    (λ c κs. search needs)
+    (λ c κs. search needs)
     returns)

@@ -12,11 +12,8 @@ back : (a b r : ℕ) → r < 2 ^ 16 → b ≤ 255 → (r + b) % 2 ^ 16 ≡ a →
 unfolding minus
 back a b r hr hb e = omega arith
 
-wrapping-sub-u16-requires : tie.Need-wrapping-sub-u16-requires
-wrapping-sub-u16-requires c κs = search needs
-
 returns : tie.Need-returns
 returns c = back _ _ _ (c .wrapping-sub-u16 .ok) (omega arith) (c .wrapping-sub-u16 .ensures)
 
 pub slope-spec : {M : Type 1} → statement M
-slope-spec = tie.close (tie.spec wrapping-sub-u16-requires returns)
+slope-spec = tie.close (tie.spec (λ c κs. search needs) returns)

@@ -13,12 +13,9 @@ mul-result c =
     let h : c .args .a * c .args .b ≤ 65535 * 65535 = mul-le-mul {n₂ = 65535} {m₂ = 65535} (omega arith) (omega arith) in
     omega arith
 
-cast-result : tie.Need-cast-result
-cast-result c = search needs
-
 returns : tie.Need-returns
 unfolding times
 returns c = refl
 
 pub times-spec : {M : Type 1} → statement M
-times-spec = tie.close (tie.spec mul-result cast-result returns)
+times-spec = tie.close (tie.spec mul-result (λ c. search needs) returns)

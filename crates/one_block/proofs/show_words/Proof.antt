@@ -22,20 +22,11 @@ returns c =
 none : (c : tie.Else1) → blockRefusal (c .before .before .before .args .fp) (length (now (c .before .before .before .args .block))) (length (now (c .before .before .before .args .out))) ≡ 0
 none c = sym (c .before .before .before .pre .0) ∙ c .if1 .left
 
-load-requires : tie.Need-load-requires
-load-requires c κs = search needs
-
 decode-in-requires : tie.Need-decode-in-requires
 decode-in-requires c κs = (not-refused _ _ _ (none (c .before .before .before)) .known, c .before .is-volume .ensures)
 
 copy-words-requires : tie.Need-copy-words-requires
 copy-words-requires c κs = fits-in _ _ _ (none (c .before .before .before .before .before .before))
-
-answer-for-requires : tie.Need-answer-for-requires
-answer-for-requires c κs = search needs
-
-same-length : tie.Need-same-length
-same-length c = search needs
 
 returns-2 : tie.Need-returns-2
 returns-2 c =
@@ -56,10 +47,10 @@ show-words-spec =
     tie.close
     (tie.spec
     returns
-    load-requires
+    (λ c κs. search needs)
     (λ c κs. search needs)
     decode-in-requires
     copy-words-requires
-    answer-for-requires
-    same-length
+    (λ c κs. search needs)
+    (λ c. search needs)
     returns-2)

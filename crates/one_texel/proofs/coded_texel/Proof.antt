@@ -14,24 +14,6 @@ column c = c .grid-place .ensures ∙ rw (c .before .before .before .scale .ensu
 row : (c : tie.After-grid-place2) → let s = c .before .before .before .before .before .before .before .before in c .grid-place2 .result ≡ gridPlace (scaleOf (heightOf (s .args .fp))) (s .args .y) (s .args .s .header .grid .height)
 row c = c .grid-place2 .ensures ∙ rw (c .before .before .scale2 .ensures, c .before .before .before .height .ensures)
 
-width-requires : tie.Need-width-requires
-width-requires c κs = search needs
-
-scale-requires : tie.Need-scale-requires
-scale-requires c κs = search needs
-
-height-requires : tie.Need-height-requires
-height-requires c κs = search needs
-
-scale-requires-2 : tie.Need-scale-requires-2
-scale-requires-2 c κs = search needs
-
-grid-place-requires : tie.Need-grid-place-requires
-grid-place-requires c κs = search needs
-
-grid-place-requires-2 : tie.Need-grid-place-requires-2
-grid-place-requires-2 c κs = search needs
-
 weights-at-requires : tie.Need-weights-at-requires
 weights-at-requires c κs =
     let s = c .before .before .before .before .before .before .before .before in
@@ -41,15 +23,6 @@ weights-at-requires c κs =
     let n = s .pre .0 .0 in
     let inside = s .pre .1 .1 .1 .1 .1 in
     ((l, n), (column-in (a .fp) h l n (a .x) (a .y) (inside .0) (inside .1) (column (c .before)), row-in (a .fp) h l n (a .x) (a .y) (inside .0) (inside .1) (row c)))
-
-is-small-requires : tie.Need-is-small-requires
-is-small-requires c κs = search needs
-
-partition-of-requires : tie.Need-partition-of-requires
-partition-of-requires c κs = search needs
-
-cast-partition-texel : tie.Need-cast-partition-texel
-cast-partition-texel c = search needs
 
 partition-texel-requires : tie.Need-partition-texel-requires
 partition-texel-requires c κs =
@@ -62,9 +35,6 @@ partition-texel-requires c κs =
       (s .pre .1 .0 .0, rw (s .pre .1 .0 .0) (s .pre .0 .1), s .pre .1 .0 .1),
       (one-of-them h (m .is-small .result) (a .x) (a .y) e (s .pre .1 .1 .1 .1 .0), one-of-four h (m .is-small .result) (a .x) (a .y) e),
     )
-
-second-component-requires : tie.Need-second-component-requires
-second-component-requires c κs = search needs
 
 returns : tie.Need-returns
 returns c =
@@ -82,16 +52,16 @@ pub coded-texel-spec : {M : Type 1} → statement M
 coded-texel-spec =
     tie.close
     (tie.spec
-    width-requires
-    scale-requires
-    height-requires
-    scale-requires-2
-    grid-place-requires
-    grid-place-requires-2
+    (λ c κs. search needs)
+    (λ c κs. search needs)
+    (λ c κs. search needs)
+    (λ c κs. search needs)
+    (λ c κs. search needs)
+    (λ c κs. search needs)
     weights-at-requires
-    is-small-requires
-    partition-of-requires
-    second-component-requires
-    cast-partition-texel
+    (λ c κs. search needs)
+    (λ c κs. search needs)
+    (λ c κs. search needs)
+    (λ c. search needs)
     partition-texel-requires
     returns)

@@ -9,15 +9,9 @@ use Rattle.one_texel.proofs.partition_of.Tie as tie
 returns : tie.Need-returns
 returns c = rw (eq-eqb _ 1 (c .if1 .taken))
 
-partition-seeds-requires : tie.Need-partition-seeds-requires
-partition-seeds-requires c κs = search needs
-
-partition-at-requires : tie.Need-partition-at-requires
-partition-at-requires c κs = search needs
-
 returns-2 : tie.Need-returns-2
 returns-2 c = let i = c .before .before in let a = i .before .args in rw (ne-eqb _ 1 (i .if1 .left)) (c .partition-at .ensures .0 ∙ ap (λ (s : Seeds). selectBy s (a .x) (a .y)) (c .before .partition-seeds .ensures .0))
 
 pub partition-of-spec : {M : Type 1} → statement M
 partition-of-spec =
-    tie.close (tie.spec returns partition-seeds-requires partition-at-requires returns-2)
+    tie.close (tie.spec returns (λ c κs. search needs) (λ c κs. search needs) returns-2)

@@ -36,26 +36,8 @@ numbers-are : (c : tie.After-read-settings) → c .read-settings .result .verdic
     → (c .read-settings .result .numbers ≡ endpointCount (c .read-settings .result .header)) × (c .read-settings .result .range ≡ endpointRangeOf (c .read-settings .result .header))
 numbers-are c = rw (settings-are c) (coded-numbers (taken c) (c .before .before .args .fp) (number c))
 
-takes-hdr-requires : tie.Need-takes-hdr-requires
-takes-hdr-requires c κs = search needs
-
 read-settings-requires : tie.Need-read-settings-requires
 read-settings-requires c κs = sym (flat _ (c .before .pre .0))
-
-enum-known-v : tie.Need-enum-known-v
-enum-known-v c = search needs
-
-error-texel-requires : tie.Need-error-texel-requires
-error-texel-requires c κs = search needs
-
-enum-told : tie.Need-enum-told
-enum-told c = search needs
-
-colours-requires : tie.Need-colours-requires
-colours-requires c κs = search needs
-
-enum-told-2 : tie.Need-enum-told-2
-enum-told-2 c = search needs
 
 coded-texel-requires : tie.Need-coded-texel-requires
 coded-texel-requires c κs =
@@ -99,13 +81,13 @@ pub texel-of-spec : {M : Type 1} → statement M
 texel-of-spec =
     tie.close
     (tie.spec
-    takes-hdr-requires
+    (λ c κs. search needs)
     read-settings-requires
-    enum-known-v
-    error-texel-requires
-    enum-told
-    colours-requires
-    enum-told-2
+    (λ c. search needs)
+    (λ c κs. search needs)
+    (λ c. search needs)
+    (λ c κs. search needs)
+    (λ c. search needs)
     coded-texel-requires
     returns
     returns-2

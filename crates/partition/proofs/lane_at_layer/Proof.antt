@@ -8,9 +8,6 @@ returns : tie.Need-returns
 unfolding laneAtLayer
 returns c = rw (c .if1 .taken)
 
-offset-at-requires : tie.Need-offset-at-requires
-offset-at-requires c κs = search needs
-
 returns-2 : tie.Need-returns-2
 unfolding laneAtLayer
 returns-2 c = rw (c .before .if1 .left, c .offset-at .ensures)
@@ -20,5 +17,5 @@ lane-at-layer-spec =
     tie.close
     (tie.spec
     returns
-    offset-at-requires
+    (λ c κs. search needs)
     returns-2)

@@ -24,9 +24,6 @@ parts : (index count : ℕ) (small : Bool) (z : ℕ) {r s : Seeds} {h s₃ zz : 
 unfolding layerOf
 parts index count small z e s h p q = rw (e, s, h, p, q)
 
-partition-seeds-requires : tie.Need-partition-seeds-requires
-partition-seeds-requires c κs = search needs
-
 -- by them the printed pattern at that z
 both : (index count : ℕ) (small : Bool) (z : ℕ) {r : Seeds} → r ≡ layerOf index count small z
     → (r ≡ layerOf index count small z) × ((x y : ℕ) → selectBy r x y ≡ partitionOf index count small x y z)
@@ -35,27 +32,6 @@ both index count small z e = (e, λ x y. ap (λ (s : Seeds). selectBy s x y) e �
 returns : tie.Need-returns
 returns c = both _ _ _ _ (c .before .partition-seeds .ensures .0 ∙ sym (one _ _ _ _ (c .if1 .taken)))
 
-sub-seed : tie.Need-sub-seed
-sub-seed c = search needs
-
-mul-seed : tie.Need-mul-seed
-mul-seed c = search needs
-
-add-seed : tie.Need-add-seed
-add-seed c = search needs
-
-doubled-seed-requires : tie.Need-doubled-seed-requires
-doubled-seed-requires c κs = search needs
-
-hash52-requires : tie.Need-hash52-requires
-hash52-requires c κs = search needs
-
-third-shift-requires : tie.Need-third-shift-requires
-third-shift-requires c κs = search needs
-
-layer-from-requires : tie.Need-layer-from-requires
-layer-from-requires c κs = search needs
-
 returns-2 : tie.Need-returns-2
 returns-2 c = both _ _ _ _ (parts _ _ _ _ (c .layer-from .ensures) (c .before .before .before .before .before .partition-seeds .ensures .0) (c .before .before .hash52 .ensures) (c .before .third-shift .ensures .0) (c .before .before .before .doubled-seed .ensures))
 
@@ -63,13 +39,13 @@ pub layer-seeds-spec : {M : Type 1} → statement M
 layer-seeds-spec =
     tie.close
     (tie.spec
-    partition-seeds-requires
+    (λ c κs. search needs)
     returns
-    sub-seed
-    mul-seed
-    add-seed
-    doubled-seed-requires
-    hash52-requires
-    third-shift-requires
-    layer-from-requires
+    (λ c. search needs)
+    (λ c. search needs)
+    (λ c. search needs)
+    (λ c κs. search needs)
+    (λ c κs. search needs)
+    (λ c κs. search needs)
+    (λ c κs. search needs)
     returns-2)

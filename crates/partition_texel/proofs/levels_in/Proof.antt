@@ -21,23 +21,8 @@ loop-holds : tie.Need-loop-holds Inv-loop μ-loop
 unfolding tab
 loop-holds c = (omega arith, so-far-start 18 _ _ _ refl)
 
-stored-in-requires : tie.Need-stored-in-requires Inv-loop μ-loop
-stored-in-requires c κs = omega arith
-
 level-by-requires : tie.Need-level-by-requires Inv-loop μ-loop
 level-by-requires c κs = tt
-
-cast-out : tie.Need-cast-out Inv-loop μ-loop
-cast-out c = omega arith
-
-array-set-from-out : tie.Need-array-set-from-out Inv-loop μ-loop
-array-set-from-out c = omega arith
-
-add-k : tie.Need-add-k Inv-loop μ-loop
-add-k c = omega arith
-
-loop-less : tie.Need-loop-less Inv-loop μ-loop
-loop-less c = omega arith
 
 loop-again : tie.Need-loop-again Inv-loop μ-loop
 loop-again c = let l = c .before .before .before .loop in (omega arith, so-far-next 18 _ _ (l .out) _ (omega arith) (byte-here _ _ (omega arith) (c .before .stored-in .ensures)) (c .level-by .ensures .1) (c .level-by .ensures .0) (l .inv .1))
@@ -53,11 +38,11 @@ levels-in-spec =
     μ-loop
     endpoint-rule-requires
     loop-holds
-    stored-in-requires
+    (λ c κs. omega arith)
     level-by-requires
-    cast-out
-    array-set-from-out
-    add-k
-    loop-less
+    (λ c. omega arith)
+    (λ c. omega arith)
+    (λ c. omega arith)
+    (λ c. omega arith)
     loop-again
     returns)

@@ -4,20 +4,8 @@ use borrow.Author.Needs.{needs}
 use Rattle.partition_texel.proofs.own_levels.Statement.{statement}
 use Rattle.partition_texel.proofs.own_levels.Tie as tie
 
-range-bits-requires : tie.Need-range-bits-requires
-range-bits-requires c κs = search needs
-
 cast-w : tie.Need-cast-w
 cast-w c = omega (arith, c .range-bits .ensures, range-small (c .before .args .range) (c .before .args .n) (omega arith))
-
-part-requires : tie.Need-part-requires
-part-requires c κs = search needs
-
-numbers-from-requires : tie.Need-numbers-from-requires
-numbers-from-requires c κs = search needs
-
-levels-in-requires : tie.Need-levels-in-requires
-levels-in-requires c κs = search needs
 
 returns : tie.Need-returns
 returns c =
@@ -30,9 +18,9 @@ pub own-levels-spec : {M : Type 1} → statement M
 own-levels-spec =
     tie.close
     (tie.spec
-    range-bits-requires
+    (λ c κs. search needs)
     cast-w
-    part-requires
-    numbers-from-requires
-    levels-in-requires
+    (λ c κs. search needs)
+    (λ c κs. search needs)
+    (λ c κs. search needs)
     returns)

@@ -10,30 +10,6 @@ use borrow.Author.Needs.{needs}
 use Rattle.partition_texel.proofs.own_texel.Statement.{statement}
 use Rattle.partition_texel.proofs.own_texel.Tie as tie
 
-endpoint-table-requires : tie.Need-endpoint-table-requires
-endpoint-table-requires c κs = search needs
-
-takes-hdr-requires : tie.Need-takes-hdr-requires
-takes-hdr-requires c κs = search needs
-
-half-table-requires : tie.Need-half-table-requires
-half-table-requires c κs = search needs
-
-array-copy-out-half-line : tie.Need-array-copy-out-half-line
-array-copy-out-half-line c = search needs
-
-half-line-requires : tie.Need-half-line-requires
-half-line-requires c κs = search needs
-
-mix-half-requires : tie.Need-mix-half-requires
-mix-half-requires c κs = search needs
-
-array-copy-out-pair-texel : tie.Need-array-copy-out-pair-texel
-array-copy-out-pair-texel c = search needs
-
-pair-texel-requires : tie.Need-pair-texel-requires
-pair-texel-requires c κs = search needs
-
 returns : tie.Need-returns
 returns c =
     let q = c .before .before .before in
@@ -54,13 +30,13 @@ pub own-texel-spec : {M : Type 1} → statement M
 own-texel-spec =
     tie.close
     (tie.spec
-    endpoint-table-requires
-    takes-hdr-requires
-    half-table-requires
-    array-copy-out-half-line
-    half-line-requires
-    mix-half-requires
-    array-copy-out-pair-texel
-    pair-texel-requires
+    (λ c κs. search needs)
+    (λ c κs. search needs)
+    (λ c κs. search needs)
+    (λ c. search needs)
+    (λ c κs. search needs)
+    (λ c κs. search needs)
+    (λ c. search needs)
+    (λ c κs. search needs)
     returns
     returns-2)

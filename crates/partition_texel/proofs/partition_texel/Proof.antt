@@ -14,26 +14,11 @@ use Rattle.partition_texel.proofs.partition_texel.Tie as tie
 room : (s : tie.Start) → endpointCount (s .args .h) ≤ 18
 room s = rw (← s .pre .0 .0) (s .pre .0 .1)
 
-array-read-mode : tie.Need-array-read-mode
-array-read-mode c = search needs
-
-start-of-requires : tie.Need-start-of-requires
-start-of-requires c κs = search needs
-
-own-count-requires : tie.Need-own-count-requires
-own-count-requires c κs = search needs
-
-endpoints-from-requires : tie.Need-endpoints-from-requires
-endpoints-from-requires c κs = search needs
-
 own-levels-requires : tie.Need-own-levels-requires
 own-levels-requires c κs =
     let q = c .before .before in
     let s = q .before .before in
     (omega (arith, q .start-of .ensures, start-le (blockNumber (s .args .block)) (s .args .h) (s .args .p) (s .pre .1 .0) (s .pre .1 .1) (room s)), omega (arith, c .before .own-count .ensures))
-
-own-texel-requires : tie.Need-own-texel-requires
-own-texel-requires c κs = search needs
 
 returns : tie.Need-returns
 returns c =
@@ -50,10 +35,10 @@ pub partition-texel-spec : {M : Type 1} → statement M
 partition-texel-spec =
     tie.close
     (tie.spec
-    array-read-mode
-    start-of-requires
-    own-count-requires
-    endpoints-from-requires
+    (λ c. search needs)
+    (λ c κs. search needs)
+    (λ c κs. search needs)
+    (λ c κs. search needs)
     own-levels-requires
-    own-texel-requires
+    (λ c κs. search needs)
     returns)

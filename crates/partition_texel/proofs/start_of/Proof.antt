@@ -16,20 +16,8 @@ loop-holds : tie.Need-loop-holds Inv-loop μ-loop
 unfolding startOf
 loop-holds c = (omega arith, c .pre, omega arith, refl)
 
-array-read-number-count : tie.Need-array-read-number-count Inv-loop μ-loop
-array-read-number-count c = omega arith
-
 number-count-requires : tie.Need-number-count-requires Inv-loop μ-loop
 number-count-requires c κs = tt
-
-add-start : tie.Need-add-start Inv-loop μ-loop
-add-start c = omega arith
-
-add-i : tie.Need-add-i Inv-loop μ-loop
-add-i c = omega arith
-
-loop-less : tie.Need-loop-less Inv-loop μ-loop
-loop-less c = omega arith
 
 loop-again : tie.Need-loop-again Inv-loop μ-loop
 loop-again c = let l = c .before .before .loop in (omega arith, l .inv .1, omega arith, rw (c .number-count .ensures .0, l .inv .3) (start-next _ (l .i)))
@@ -44,10 +32,10 @@ start-of-spec =
     Inv-loop
     μ-loop
     loop-holds
-    array-read-number-count
+    (λ c. omega arith)
     number-count-requires
-    add-start
-    add-i
-    loop-less
+    (λ c. omega arith)
+    (λ c. omega arith)
+    (λ c. omega arith)
     loop-again
     returns)

@@ -13,21 +13,6 @@ Inv-loop s xb yb out₀ first last top₀ bottom₀ line₀ y₀ y-end out top b
 abbrev μ-loop : tie.MeasureT-loop
 μ-loop s xb yb out₀ first last top₀ bottom₀ line₀ y₀ y-end out top bottom line y = y-end - y
 
-blank-requires : tie.Need-blank-requires Inv-loop μ-loop
-blank-requires c κs = search needs
-
-blank-requires-2 : tie.Need-blank-requires-2 Inv-loop μ-loop
-blank-requires-2 c κs = search needs
-
-blank-requires-3 : tie.Need-blank-requires-3 Inv-loop μ-loop
-blank-requires-3 c κs = search needs
-
-blank-requires-4 : tie.Need-blank-requires-4 Inv-loop μ-loop
-blank-requires-4 c κs = search needs
-
-blank-requires-5 : tie.Need-blank-requires-5 Inv-loop μ-loop
-blank-requires-5 c κs = search needs
-
 start-window-requires : tie.Need-start-window-requires Inv-loop μ-loop
 start-window-requires c κs =
     (c .before .before .before .before .before .before .before .before .before .before .before .pre .0, (c .before .before .before .before .before .before .before .before .blank .ensures, c .before .before .before .before .before .before .before .blank2 .ensures, c .before .before .before .before .before .before .blank3 .ensures, c .before .before .before .before .before .blank4 .ensures))
@@ -52,12 +37,6 @@ show-row-requires c κs =
     let h = below c in
     (p .0, ((h, l .inv .room), (rw (l .inv .size ∙ p .1) (row-inside _ _ _ h), (c .before .before .before .before .before .before .before .before .before .start-window .ensures .0, l .inv .window))))
 
-add-y : tie.Need-add-y Inv-loop μ-loop
-add-y c = omega arith
-
-loop-less : tie.Need-loop-less Inv-loop μ-loop
-loop-less c = omega arith
-
 loop-again : tie.Need-loop-again Inv-loop μ-loop
 loop-again c =
     let k = c .before .before .before in
@@ -79,18 +58,18 @@ show-rows-spec =
     (tie.spec
     Inv-loop
     μ-loop
-    blank-requires
-    blank-requires-2
-    blank-requires-3
-    blank-requires-4
-    blank-requires-5
+    (λ c κs. search needs)
+    (λ c κs. search needs)
+    (λ c κs. search needs)
+    (λ c κs. search needs)
+    (λ c κs. search needs)
     start-window-requires
     words-along-requires
     mul-y-end
     loop-holds
     show-row-requires
-    add-y
-    loop-less
+    (λ c. omega arith)
+    (λ c. omega arith)
     loop-again
     same-length
     returns)

@@ -7,18 +7,6 @@ use borrow.Author.Needs.{needs}
 use Rattle.pvrtc_rows.proofs.fetch_row.Statement.{statement}
 use Rattle.pvrtc_rows.proofs.fetch_row.Tie as tie
 
-words-along-requires : tie.Need-words-along-requires
-words-along-requires c κs = search needs
-
-add-numbers : tie.Need-add-numbers
-add-numbers c = search needs
-
-mul-numbers : tie.Need-mul-numbers
-mul-numbers c = search needs
-
-copy-row-requires : tie.Need-copy-row-requires
-copy-row-requires c κs = search needs
-
 returns : tie.Need-returns
 returns c =
     let k = c .before .before .before in
@@ -26,12 +14,6 @@ returns c =
 
 add-if2 : tie.Need-add-if2
 add-if2 c = omega (arith, side-lt _ _ (c .before .before .before .pre .0 .high) (c .before .before .before .pre .1 .0 .0))
-
-words-along-requires-2 : tie.Need-words-along-requires-2
-words-along-requires-2 c κs = search needs
-
-copy-row-requires-2 : tie.Need-copy-row-requires-2
-copy-row-requires-2 c κs = search needs
 
 returns-2 : tie.Need-returns-2
 returns-2 c =
@@ -41,24 +23,18 @@ returns-2 c =
     let e : 2 ^ st .args .yb - 1 ≡ st .args .y = omega (arith, t .if2 .taken, t .before .words-along2 .ensures .0) in
     row-taken _ _ _ _ _ _ _ _ (k .words-along .ensures .0) e (st .pre .1 .1 .at-last) (c .copy-row2 .ensures .0) (c .copy-row2 .ensures .1)
 
-unpack-row-requires : tie.Need-unpack-row-requires
-unpack-row-requires c κs = search needs
-
-returns-3 : tie.Need-returns-3
-returns-3 c = search needs
-
 pub fetch-row-spec : {M : Type 1} → statement M
 fetch-row-spec =
     tie.close
     (tie.spec
-    words-along-requires
-    add-numbers
-    mul-numbers
-    copy-row-requires
+    (λ c κs. search needs)
+    (λ c. search needs)
+    (λ c. search needs)
+    (λ c κs. search needs)
     returns
     add-if2
-    words-along-requires-2
-    copy-row-requires-2
+    (λ c κs. search needs)
+    (λ c κs. search needs)
     returns-2
-    unpack-row-requires
-    returns-3)
+    (λ c κs. search needs)
+    (λ c. search needs))

@@ -6,26 +6,8 @@ use borrow.Author.Needs.{needs}
 use Rattle.pvrtc_rows.proofs.start_window.Statement.{statement}
 use Rattle.pvrtc_rows.proofs.start_window.Tie as tie
 
-words-along-requires : tie.Need-words-along-requires
-words-along-requires c κs = search needs
-
-add-numbers : tie.Need-add-numbers
-add-numbers c = search needs
-
-mul-numbers : tie.Need-mul-numbers
-mul-numbers c = search needs
-
 unpack-row-requires : tie.Need-unpack-row-requires
 unpack-row-requires c κs = let st = c .before .before .before in (st .pre .0, (pow-pos _, st .pre .1 .0))
-
-unpack-last-requires : tie.Need-unpack-last-requires
-unpack-last-requires c κs = search needs
-
-copy-row-requires : tie.Need-copy-row-requires
-copy-row-requires c κs = search needs
-
-copy-row-requires-2 : tie.Need-copy-row-requires-2
-copy-row-requires-2 c κs = search needs
 
 returns : tie.Need-returns
 returns c =
@@ -39,11 +21,11 @@ pub start-window-spec : {M : Type 1} → statement M
 start-window-spec =
     tie.close
     (tie.spec
-    words-along-requires
-    add-numbers
-    mul-numbers
+    (λ c κs. search needs)
+    (λ c. search needs)
+    (λ c. search needs)
     unpack-row-requires
-    unpack-last-requires
-    copy-row-requires
-    copy-row-requires-2
+    (λ c κs. search needs)
+    (λ c κs. search needs)
+    (λ c κs. search needs)
     returns)

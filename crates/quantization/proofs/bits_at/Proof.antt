@@ -17,33 +17,6 @@ told x y k = pick (ltb k 16) (x / 2 ^ (4 * (k % 16)) % 16) (y / 2 ^ (4 * (k % 16
 packed : (x y : ℕ) → tab (told x y) 22 ≡ tab bitsAt 22 → (k : ℕ) → told x y (min k 21) ≡ bitsAt k
 packed x y e k = same-below (told x y) bitsAt 22 0 e (min k 21) (omega arith) ∙ bits-capped k
 
-place-of-requires : tie.Need-place-of-requires
-place-of-requires c κs = search needs
-
-mul-from : tie.Need-mul-from
-mul-from c = search needs
-
-cast-low : tie.Need-cast-low
-cast-low c = search needs
-
-shr-low : tie.Need-shr-low
-shr-low c = search needs
-
-cast-low-2 : tie.Need-cast-low-2
-cast-low-2 c = search needs
-
-cast-high : tie.Need-cast-high
-cast-high c = search needs
-
-shr-high : tie.Need-shr-high
-shr-high c = search needs
-
-cast-high-2 : tie.Need-cast-high-2
-cast-high-2 c = search needs
-
-chosen-requires : tie.Need-chosen-requires
-chosen-requires c κs = search needs
-
 returns : tie.Need-returns
 unfolding tab bitsAt
 returns c = rw (c .chosen .ensures, c .before .place-of .ensures) (packed _ _ refl (c .before .before .args .range))
@@ -52,13 +25,13 @@ pub bits-at-spec : {M : Type 1} → statement M
 bits-at-spec =
     tie.close
     (tie.spec
-    place-of-requires
-    mul-from
-    cast-low
-    shr-low
-    cast-low-2
-    cast-high
-    shr-high
-    cast-high-2
-    chosen-requires
+    (λ c κs. search needs)
+    (λ c. search needs)
+    (λ c. search needs)
+    (λ c. search needs)
+    (λ c. search needs)
+    (λ c. search needs)
+    (λ c. search needs)
+    (λ c. search needs)
+    (λ c κs. search needs)
     returns)

@@ -19,21 +19,6 @@ told w k = pick (eqb (w / 2 ^ (2 * k) % 4) 0) Bits (pick (eqb (w / 2 ^ (2 * k) %
 packed : (w : ℕ) → tab (told w) 22 ≡ tab encodingAt 22 → (k : ℕ) → told w (min k 21) ≡ encodingAt k
 packed w e k = same-below (told w) encodingAt 22 Bits e (min k 21) (omega arith) ∙ encoding-capped k
 
-place-of-requires : tie.Need-place-of-requires
-place-of-requires c κs = search needs
-
-mul-encoding-told : tie.Need-mul-encoding-told
-mul-encoding-told c = search needs
-
-cast-encoding-told : tie.Need-cast-encoding-told
-cast-encoding-told c = search needs
-
-shr-encoding-told : tie.Need-shr-encoding-told
-shr-encoding-told c = search needs
-
-encoding-told-requires : tie.Need-encoding-told-requires
-encoding-told-requires c κs = search needs
-
 returns : tie.Need-returns
 unfolding tab encodingAt
 returns c = rw (c .encoding-told .ensures, c .before .place-of .ensures) (packed _ refl (c .before .before .args .range))
@@ -42,9 +27,9 @@ pub encoding-at-spec : {M : Type 1} → statement M
 encoding-at-spec =
     tie.close
     (tie.spec
-    place-of-requires
-    mul-encoding-told
-    cast-encoding-told
-    shr-encoding-told
-    encoding-told-requires
+    (λ c κs. search needs)
+    (λ c. search needs)
+    (λ c. search needs)
+    (λ c. search needs)
+    (λ c κs. search needs)
     returns)

@@ -14,12 +14,6 @@ Inv-loop count left most n trits quints codes i₀ i =
 abbrev μ-loop : tie.MeasureT-loop
 μ-loop count left most n trits quints codes i₀ i = i
 
-code-bits-requires : tie.Need-code-bits-requires Inv-loop μ-loop
-code-bits-requires c κs = search needs
-
-code-bits-requires-2 : tie.Need-code-bits-requires-2 Inv-loop μ-loop
-code-bits-requires-2 c κs = search needs
-
 loop-holds : tie.Need-loop-holds Inv-loop μ-loop
 unfolding endpointRange
 loop-holds c = (omega arith, refl)
@@ -58,8 +52,8 @@ endpoint-range-spec =
     (tie.spec
     Inv-loop
     μ-loop
-    code-bits-requires
-    code-bits-requires-2
+    (λ c κs. search needs)
+    (λ c κs. search needs)
     loop-holds
     total-at-requires
     add-result

@@ -10,18 +10,6 @@ use Rattle.quantization.proofs.most_at.Tie as tie
 product : (c : tie.After-bits-at) → c .before .radix-of .result * 2 ^ c .bits-at .result ≡ reach (c .before .before .before .args .range)
 product c = rw (c .bits-at .ensures, c .before .radix-of .ensures, c .before .before .encoding-at .ensures)
 
-encoding-at-requires : tie.Need-encoding-at-requires
-encoding-at-requires c κs = search needs
-
-radix-of-requires : tie.Need-radix-of-requires
-radix-of-requires c κs = search needs
-
-bits-at-requires : tie.Need-bits-at-requires
-bits-at-requires c κs = search needs
-
-cast-result : tie.Need-cast-result
-cast-result c = search needs
-
 shl-result : tie.Need-shl-result
 shl-result c = omega (arith, c .bits-at .ensures, bits-le (c .before .before .before .args .range))
 
@@ -39,10 +27,10 @@ pub most-at-spec : {M : Type 1} → statement M
 most-at-spec =
     tie.close
     (tie.spec
-    encoding-at-requires
-    radix-of-requires
-    bits-at-requires
-    cast-result
+    (λ c κs. search needs)
+    (λ c κs. search needs)
+    (λ c κs. search needs)
+    (λ c. search needs)
     shl-result
     sub-result
     cast-result-2

@@ -37,35 +37,8 @@ product c = mul-le-mul {n₂ = 4294967295} {m₂ = 8} (c .pre .2) (bits-le c)
 code-le : (c : tie.Start) → getD (c .args .t3) (digits / 2 ^ (2 * (c .args .i - 1) + 10) % 4) 0 ≤ 3 * c .args .n + 2
 code-le c = rw (c .pre .3) (code-most (c .args .n) (digits / 2 ^ (2 * (c .args .i - 1) + 10) % 4))
 
-sub-j : tie.Need-sub-j
-sub-j c = search needs
-
-mul-b : tie.Need-mul-b
-mul-b c = search needs
-
-cast-b : tie.Need-cast-b
-cast-b c = search needs
-
-shr-b : tie.Need-shr-b
-shr-b c = search needs
-
-mul-c : tie.Need-mul-c
-mul-c c = search needs
-
-add-c : tie.Need-add-c
-add-c c = search needs
-
-cast-c : tie.Need-cast-c
-cast-c c = search needs
-
-shr-c : tie.Need-shr-c
-shr-c c = search needs
-
 mul-result : tie.Need-mul-result
 mul-result c = omega (arith, product c)
-
-mul-result-2 : tie.Need-mul-result-2
-mul-result-2 c = search needs
 
 array-read-result : tie.Need-array-read-result
 array-read-result c = digit-lt c
@@ -80,16 +53,16 @@ pub total-at-spec : {M : Type 1} → statement M
 total-at-spec =
     tie.close
     (tie.spec
-    sub-j
-    mul-b
-    cast-b
-    shr-b
-    mul-c
-    add-c
-    cast-c
-    shr-c
+    (λ c. search needs)
+    (λ c. search needs)
+    (λ c. search needs)
+    (λ c. search needs)
+    (λ c. search needs)
+    (λ c. search needs)
+    (λ c. search needs)
+    (λ c. search needs)
     mul-result
-    mul-result-2
+    (λ c. search needs)
     array-read-result
     add-result
     returns)

@@ -37,35 +37,14 @@ module _ (c : tie.After-wide4) where
   unq : bitXor (d * c .wide4 .result + b) a < 2 ^ 32
   unq = xor-lt 32 (d * c .wide4 .result + b) a (omega (arith, high, low)) (omega (arith, ones))
 
-wide-requires : tie.Need-wide-requires
-wide-requires c κs = search needs
-
-cast-a : tie.Need-cast-a
-cast-a c = search needs
-
 mul-a : tie.Need-mul-a
 mul-a c = omega (arith, product (c .wide .result) (c .before .args .rule .5) (omega arith) (omega arith))
-
-wide-requires-2 : tie.Need-wide-requires-2
-wide-requires-2 c κs = search needs
-
-cast-b : tie.Need-cast-b
-cast-b c = search needs
 
 mul-b : tie.Need-mul-b
 mul-b c = omega (arith, product (c .wide2 .result) (c .before .before .args .rule .4) (omega arith) (omega arith))
 
-wide-requires-3 : tie.Need-wide-requires-3
-wide-requires-3 c κs = search needs
-
-cast-d : tie.Need-cast-d
-cast-d c = search needs
-
 mul-d : tie.Need-mul-d
 mul-d c = omega (arith, product (c .wide3 .result) (c .before .before .before .args .rule .1) (omega arith) (omega arith))
-
-wide-requires-4 : tie.Need-wide-requires-4
-wide-requires-4 c κs = search needs
 
 mul-unq : tie.Need-mul-unq
 mul-unq c = omega (arith, high c)
@@ -79,9 +58,6 @@ add-level c = omega (arith, ones c)
 add-level-2 : tie.Need-add-level-2
 add-level-2 c = omega (arith, ones c, unq c)
 
-cast-level : tie.Need-cast-level
-cast-level c = search needs
-
 returns : tie.Need-returns
 unfolding byRule
 returns c = rw (lt-ltb _ _ (c .if1 .taken))
@@ -94,20 +70,20 @@ pub unquantize-spec : {M : Type 1} → statement M
 unquantize-spec =
     tie.close
     (tie.spec
-    wide-requires
-    cast-a
+    (λ c κs. search needs)
+    (λ c. search needs)
     mul-a
-    wide-requires-2
-    cast-b
+    (λ c κs. search needs)
+    (λ c. search needs)
     mul-b
-    wide-requires-3
-    cast-d
+    (λ c κs. search needs)
+    (λ c. search needs)
     mul-d
-    wide-requires-4
+    (λ c κs. search needs)
     mul-unq
     add-unq
     add-level
     add-level-2
-    cast-level
+    (λ c. search needs)
     returns
     returns-2)

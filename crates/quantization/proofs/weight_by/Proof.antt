@@ -21,33 +21,6 @@ byte ws v =
       | no p ↦ rw (le-ltb v 32 (omega arith))
     ]
 
-cast-k : tie.Need-cast-k
-cast-k c = search needs
-
-mul-level : tie.Need-mul-level
-mul-level c = search needs
-
-element-copy-out-level : tie.Need-element-copy-out-level
-element-copy-out-level c = search needs
-
-cast-level : tie.Need-cast-level
-cast-level c = search needs
-
-mul-level-2 : tie.Need-mul-level-2
-mul-level-2 c = search needs
-
-cast-level-2 : tie.Need-cast-level-2
-cast-level-2 c = search needs
-
-shr-level : tie.Need-shr-level
-shr-level c = search needs
-
-cast-level-3 : tie.Need-cast-level-3
-cast-level-3 c = search needs
-
-chosen-requires : tie.Need-chosen-requires
-chosen-requires c κs = search needs
-
 returns : tie.Need-returns
 returns c = c .chosen .ensures ∙ byte (now (c .before .before .args .words)) (c .before .before .args .s .0)
 
@@ -55,13 +28,13 @@ pub weight-by-spec : {M : Type 1} → statement M
 weight-by-spec =
     tie.close
     (tie.spec
-    cast-k
-    mul-level
-    element-copy-out-level
-    cast-level
-    mul-level-2
-    cast-level-2
-    shr-level
-    cast-level-3
-    chosen-requires
+    (λ c. search needs)
+    (λ c. search needs)
+    (λ c. search needs)
+    (λ c. search needs)
+    (λ c. search needs)
+    (λ c. search needs)
+    (λ c. search needs)
+    (λ c. search needs)
+    (λ c κs. search needs)
     returns)

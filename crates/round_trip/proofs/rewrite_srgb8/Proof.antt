@@ -6,27 +6,6 @@ use Rattle.round_trip.proofs.Laws.{four-together, rewritten}
 use Rattle.round_trip.proofs.rewrite_srgb8.Statement.{statement}
 use Rattle.round_trip.proofs.rewrite_srgb8.Tie as tie
 
-read-symbolic-requires : tie.Need-read-symbolic-requires
-read-symbolic-requires c κs = search needs
-
-write-symbolic-requires : tie.Need-write-symbolic-requires
-write-symbolic-requires c κs = search needs
-
-decode-srgb8-requires : tie.Need-decode-srgb8-requires
-decode-srgb8-requires c κs = search needs
-
-slice-aggregate-decode-srgb8 : tie.Need-slice-aggregate-decode-srgb8
-slice-aggregate-decode-srgb8 c = search needs
-
-decode-srgb8-requires-2 : tie.Need-decode-srgb8-requires-2
-decode-srgb8-requires-2 c κs = search needs
-
-same-length : tie.Need-same-length
-same-length c = search needs
-
-same-length-2 : tie.Need-same-length-2
-same-length-2 c = search needs
-
 returns : tie.Need-returns
 returns c =
     let d2 = c .before .before in
@@ -47,11 +26,11 @@ pub rewrite-srgb8-spec : {M : Type 1} → statement M
 rewrite-srgb8-spec =
     tie.close
     (tie.spec
-    read-symbolic-requires
-    write-symbolic-requires
-    decode-srgb8-requires
-    slice-aggregate-decode-srgb8
-    decode-srgb8-requires-2
-    same-length
-    same-length-2
+    (λ c κs. search needs)
+    (λ c κs. search needs)
+    (λ c κs. search needs)
+    (λ c. search needs)
+    (λ c κs. search needs)
+    (λ c. search needs)
+    (λ c. search needs)
     returns)

@@ -6,27 +6,6 @@ use Rattle.round_trip.proofs.Laws.{four-together, rewritten}
 use Rattle.round_trip.proofs.rewrite_words.Statement.{statement}
 use Rattle.round_trip.proofs.rewrite_words.Tie as tie
 
-read-symbolic-requires : tie.Need-read-symbolic-requires
-read-symbolic-requires c κs = search needs
-
-write-symbolic-requires : tie.Need-write-symbolic-requires
-write-symbolic-requires c κs = search needs
-
-show-words-requires : tie.Need-show-words-requires
-show-words-requires c κs = search needs
-
-slice-aggregate-show-words : tie.Need-slice-aggregate-show-words
-slice-aggregate-show-words c = search needs
-
-show-words-requires-2 : tie.Need-show-words-requires-2
-show-words-requires-2 c κs = search needs
-
-same-length : tie.Need-same-length
-same-length c = search needs
-
-same-length-2 : tie.Need-same-length-2
-same-length-2 c = search needs
-
 returns : tie.Need-returns
 returns c =
     let d2 = c .before .before in
@@ -48,11 +27,11 @@ pub rewrite-words-spec : {M : Type 1} → statement M
 rewrite-words-spec =
     tie.close
     (tie.spec
-    read-symbolic-requires
-    write-symbolic-requires
-    show-words-requires
-    slice-aggregate-show-words
-    show-words-requires-2
-    same-length
-    same-length-2
+    (λ c κs. search needs)
+    (λ c κs. search needs)
+    (λ c κs. search needs)
+    (λ c. search needs)
+    (λ c κs. search needs)
+    (λ c. search needs)
+    (λ c. search needs)
     returns)

@@ -7,24 +7,6 @@ use Rattle.round_trip.proofs.Laws.{together, demanded}
 use Rattle.round_trip.proofs.round_trip_srgb8.Statement.{statement}
 use Rattle.round_trip.proofs.round_trip_srgb8.Tie as tie
 
-write-symbolic-requires : tie.Need-write-symbolic-requires
-write-symbolic-requires c κs = search needs
-
-slice-aggregate-read-symbolic : tie.Need-slice-aggregate-read-symbolic
-slice-aggregate-read-symbolic c = search needs
-
-read-symbolic-requires : tie.Need-read-symbolic-requires
-read-symbolic-requires c κs = search needs
-
-slice-aggregate-decode-srgb8 : tie.Need-slice-aggregate-decode-srgb8
-slice-aggregate-decode-srgb8 c = search needs
-
-decode-srgb8-requires : tie.Need-decode-srgb8-requires
-decode-srgb8-requires c κs = search needs
-
-same-length : tie.Need-same-length
-same-length c = search needs
-
 sized : (c : tie.Start) → Sized (c .args .s)
 sized c = record {
   colours-4 = search needs;
@@ -50,10 +32,10 @@ pub round-trip-srgb8-spec : {M : Type 1} → statement M
 round-trip-srgb8-spec =
     tie.close
     (tie.spec
-    write-symbolic-requires
-    slice-aggregate-read-symbolic
-    read-symbolic-requires
-    slice-aggregate-decode-srgb8
-    decode-srgb8-requires
-    same-length
+    (λ c κs. search needs)
+    (λ c. search needs)
+    (λ c κs. search needs)
+    (λ c. search needs)
+    (λ c κs. search needs)
+    (λ c. search needs)
     returns)

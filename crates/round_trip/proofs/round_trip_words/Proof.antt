@@ -7,24 +7,6 @@ use Rattle.round_trip.proofs.Laws.{together, demanded}
 use Rattle.round_trip.proofs.round_trip_words.Statement.{statement}
 use Rattle.round_trip.proofs.round_trip_words.Tie as tie
 
-write-symbolic-requires : tie.Need-write-symbolic-requires
-write-symbolic-requires c κs = search needs
-
-slice-aggregate-read-symbolic : tie.Need-slice-aggregate-read-symbolic
-slice-aggregate-read-symbolic c = search needs
-
-read-symbolic-requires : tie.Need-read-symbolic-requires
-read-symbolic-requires c κs = search needs
-
-slice-aggregate-show-words : tie.Need-slice-aggregate-show-words
-slice-aggregate-show-words c = search needs
-
-show-words-requires : tie.Need-show-words-requires
-show-words-requires c κs = search needs
-
-same-length : tie.Need-same-length
-same-length c = search needs
-
 sized : (c : tie.Start) → Sized (c .args .s)
 sized c = record {
   colours-4 = search needs;
@@ -51,10 +33,10 @@ pub round-trip-words-spec : {M : Type 1} → statement M
 round-trip-words-spec =
     tie.close
     (tie.spec
-    write-symbolic-requires
-    slice-aggregate-read-symbolic
-    read-symbolic-requires
-    slice-aggregate-show-words
-    show-words-requires
-    same-length
+    (λ c κs. search needs)
+    (λ c. search needs)
+    (λ c κs. search needs)
+    (λ c. search needs)
+    (λ c κs. search needs)
+    (λ c. search needs)
     returns)

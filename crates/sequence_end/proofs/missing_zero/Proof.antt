@@ -7,17 +7,8 @@ use borrow.Author.Needs.{needs}
 use Rattle.sequence_end.proofs.missing_zero.Statement.{statement}
 use Rattle.sequence_end.proofs.missing_zero.Tie as tie
 
-enum-told : tie.Need-enum-told
-enum-told c = search needs
-
-enum-told-2 : tie.Need-enum-told-2
-enum-told-2 c = search needs
-
 trits-zero-requires : tie.Need-trits-zero-requires
 trits-zero-requires c κs = (narrow-trits _ (narrow _ (c .enum-told2 .given .1) (c .before .before .pre .0)), c .before .before .pre .1)
-
-enum-told-3 : tie.Need-enum-told-3
-enum-told-3 c = search needs
 
 quints-zero-requires : tie.Need-quints-zero-requires
 quints-zero-requires c κs = (narrow-quints _ (narrow _ (c .enum-told3 .given .1) (c .before .before .pre .0)), c .before .before .pre .1)
@@ -35,10 +26,10 @@ pub missing-zero-spec : {M : Type 1} → statement M
 missing-zero-spec =
     tie.close
     (tie.spec
-    enum-told
-    enum-told-2
+    (λ c. search needs)
+    (λ c. search needs)
     trits-zero-requires
-    enum-told-3
+    (λ c. search needs)
     quints-zero-requires
     returns
     returns-2

@@ -3,20 +3,11 @@ use borrow.Author.Needs.{needs}
 use Rattle.sequence_numbers.proofs.read_from.Statement.{statement}
 use Rattle.sequence_numbers.proofs.read_from.Tie as tie
 
-enum-told : tie.Need-enum-told
-enum-told c = search needs
-
 bits-from-requires : tie.Need-bits-from-requires
 bits-from-requires c κs = (narrow-bits _ (narrow _ (c .enum-told .given .1) (c .before .before .pre .0)), c .before .before .pre .1, c .before .before .pre .2)
 
-enum-told-2 : tie.Need-enum-told-2
-enum-told-2 c = search needs
-
 trits-from-requires : tie.Need-trits-from-requires
 trits-from-requires c κs = (narrow-trits _ (narrow _ (c .enum-told2 .given .1) (c .before .before .pre .0)), c .before .before .pre .1, c .before .before .pre .2)
-
-enum-told-3 : tie.Need-enum-told-3
-enum-told-3 c = search needs
 
 quints-from-requires : tie.Need-quints-from-requires
 quints-from-requires c κs = (narrow-quints _ (narrow _ (c .enum-told3 .given .1) (c .before .before .pre .0)), c .before .before .pre .1, c .before .before .pre .2)
@@ -34,11 +25,11 @@ pub read-from-spec : {M : Type 1} → statement M
 read-from-spec =
     tie.close
     (tie.spec
-    enum-told
+    (λ c. search needs)
     bits-from-requires
-    enum-told-2
+    (λ c. search needs)
     trits-from-requires
-    enum-told-3
+    (λ c. search needs)
     quints-from-requires
     returns
     returns-2

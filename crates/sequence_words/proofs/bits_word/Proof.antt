@@ -25,18 +25,6 @@ loop-holds : tie.Need-loop-holds Inv-loop μ-loop
 unfolding sequenceBits stream
 loop-holds c = (omega arith, omega (arith, zero-mul (c .args .b)), refl)
 
-add-x : tie.Need-add-x Inv-loop μ-loop
-add-x c = omega arith
-
-array-copy-out-x : tie.Need-array-copy-out-x Inv-loop μ-loop
-array-copy-out-x c = omega arith
-
-value-requires : tie.Need-value-requires Inv-loop μ-loop
-value-requires c κs = search needs
-
-low-requires : tie.Need-low-requires Inv-loop μ-loop
-low-requires c κs = search needs
-
 -- the numbers' low bits
 abbrev values-at : (c : tie.After-low Inv-loop μ-loop) → ℕ → ℕ
 values-at c j = getD (values (c .before .before .before .before .before .args .t1)) (c .before .before .before .before .before .args .i + j) 0 % 2 ^ c .before .before .before .before .before .args .b
@@ -70,12 +58,6 @@ add-word c = record { fits = omega (arith, more c) }
 add-p : tie.Need-add-p Inv-loop μ-loop
 add-p c = omega (arith, place-fits c)
 
-add-k : tie.Need-add-k Inv-loop μ-loop
-add-k c = omega arith
-
-loop-less : tie.Need-loop-less Inv-loop μ-loop
-loop-less c = omega arith
-
 loop-again : tie.Need-loop-again Inv-loop μ-loop
 loop-again c =
     let a = c .before .before .before .before .before .args in
@@ -92,15 +74,15 @@ bits-word-spec =
     Inv-loop
     μ-loop
     loop-holds
-    add-x
-    array-copy-out-x
-    value-requires
-    low-requires
+    (λ c. omega arith)
+    (λ c. omega arith)
+    (λ c κs. search needs)
+    (λ c κs. search needs)
     cast-word
     shl-word
     add-word
     add-p
-    add-k
-    loop-less
+    (λ c. omega arith)
+    (λ c. omega arith)
     loop-again
     returns)

@@ -12,23 +12,8 @@ use Rattle.sequence_words.proofs.cut_quint_code.Tie as tie
 taken : (b m k : ℕ) (xs : List ℕ) {code : ℕ} → m ≡ k → code ≡ codeOf Quints (map (λ x. x / 2 ^ b) (take k xs)) → code ≡ codeOf Quints (map (λ x. x / 2 ^ b) (take m xs))
 taken b m k xs e q = q ∙ ap (λ (j : ℕ). codeOf Quints (map (λ x. x / 2 ^ b) (take j xs))) (sym e)
 
-shr-two-quints : tie.Need-shr-two-quints
-shr-two-quints c = search needs
-
-shr-two-quints-2 : tie.Need-shr-two-quints-2
-shr-two-quints-2 c = search needs
-
-two-quints-requires : tie.Need-two-quints-requires
-two-quints-requires c κs = search needs
-
 returns : tie.Need-returns
 returns c = let a = c .before .before .args in taken (a .b) (a .m) 2 (a .x0 ∷ a .x1 ∷ 0 ∷ []) (omega arith) (c .two-quints .ensures)
-
-shr-one-quint : tie.Need-shr-one-quint
-shr-one-quint c = search needs
-
-one-quint-requires : tie.Need-one-quint-requires
-one-quint-requires c κs = search needs
 
 returns-2 : tie.Need-returns-2
 returns-2 c = let a = c .before .before .args in taken (a .b) (a .m) 1 (a .x0 ∷ a .x1 ∷ 0 ∷ []) (omega arith) (c .one-quint .ensures)
@@ -37,10 +22,10 @@ pub cut-quint-code-spec : {M : Type 1} → statement M
 cut-quint-code-spec =
     tie.close
     (tie.spec
-    shr-two-quints
-    shr-two-quints-2
-    two-quints-requires
+    (λ c. search needs)
+    (λ c. search needs)
+    (λ c κs. search needs)
     returns
-    shr-one-quint
-    one-quint-requires
+    (λ c. search needs)
+    (λ c κs. search needs)
     returns-2)

@@ -7,16 +7,10 @@ use borrow.Author.Needs.{needs}
 use Rattle.sequence_words.proofs.cut_quints.Statement.{statement}
 use Rattle.sequence_words.proofs.cut_quints.Tie as tie
 
-cut-quint-code-requires : tie.Need-cut-quint-code-requires
-cut-quint-code-requires c κs = search needs
-
-quint-word-requires : tie.Need-quint-word-requires
-quint-word-requires c κs = search needs
-
 returns : tie.Need-returns
 returns c =
     let a = c .before .before .args in
     c .quint-word .ensures ∙ word-cut Quints (a .b) (a .m) (a .x0 ∷ a .x1 ∷ 0 ∷ []) (omega arith) (omega arith) (c .before .before .pre .3) refl (c .before .cut-quint-code .ensures)
 
 pub cut-quints-spec : {M : Type 1} → statement M
-cut-quints-spec = tie.close (tie.spec cut-quint-code-requires quint-word-requires returns)
+cut-quints-spec = tie.close (tie.spec (λ c κs. search needs) (λ c κs. search needs) returns)

@@ -7,16 +7,10 @@ use borrow.Author.Needs.{needs}
 use Rattle.sequence_words.proofs.cut_trits.Statement.{statement}
 use Rattle.sequence_words.proofs.cut_trits.Tie as tie
 
-cut-trit-code-requires : tie.Need-cut-trit-code-requires
-cut-trit-code-requires c κs = search needs
-
-trit-word-requires : tie.Need-trit-word-requires
-trit-word-requires c κs = search needs
-
 returns : tie.Need-returns
 returns c =
     let a = c .before .before .args in
     c .trit-word .ensures ∙ word-cut Trits (a .b) (a .m) (a .x0 ∷ a .x1 ∷ a .x2 ∷ a .x3 ∷ 0 ∷ []) (omega arith) (omega arith) (c .before .before .pre .3) refl (c .before .cut-trit-code .ensures)
 
 pub cut-trits-spec : {M : Type 1} → statement M
-cut-trits-spec = tie.close (tie.spec cut-trit-code-requires trit-word-requires returns)
+cut-trits-spec = tie.close (tie.spec (λ c κs. search needs) (λ c κs. search needs) returns)

@@ -24,18 +24,6 @@ rest c =
     let same = three-same xs (a .i) (c .before .number-at .ensures .0) (c .number-at2 .ensures .0) (past-end xs (a .i + 2) (omega (arith, len))) in
     (same, past-absent xs (c .before .number-at .result ∷ c .number-at2 .result ∷ 0 ∷ []) (a .i) (a .n - a .i) 3 (omega (arith, len)) (omega arith) same)
 
-number-at-requires : tie.Need-number-at-requires
-number-at-requires c κs = search needs
-
-add-number-at : tie.Need-add-number-at
-add-number-at c = search needs
-
-number-at-requires-2 : tie.Need-number-at-requires-2
-number-at-requires-2 c κs = search needs
-
-sub-cut-quints : tie.Need-sub-cut-quints
-sub-cut-quints c = search needs
-
 cut-quints-requires : tie.Need-cut-quints-requires
 cut-quints-requires c κs = (omega arith, omega arith, omega arith, rest c .1)
 
@@ -51,9 +39,9 @@ pub last-quints-spec : {M : Type 1} → statement M
 last-quints-spec =
     tie.close
     (tie.spec
-    number-at-requires
-    add-number-at
-    number-at-requires-2
-    sub-cut-quints
+    (λ c κs. search needs)
+    (λ c. search needs)
+    (λ c κs. search needs)
+    (λ c. search needs)
     cut-quints-requires
     returns)

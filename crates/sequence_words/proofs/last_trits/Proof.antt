@@ -24,30 +24,6 @@ rest c =
     let same = five-same xs (a .i) (c .before .before .before .number-at .ensures .0) (c .before .before .number-at2 .ensures .0) (c .before .number-at3 .ensures .0) (c .number-at4 .ensures .0) (past-end xs (a .i + 4) (omega (arith, len))) in
     (same, past-absent xs (c .before .before .before .number-at .result ∷ c .before .before .number-at2 .result ∷ c .before .number-at3 .result ∷ c .number-at4 .result ∷ 0 ∷ []) (a .i) (a .n - a .i) 5 (omega (arith, len)) (omega arith) same)
 
-number-at-requires : tie.Need-number-at-requires
-number-at-requires c κs = search needs
-
-add-number-at : tie.Need-add-number-at
-add-number-at c = search needs
-
-number-at-requires-2 : tie.Need-number-at-requires-2
-number-at-requires-2 c κs = search needs
-
-add-number-at-2 : tie.Need-add-number-at-2
-add-number-at-2 c = search needs
-
-number-at-requires-3 : tie.Need-number-at-requires-3
-number-at-requires-3 c κs = search needs
-
-add-number-at-3 : tie.Need-add-number-at-3
-add-number-at-3 c = search needs
-
-number-at-requires-4 : tie.Need-number-at-requires-4
-number-at-requires-4 c κs = search needs
-
-sub-cut-trits : tie.Need-sub-cut-trits
-sub-cut-trits c = search needs
-
 cut-trits-requires : tie.Need-cut-trits-requires
 cut-trits-requires c κs = (omega arith, omega arith, omega arith, rest c .1)
 
@@ -63,13 +39,13 @@ pub last-trits-spec : {M : Type 1} → statement M
 last-trits-spec =
     tie.close
     (tie.spec
-    number-at-requires
-    add-number-at
-    number-at-requires-2
-    add-number-at-2
-    number-at-requires-3
-    add-number-at-3
-    number-at-requires-4
-    sub-cut-trits
+    (λ c κs. search needs)
+    (λ c. search needs)
+    (λ c κs. search needs)
+    (λ c. search needs)
+    (λ c κs. search needs)
+    (λ c. search needs)
+    (λ c κs. search needs)
+    (λ c. search needs)
     cut-trits-requires
     returns)

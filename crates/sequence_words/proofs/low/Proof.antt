@@ -7,9 +7,6 @@ use borrow.Author.Needs.{needs}
 use Rattle.sequence_words.proofs.low.Statement.{statement}
 use Rattle.sequence_words.proofs.low.Tie as tie
 
-shl-result : tie.Need-shl-result
-shl-result c = search needs
-
 rem-result : tie.Need-rem-result
 rem-result c = rw (one-shl (c .args .w) (omega arith)) (pow-pos (c .args .w))
 
@@ -17,4 +14,4 @@ returns : tie.Need-returns
 returns c = rw (one-shl (c .args .w) (omega arith)) (refl, mod-lt (c .args .x) (pow-pos (c .args .w)))
 
 pub low-spec : {M : Type 1} → statement M
-low-spec = tie.close (tie.spec shl-result rem-result returns)
+low-spec = tie.close (tie.spec (λ c. search needs) rem-result returns)

@@ -7,12 +7,6 @@ use borrow.Author.Needs.{needs}
 use Rattle.sequence_words.proofs.number_at.Statement.{statement}
 use Rattle.sequence_words.proofs.number_at.Tie as tie
 
-array-copy-out-x : tie.Need-array-copy-out-x
-array-copy-out-x c = search needs
-
-value-requires : tie.Need-value-requires
-value-requires c κs = search needs
-
 returns : tie.Need-returns
 returns c =
     let a = c .before .before .before .args in
@@ -24,4 +18,4 @@ returns-2 c =
     (sym (List·getD-eq-default (take (a .n) (values (a .t1))) 0 {n = a .i} (omega (arith, written-length (a .t1) (a .n) (search needs) (c .before .pre)))), omega arith)
 
 pub number-at-spec : {M : Type 1} → statement M
-number-at-spec = tie.close (tie.spec array-copy-out-x value-requires returns returns-2)
+number-at-spec = tie.close (tie.spec (λ c. search needs) (λ c κs. search needs) returns returns-2)

@@ -18,17 +18,8 @@ item-is c =
     let e : 2 ^ 3 * 2 ^ a .b ≡ 2 ^ (3 + a .b) = sym (pow-add 2 3 (a .b)) in
     (shl-exact 3 (a .b) 64 h (omega arith), lt-of-lt-of-le l (rw e (pow-mono {i = 3 + a .b} {j = 11} (omega arith))))
 
-shl-result : tie.Need-shl-result
-shl-result c = search needs
-
-low-requires : tie.Need-low-requires
-low-requires c κs = search needs
-
 add-result : tie.Need-add-result
 add-result c = record { fits = omega (arith, item-is c) }
-
-shl-result-2 : tie.Need-shl-result-2
-shl-result-2 c = search needs
 
 returns : tie.Need-returns
 returns c =
@@ -39,4 +30,4 @@ returns c =
     (ap (λ (y : ℕ). (a .share * 2 ^ a .b + y) * 2 ^ a .p) (c .low .ensures .0), lt-of-lt-of-le (shl-lt {a = x} 11 (a .p) (i .1)) (pow-mono {i = 11 + a .p} {j = 51} (omega arith)))
 
 pub placed-spec : {M : Type 1} → statement M
-placed-spec = tie.close (tie.spec shl-result low-requires add-result shl-result-2 returns)
+placed-spec = tie.close (tie.spec (λ c. search needs) (λ c κs. search needs) add-result (λ c. search needs) returns)

@@ -11,30 +11,6 @@ use borrow.Author.Needs.{needs}
 use Rattle.sequence_words.proofs.quint_word.Statement.{statement}
 use Rattle.sequence_words.proofs.quint_word.Tie as tie
 
-placed-requires : tie.Need-placed-requires
-placed-requires c κs = search needs
-
-add-placed : tie.Need-add-placed
-add-placed c = search needs
-
-placed-requires-2 : tie.Need-placed-requires-2
-placed-requires-2 c κs = search needs
-
-mul-placed : tie.Need-mul-placed
-mul-placed c = search needs
-
-add-placed-2 : tie.Need-add-placed-2
-add-placed-2 c = search needs
-
-placed-requires-3 : tie.Need-placed-requires-3
-placed-requires-3 c κs = search needs
-
-add-result : tie.Need-add-result
-add-result c = search needs
-
-add-result-2 : tie.Need-add-result-2
-add-result-2 c = search needs
-
 returns : tie.Need-returns
 unfolding field sequenceBits
 returns c =
@@ -49,12 +25,12 @@ pub quint-word-spec : {M : Type 1} → statement M
 quint-word-spec =
     tie.close
     (tie.spec
-    placed-requires
-    add-placed
-    placed-requires-2
-    mul-placed
-    add-placed-2
-    placed-requires-3
-    add-result
-    add-result-2
+    (λ c κs. search needs)
+    (λ c. search needs)
+    (λ c κs. search needs)
+    (λ c. search needs)
+    (λ c. search needs)
+    (λ c κs. search needs)
+    (λ c. search needs)
+    (λ c. search needs)
     returns)

@@ -14,33 +14,6 @@ use Rattle.sequence_words.proofs.three_quints.Tie as tie
 sized : (c : tie.Start) → length (c .args .t2) ≡ 64
 sized c = search needs
 
-array-copy-out-value : tie.Need-array-copy-out-value
-array-copy-out-value c = search needs
-
-value-requires : tie.Need-value-requires
-value-requires c κs = search needs
-
-add-value : tie.Need-add-value
-add-value c = search needs
-
-array-copy-out-value-2 : tie.Need-array-copy-out-value-2
-array-copy-out-value-2 c = search needs
-
-value-requires-2 : tie.Need-value-requires-2
-value-requires-2 c κs = search needs
-
-add-value-2 : tie.Need-add-value-2
-add-value-2 c = search needs
-
-array-copy-out-value-3 : tie.Need-array-copy-out-value-3
-array-copy-out-value-3 c = search needs
-
-value-requires-3 : tie.Need-value-requires-3
-value-requires-3 c κs = search needs
-
-whole-quints-requires : tie.Need-whole-quints-requires
-whole-quints-requires c κs = search needs
-
 returns : tie.Need-returns
 returns c =
     let a = c .before .before .before .before .before .before .before .args in
@@ -54,13 +27,13 @@ pub three-quints-spec : {M : Type 1} → statement M
 three-quints-spec =
     tie.close
     (tie.spec
-    array-copy-out-value
-    value-requires
-    add-value
-    array-copy-out-value-2
-    value-requires-2
-    add-value-2
-    array-copy-out-value-3
-    value-requires-3
-    whole-quints-requires
+    (λ c. search needs)
+    (λ c κs. search needs)
+    (λ c. search needs)
+    (λ c. search needs)
+    (λ c κs. search needs)
+    (λ c. search needs)
+    (λ c. search needs)
+    (λ c κs. search needs)
+    (λ c κs. search needs)
     returns)

@@ -7,21 +7,6 @@ use borrow.Author.Needs.{needs}
 use Rattle.sequence_words.proofs.whole_quints.Statement.{statement}
 use Rattle.sequence_words.proofs.whole_quints.Tie as tie
 
-shr-three-quints : tie.Need-shr-three-quints
-shr-three-quints c = search needs
-
-shr-three-quints-2 : tie.Need-shr-three-quints-2
-shr-three-quints-2 c = search needs
-
-shr-three-quints-3 : tie.Need-shr-three-quints-3
-shr-three-quints-3 c = search needs
-
-three-quints-requires : tie.Need-three-quints-requires
-three-quints-requires c κs = search needs
-
-quint-word-requires : tie.Need-quint-word-requires
-quint-word-requires c κs = search needs
-
 returns : tie.Need-returns
 returns c = let a = c .before .before .args in c .quint-word .ensures ∙ word-alone Quints (a .b) (a .x0 ∷ a .x1 ∷ a .x2 ∷ []) (omega arith) (c .before .three-quints .ensures)
 
@@ -29,9 +14,9 @@ pub whole-quints-spec : {M : Type 1} → statement M
 whole-quints-spec =
     tie.close
     (tie.spec
-    shr-three-quints
-    shr-three-quints-2
-    shr-three-quints-3
-    three-quints-requires
-    quint-word-requires
+    (λ c. search needs)
+    (λ c. search needs)
+    (λ c. search needs)
+    (λ c κs. search needs)
+    (λ c κs. search needs)
     returns)

@@ -2,24 +2,6 @@ use borrow.Author.Needs.{needs}
 use Rattle.sequence_writer.proofs.write.Statement.{statement}
 use Rattle.sequence_writer.proofs.write.Tie as tie
 
-enum-told : tie.Need-enum-told
-enum-told c = search needs
-
-write-bits-requires : tie.Need-write-bits-requires
-write-bits-requires c κs = search needs
-
-enum-told-2 : tie.Need-enum-told-2
-enum-told-2 c = search needs
-
-write-trits-requires : tie.Need-write-trits-requires
-write-trits-requires c κs = search needs
-
-enum-told-3 : tie.Need-enum-told-3
-enum-told-3 c = search needs
-
-write-quints-requires : tie.Need-write-quints-requires
-write-quints-requires c κs = search needs
-
 returns : tie.Need-returns
 returns c = rw (c .before .enum-told .given .1) (c .write-bits .ensures)
 
@@ -33,12 +15,12 @@ pub write-spec : {M : Type 1} → statement M
 write-spec =
     tie.close
     (tie.spec
-    enum-told
-    write-bits-requires
-    enum-told-2
-    write-trits-requires
-    enum-told-3
-    write-quints-requires
+    (λ c. search needs)
+    (λ c κs. search needs)
+    (λ c. search needs)
+    (λ c κs. search needs)
+    (λ c. search needs)
+    (λ c κs. search needs)
     returns
     returns-2
     returns-3)

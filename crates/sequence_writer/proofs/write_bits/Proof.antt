@@ -21,9 +21,6 @@ Inv-loop from b xs n out₀ at₀ i₀ out at i =
 abbrev μ-loop : tie.MeasureT-loop
 μ-loop from b xs n out₀ at₀ i₀ out at i = n - i
 
-append-requires : tie.Need-append-requires Inv-loop μ-loop
-append-requires c κs = search needs
-
 sized : (c : tie.Start Inv-loop μ-loop) → length (c .args .xs) ≡ 64
 sized c = search needs
 
@@ -33,17 +30,8 @@ loop-holds c =
     let a = c .before .args in
     (omega arith, omega (arith, zero-mul (a .b)), write-start Bits (a .b) (take (a .n) (values (a .xs))) (a .from) (blockNumber (a .block)) (c .append .ensures))
 
-sub-smaller : tie.Need-sub-smaller Inv-loop μ-loop
-sub-smaller c = omega arith
-
-smaller-requires : tie.Need-smaller-requires Inv-loop μ-loop
-smaller-requires c κs = search needs
-
 bits-word-requires : tie.Need-bits-word-requires Inv-loop μ-loop
 bits-word-requires c κs = (omega (arith, c .smaller .ensures), omega (arith, c .smaller .ensures), omega arith)
-
-append-requires-2 : tie.Need-append-requires-2 Inv-loop μ-loop
-append-requires-2 c κs = search needs
 
 -- the place of the next numbers
 reach : (c : tie.After-append2 Inv-loop μ-loop) → (c .before .before .before .before .loop .at ≤ 1279) × (c .before .before .smaller .result * c .before .before .before .before .before .before .args .b ≤ 64)
@@ -93,12 +81,12 @@ write-bits-spec =
     (tie.spec
     Inv-loop
     μ-loop
-    append-requires
+    (λ c κs. search needs)
     loop-holds
-    sub-smaller
-    smaller-requires
+    (λ c. omega arith)
+    (λ c κs. search needs)
     bits-word-requires
-    append-requires-2
+    (λ c κs. search needs)
     cast-at
     mul-at
     add-at

@@ -21,12 +21,6 @@ Inv-loop from b xs n table out₀ at₀ i₀ out at i =
 abbrev μ-loop : tie.MeasureT-loop
 μ-loop from b xs n table out₀ at₀ i₀ out at i = n - i
 
-three-quints-requires : tie.Need-three-quints-requires Inv-loop μ-loop
-three-quints-requires c κs = search needs
-
-append-requires : tie.Need-append-requires Inv-loop μ-loop
-append-requires c κs = search needs
-
 sized : (c : tie.Start Inv-loop μ-loop) → length (c .args .xs) ≡ 64
 sized c = search needs
 
@@ -36,14 +30,8 @@ loop-holds c =
     let a = c .before .before .args in
     (omega arith, refl, omega (arith, zero-mul (a .b)), write-start Quints (a .b) (take (a .n) (values (a .xs))) (a .from) (blockNumber (a .block)) (c .append .ensures))
 
-add-loop : tie.Need-add-loop Inv-loop μ-loop
-add-loop c = omega arith
-
 three-quints-requires-2 : tie.Need-three-quints-requires-2 Inv-loop μ-loop
 three-quints-requires-2 c κs = (omega arith, omega arith, c .before .before .before .before .three-quints .ensures)
-
-append-requires-2 : tie.Need-append-requires-2 Inv-loop μ-loop
-append-requires-2 c κs = search needs
 
 at-le : (c : tie.After-append2 Inv-loop μ-loop) → c .before .before .before .before .loop .at ≤ 1279
 at-le c =
@@ -51,20 +39,8 @@ at-le c =
     let l = c .before .before .before .before .loop in
     omega (arith, l .inv .2, place-le Quints (a .b) (l .i) (c .before .before .before .before .before .before .before .pre .2) (omega arith))
 
-mul-at : tie.Need-mul-at Inv-loop μ-loop
-mul-at c = omega arith
-
-add-at : tie.Need-add-at Inv-loop μ-loop
-add-at c = omega arith
-
 add-at-2 : tie.Need-add-at-2 Inv-loop μ-loop
 add-at-2 c = omega (arith, at-le c)
-
-add-i : tie.Need-add-i Inv-loop μ-loop
-add-i c = omega arith
-
-loop-less : tie.Need-loop-less Inv-loop μ-loop
-loop-less c = omega arith
 
 loop-again : tie.Need-loop-again Inv-loop μ-loop
 unfolding sequenceBits
@@ -81,9 +57,6 @@ loop-again c =
 
 last-quints-requires : tie.Need-last-quints-requires Inv-loop μ-loop
 last-quints-requires c κs = (omega arith, omega arith, omega arith, omega arith)
-
-append-requires-3 : tie.Need-append-requires-3 Inv-loop μ-loop
-append-requires-3 c κs = search needs
 
 returns : tie.Need-returns Inv-loop μ-loop
 returns c =
@@ -108,19 +81,19 @@ write-quints-spec =
     (tie.spec
     Inv-loop
     μ-loop
-    three-quints-requires
-    append-requires
+    (λ c κs. search needs)
+    (λ c κs. search needs)
     loop-holds
-    add-loop
+    (λ c. omega arith)
     three-quints-requires-2
-    append-requires-2
-    mul-at
-    add-at
+    (λ c κs. search needs)
+    (λ c. omega arith)
+    (λ c. omega arith)
     add-at-2
-    add-i
-    loop-less
+    (λ c. omega arith)
+    (λ c. omega arith)
     loop-again
     last-quints-requires
-    append-requires-3
+    (λ c κs. search needs)
     returns
     returns-2)

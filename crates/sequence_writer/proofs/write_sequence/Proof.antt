@@ -6,18 +6,6 @@ use borrow.Author.Needs.{needs}
 use Rattle.sequence_writer.proofs.write_sequence.Statement.{statement}
 use Rattle.sequence_writer.proofs.write_sequence.Tie as tie
 
-encoding-at-requires : tie.Need-encoding-at-requires
-encoding-at-requires c κs = search needs
-
-bits-at-requires : tie.Need-bits-at-requires
-bits-at-requires c κs = search needs
-
-cast-write : tie.Need-cast-write
-cast-write c = search needs
-
-smaller-requires : tie.Need-smaller-requires
-smaller-requires c κs = search needs
-
 write-requires : tie.Need-write-requires
 write-requires c κs =
     (omega (arith, c .smaller .ensures), omega arith, rw (c .before .bits-at .ensures) (bits-le (c .before .before .before .args .range)))
@@ -31,9 +19,9 @@ pub write-sequence-spec : {M : Type 1} → statement M
 write-sequence-spec =
     tie.close
     (tie.spec
-    encoding-at-requires
-    bits-at-requires
-    cast-write
-    smaller-requires
+    (λ c κs. search needs)
+    (λ c κs. search needs)
+    (λ c. search needs)
+    (λ c κs. search needs)
     write-requires
     returns)

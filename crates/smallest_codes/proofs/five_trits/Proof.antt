@@ -22,36 +22,6 @@ returns-4 c = let a = c .before .before .before .before .args in no-code Trits (
 returns-5 : tie.Need-returns-5
 returns-5 c = let a = c .before .before .before .before .before .args in no-code Trits (a .d0 ∷ a .d1 ∷ a .d2 ∷ a .d3 ∷ a .d4 ∷ []) 4 (omega arith) (omega arith) (omega arith)
 
-mul-at : tie.Need-mul-at
-mul-at c = search needs
-
-add-at : tie.Need-add-at
-add-at c = search needs
-
-mul-at-2 : tie.Need-mul-at-2
-mul-at-2 c = search needs
-
-add-at-2 : tie.Need-add-at-2
-add-at-2 c = search needs
-
-mul-at-3 : tie.Need-mul-at-3
-mul-at-3 c = search needs
-
-add-at-3 : tie.Need-add-at-3
-add-at-3 c = search needs
-
-mul-at-4 : tie.Need-mul-at-4
-mul-at-4 c = search needs
-
-add-at-4 : tie.Need-add-at-4
-add-at-4 c = search needs
-
-element-copy-out-wide : tie.Need-element-copy-out-wide
-element-copy-out-wide c = search needs
-
-wide-requires : tie.Need-wide-requires
-wide-requires c κs = search needs
-
 returns-6 : tie.Need-returns-6
 returns-6 c =
     let a = c .before .before .before .before .before .before .before .args in
@@ -67,14 +37,14 @@ five-trits-spec =
     returns-3
     returns-4
     returns-5
-    mul-at
-    add-at
-    mul-at-2
-    add-at-2
-    mul-at-3
-    add-at-3
-    mul-at-4
-    add-at-4
-    element-copy-out-wide
-    wide-requires
+    (λ c. search needs)
+    (λ c. search needs)
+    (λ c. search needs)
+    (λ c. search needs)
+    (λ c. search needs)
+    (λ c. search needs)
+    (λ c. search needs)
+    (λ c. search needs)
+    (λ c. search needs)
+    (λ c κs. search needs)
     returns-6)

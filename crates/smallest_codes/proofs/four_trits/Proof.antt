@@ -19,33 +19,6 @@ returns-3 c = let a = c .before .before .before .args in no-code Trits (a .d0 �
 returns-4 : tie.Need-returns-4
 returns-4 c = let a = c .before .before .before .before .args in no-code Trits (a .d0 ∷ a .d1 ∷ a .d2 ∷ a .d3 ∷ []) 3 (omega arith) (omega arith) (omega arith)
 
-four-trits-requires : tie.Need-four-trits-requires
-four-trits-requires c κs = search needs
-
-mul-at : tie.Need-mul-at
-mul-at c = search needs
-
-add-at : tie.Need-add-at
-add-at c = search needs
-
-mul-at-2 : tie.Need-mul-at-2
-mul-at-2 c = search needs
-
-add-at-2 : tie.Need-add-at-2
-add-at-2 c = search needs
-
-mul-at-3 : tie.Need-mul-at-3
-mul-at-3 c = search needs
-
-add-at-3 : tie.Need-add-at-3
-add-at-3 c = search needs
-
-array-read-wide : tie.Need-array-read-wide
-array-read-wide c = search needs
-
-wide-requires : tie.Need-wide-requires
-wide-requires c κs = search needs
-
 returns-5 : tie.Need-returns-5
 returns-5 c =
     let a = c .before .before .before .before .before .before .args in
@@ -60,13 +33,13 @@ four-trits-spec =
     returns-2
     returns-3
     returns-4
-    four-trits-requires
-    mul-at
-    add-at
-    mul-at-2
-    add-at-2
-    mul-at-3
-    add-at-3
-    array-read-wide
-    wide-requires
+    (λ c κs. search needs)
+    (λ c. search needs)
+    (λ c. search needs)
+    (λ c. search needs)
+    (λ c. search needs)
+    (λ c. search needs)
+    (λ c. search needs)
+    (λ c. search needs)
+    (λ c κs. search needs)
     returns-5)

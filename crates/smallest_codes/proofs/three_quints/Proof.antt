@@ -16,24 +16,6 @@ returns-2 c = let a = c .before .before .args in no-code Quints (a .d0 ∷ a .d1
 returns-3 : tie.Need-returns-3
 returns-3 c = let a = c .before .before .before .args in no-code Quints (a .d0 ∷ a .d1 ∷ a .d2 ∷ []) 2 (omega arith) (omega arith) (omega arith)
 
-mul-at : tie.Need-mul-at
-mul-at c = search needs
-
-add-at : tie.Need-add-at
-add-at c = search needs
-
-mul-at-2 : tie.Need-mul-at-2
-mul-at-2 c = search needs
-
-add-at-2 : tie.Need-add-at-2
-add-at-2 c = search needs
-
-element-copy-out-wide : tie.Need-element-copy-out-wide
-element-copy-out-wide c = search needs
-
-wide-requires : tie.Need-wide-requires
-wide-requires c κs = search needs
-
 returns-4 : tie.Need-returns-4
 returns-4 c =
     let a = c .before .before .before .before .before .args in
@@ -47,10 +29,10 @@ three-quints-spec =
     returns
     returns-2
     returns-3
-    mul-at
-    add-at
-    mul-at-2
-    add-at-2
-    element-copy-out-wide
-    wide-requires
+    (λ c. search needs)
+    (λ c. search needs)
+    (λ c. search needs)
+    (λ c. search needs)
+    (λ c. search needs)
+    (λ c κs. search needs)
     returns-4)

@@ -16,27 +16,6 @@ returns-2 c = let a = c .before .before .args in no-code Trits (a .d0 ∷ a .d1 
 returns-3 : tie.Need-returns-3
 returns-3 c = let a = c .before .before .before .args in no-code Trits (a .d0 ∷ a .d1 ∷ a .d2 ∷ []) 2 (omega arith) (omega arith) (omega arith)
 
-three-trits-requires : tie.Need-three-trits-requires
-three-trits-requires c κs = search needs
-
-mul-at : tie.Need-mul-at
-mul-at c = search needs
-
-add-at : tie.Need-add-at
-add-at c = search needs
-
-mul-at-2 : tie.Need-mul-at-2
-mul-at-2 c = search needs
-
-add-at-2 : tie.Need-add-at-2
-add-at-2 c = search needs
-
-array-read-wide : tie.Need-array-read-wide
-array-read-wide c = search needs
-
-wide-requires : tie.Need-wide-requires
-wide-requires c κs = search needs
-
 returns-4 : tie.Need-returns-4
 returns-4 c =
     let a = c .before .before .before .before .before .args in
@@ -50,11 +29,11 @@ three-trits-spec =
     returns
     returns-2
     returns-3
-    three-trits-requires
-    mul-at
-    add-at
-    mul-at-2
-    add-at-2
-    array-read-wide
-    wide-requires
+    (λ c κs. search needs)
+    (λ c. search needs)
+    (λ c. search needs)
+    (λ c. search needs)
+    (λ c. search needs)
+    (λ c. search needs)
+    (λ c κs. search needs)
     returns-4)

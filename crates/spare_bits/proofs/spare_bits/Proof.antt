@@ -4,30 +4,6 @@ use borrow.Author.Needs.{needs}
 use Rattle.spare_bits.proofs.spare_bits.Statement.{statement}
 use Rattle.spare_bits.proofs.spare_bits.Tie as tie
 
-clipped-weight-bits-requires : tie.Need-clipped-weight-bits-requires
-clipped-weight-bits-requires c κs = search needs
-
-component-bits-requires : tie.Need-component-bits-requires
-component-bits-requires c κs = search needs
-
-add-above : tie.Need-add-above
-add-above c = search needs
-
-extra-bits-requires : tie.Need-extra-bits-requires
-extra-bits-requires c κs = search needs
-
-add-above-2 : tie.Need-add-above-2
-add-above-2 c = search needs
-
-add-bits-left : tie.Need-add-bits-left
-add-bits-left c = search needs
-
-bits-left-requires : tie.Need-bits-left-requires
-bits-left-requires c κs = search needs
-
-cast-result : tie.Need-cast-result
-cast-result c = search needs
-
 returns : tie.Need-returns
 returns c =
     let x = c .before in
@@ -39,12 +15,12 @@ pub spare-bits-spec : {M : Type 1} → statement M
 spare-bits-spec =
     tie.close
     (tie.spec
-    clipped-weight-bits-requires
-    component-bits-requires
-    add-above
-    extra-bits-requires
-    add-above-2
-    add-bits-left
-    bits-left-requires
-    cast-result
+    (λ c κs. search needs)
+    (λ c κs. search needs)
+    (λ c. search needs)
+    (λ c κs. search needs)
+    (λ c. search needs)
+    (λ c. search needs)
+    (λ c κs. search needs)
+    (λ c. search needs)
     returns)

@@ -5,22 +5,13 @@ use borrow.Author.Needs.{needs}
 use Rattle.stallbrook_faults.proofs.stallbrook_astc_image_blocks.Statement.{statement}
 use Rattle.stallbrook_faults.proofs.stallbrook_astc_image_blocks.Tie as tie
 
-size-refusal-requires : tie.Need-size-refusal-requires
-size-refusal-requires c κs = search needs
-
 returns : tie.Need-returns
 unfolding imageBlocks
 returns c = rw (← c .before .size-refusal .ensures, ne-eqb _ _ (c .if1 .taken))
-
-blocks-of-requires : tie.Need-blocks-of-requires
-blocks-of-requires c κs = search needs
-
-cast-result : tie.Need-cast-result
-cast-result c = search needs
 
 returns-2 : tie.Need-returns-2
 unfolding imageBlocks
 returns-2 c = rw (← c .before .before .size-refusal .ensures, eq-eqb _ _ (c .before .if1 .left)) (c .blocks-of .ensures .0)
 
 pub stallbrook-astc-image-blocks-spec : {M : Type 1} → statement M
-stallbrook-astc-image-blocks-spec = tie.close (tie.spec size-refusal-requires returns blocks-of-requires cast-result returns-2)
+stallbrook-astc-image-blocks-spec = tie.close (tie.spec (λ c κs. search needs) returns (λ c κs. search needs) (λ c. search needs) returns-2)

@@ -13,15 +13,9 @@ use Rattle.stallbrook_faults.proofs.stallbrook_astc_image_numbers.Tie a
 most : (w h : ℕ) → badSide w ≡ false → badSide h ≡ false → h * w ≤ 268435456
 most w h a b = let l = limit-le in product-most h w (omega (arith, side-fine h b .1)) (omega (arith, side-fine w a .1))
 
-bad-side-requires : tie.Need-bad-side-requires
-bad-side-requires c κs = search needs
-
 returns : tie.Need-returns
 unfolding bufferNumbers
 returns c = rw (← c .before .bad-side .ensures, c .if1 .taken)
-
-bad-side-requires-2 : tie.Need-bad-side-requires-2
-bad-side-requires-2 c κs = search needs
 
 returns-2 : tie.Need-returns-2
 unfolding bufferNumbers
@@ -39,4 +33,4 @@ returns-3 c = rw (← c .before .before .before .bad-side .ensures, c .before .b
 
 pub stallbrook-astc-image-numbers-spec : {M : Type 1} → statement M
 stallbrook-astc-image-numbers-spec =
-    tie.close (tie.spec bad-side-requires returns bad-side-requires-2 returns-2 mul-result mul-result-2 returns-3)
+    tie.close (tie.spec (λ c κs. search needs) returns (λ c κs. search needs) returns-2 mul-result mul-result-2 returns-3)

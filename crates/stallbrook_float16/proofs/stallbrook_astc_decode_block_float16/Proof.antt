@@ -4,15 +4,6 @@ use borrow.Author.Needs.{needs}
 use Rattle.stallbrook_float16.proofs.stallbrook_astc_decode_block_float16.Statement.{statement}
 use Rattle.stallbrook_float16.proofs.stallbrook_astc_decode_block_float16.Tie as tie
 
-decode-float16-requires : tie.Need-decode-float16-requires
-decode-float16-requires c κs = search needs
-
-number-told-requires : tie.Need-number-told-requires
-number-told-requires c κs = search needs
-
-same-length : tie.Need-same-length
-same-length c = search needs
-
 returns : tie.Need-returns
 returns c =
     let d = c .before .before .before .decode-float16 .ensures in
@@ -20,4 +11,4 @@ returns c =
 
 pub stallbrook-astc-decode-block-float16-spec : {M : Type 1} → statement M
 stallbrook-astc-decode-block-float16-spec =
-    tie.close (tie.spec decode-float16-requires number-told-requires same-length returns)
+    tie.close (tie.spec (λ c κs. search needs) (λ c κs. search needs) (λ c. search needs) returns)

@@ -4,15 +4,6 @@ use borrow.Author.Needs.{needs}
 use Rattle.stallbrook_srgb8.proofs.stallbrook_astc_decode_block_srgb8.Statement.{statement}
 use Rattle.stallbrook_srgb8.proofs.stallbrook_astc_decode_block_srgb8.Tie as tie
 
-decode-srgb8-requires : tie.Need-decode-srgb8-requires
-decode-srgb8-requires c κs = search needs
-
-number-told-requires : tie.Need-number-told-requires
-number-told-requires c κs = search needs
-
-same-length : tie.Need-same-length
-same-length c = search needs
-
 returns : tie.Need-returns
 returns c =
     let d = c .before .before .before .decode-srgb8 .ensures in
@@ -20,4 +11,4 @@ returns c =
 
 pub stallbrook-astc-decode-block-srgb8-spec : {M : Type 1} → statement M
 stallbrook-astc-decode-block-srgb8-spec =
-    tie.close (tie.spec decode-srgb8-requires number-told-requires same-length returns)
+    tie.close (tie.spec (λ c κs. search needs) (λ c κs. search needs) (λ c. search needs) returns)

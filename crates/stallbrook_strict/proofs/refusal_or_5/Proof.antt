@@ -8,9 +8,6 @@ use borrow.Author.Needs.{needs}
 use Rattle.stallbrook_strict.proofs.refusal_or_5.Statement.{statement}
 use Rattle.stallbrook_strict.proofs.refusal_or_5.Tie as tie
 
-frame-refusal-requires : tie.Need-frame-refusal-requires
-frame-refusal-requires c κs = search needs
-
 five : (e f : ℕ) → e ≡ f → e ≡ 0 → 5 ≡ refusalOr5 f
 five e f q z = rw (eq-eqb f 0 (sym q ∙ z))
 
@@ -24,4 +21,4 @@ returns-2 : tie.Need-returns-2
 returns-2 c = same _ _ (c .before .frame-refusal .ensures) (c .if1 .left)
 
 pub refusal-or-5-spec : {M : Type 1} → statement M
-refusal-or-5-spec = tie.close (tie.spec frame-refusal-requires returns returns-2)
+refusal-or-5-spec = tie.close (tie.spec (λ c κs. search needs) returns returns-2)

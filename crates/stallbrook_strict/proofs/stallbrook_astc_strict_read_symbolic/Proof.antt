@@ -9,18 +9,6 @@ use Rattle.stallbrook_strict.proofs.stallbrook_astc_strict_read_symboli
 }
 use Rattle.stallbrook_strict.proofs.stallbrook_astc_strict_read_symbolic.Tie as tie
 
-read-strict-requires : tie.Need-read-strict-requires
-read-strict-requires c κs = search needs
-
-put-reading-requires : tie.Need-put-reading-requires
-put-reading-requires c κs = search needs
-
-same-length : tie.Need-same-length
-same-length c = search needs
-
-same-length-2 : tie.Need-same-length-2
-same-length-2 c = search needs
-
 returns : tie.Need-returns
 returns c =
     let d = c .before .before .before .before in
@@ -38,4 +26,4 @@ returns c =
 pub stallbrook-astc-strict-read-symbolic-spec : {M : Type 1} → statement M
 stallbrook-astc-strict-read-symbolic-spec =
     tie.close
-    (tie.spec read-strict-requires put-reading-requires same-length same-length-2 returns)
+    (tie.spec (λ c κs. search needs) (λ c κs. search needs) (λ c. search needs) (λ c. search needs) returns)

@@ -12,12 +12,6 @@ use borrow.Author.Needs.{needs}
 use Rattle.strict_block.proofs.canonical.Statement.{statement}
 use Rattle.strict_block.proofs.canonical.Tie as tie
 
-read-settings-requires : tie.Need-read-settings-requires
-read-settings-requires c κs = search needs
-
-enum-known-v : tie.Need-enum-known-v
-enum-known-v c = search needs
-
 returns : tie.Need-returns
 returns c =
     let r = c .before .before .before in
@@ -38,4 +32,4 @@ returns-2 c =
 
 pub canonical-spec : {M : Type 1} → statement M
 canonical-spec =
-    tie.close (tie.spec read-settings-requires enum-known-v returns written-requires returns-2)
+    tie.close (tie.spec (λ c κs. search needs) (λ c. search needs) returns written-requires returns-2)

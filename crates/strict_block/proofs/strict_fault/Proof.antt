@@ -11,12 +11,6 @@ use borrow.Author.Needs.{needs}
 use Rattle.strict_block.proofs.strict_fault.Statement.{statement}
 use Rattle.strict_block.proofs.strict_fault.Tie as tie
 
-read-settings-requires : tie.Need-read-settings-requires
-read-settings-requires c κs = search needs
-
-enum-known-v : tie.Need-enum-known-v
-enum-known-v c = search needs
-
 returns : tie.Need-returns
 returns c =
     let r = c .before .before .before in
@@ -28,9 +22,6 @@ none c n q = miss (0 ∷ 1 ∷ []) 2 tt (subst (λ (w : Verdict). OneOf (0 ∷ 1
 
 written-requires : tie.Need-written-requires
 written-requires c κs = read _ _ _ _ (c .before .read-settings .ensures) (none c) (c .before .before .pre .0)
-
-same-requires : tie.Need-same-requires
-same-requires c κs = search needs
 
 returns-2 : tie.Need-returns-2
 returns-2 c =
@@ -46,10 +37,10 @@ pub strict-fault-spec : {M : Type 1} → statement M
 strict-fault-spec =
     tie.close
     (tie.spec
-    read-settings-requires
-    enum-known-v
+    (λ c κs. search needs)
+    (λ c. search needs)
     returns
     written-requires
-    same-requires
+    (λ c κs. search needs)
     returns-2
     returns-3)

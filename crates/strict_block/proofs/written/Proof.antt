@@ -22,9 +22,6 @@ use borrow.Author.Needs.{needs}
 use Rattle.strict_block.proofs.written.Statement.{statement}
 use Rattle.strict_block.proofs.written.Tie as tie
 
-enum-told : tie.Need-enum-told
-enum-told c = search needs
-
 -- a block's number fits its bits
 fits : (c : tie.Start) → blockNumber (c .args .b) < 2 ^ 128
 unfolding blockNumber
@@ -60,4 +57,4 @@ returns-2 c = c .block-of .ensures ∙ ap (blockOf (c .before .before .before .a
 
 pub written-spec : {M : Type 1} → statement M
 written-spec =
-    tie.close (tie.spec enum-told returns mode-block-requires block-of-requires returns-2)
+    tie.close (tie.spec (λ c. search needs) returns mode-block-requires block-of-requires returns-2)

@@ -20,9 +20,6 @@ use borrow.Author.Needs.{needs}
 use Rattle.strict_reader.proofs.read_strict.Statement.{statement}
 use Rattle.strict_reader.proofs.read_strict.Tie as tie
 
-read-symbolic-requires : tie.Need-read-symbolic-requires
-read-symbolic-requires c κs = search needs
-
 answer-is : (r : tie.After-read-symbolic) → r .read-symbolic .result .answer ≡ readingOf (r .before .before .args .fp) (now (r .before .before .args .block)) .answer
 answer-is r = ap (λ (q : SymbolicReading). q .answer) (r .read-symbolic .ensures .0)
 
@@ -31,9 +28,6 @@ block-is r = ap (λ (q : SymbolicReading). q .block) (r .read-symbolic .ensures 
 
 facts : (c : tie.After-enum-told) → Read (c .before .before .before .before .args .fp) (now (c .before .before .before .before .args .block))
 facts c = read _ _ (sym (answer-is (c .before .before)) ∙ c .enum-told .given .1)
-
-enum-told : tie.Need-enum-told
-enum-told c = search needs
 
 returns : tie.Need-returns
 returns c =
@@ -46,12 +40,6 @@ returns c =
 
 block-of-requires : tie.Need-block-of-requires
 block-of-requires c κs = ap (refusalOf (c .before .before .before .before .args .fp)) (block-is (c .before .before)) ∙ acceptable _ _ (facts c)
-
-load-requires : tie.Need-load-requires
-load-requires c κs = search needs
-
-same-requires : tie.Need-same-requires
-same-requires c κs = search needs
 
 -- the two blocks that are compared
 loaded-is : (l : tie.After-load) → blockNumber (l .load .result) ≡ numberOf (now (l .before .before .before .before .before .before .args .block))
@@ -71,9 +59,6 @@ returns-2 c =
     let r = w .before .before .before in
     both-told Strict _ _ _ (r .read-symbolic .ensures .0 ∙ same-passes _ _ (facts (w .before)) _ _ (loaded-is l) (written-is w) (sym (c .if1 .taken) ∙ c .before .same .ensures))
 
-told-requires : tie.Need-told-requires
-told-requires c κs = search needs
-
 returns-3 : tie.Need-returns-3
 returns-3 c =
     let e = c .before in
@@ -85,12 +70,12 @@ pub read-strict-spec : {M : Type 1} → statement M
 read-strict-spec =
     tie.close
     (tie.spec
-    read-symbolic-requires
-    enum-told
+    (λ c κs. search needs)
+    (λ c. search needs)
     returns
     block-of-requires
-    load-requires
-    same-requires
+    (λ c κs. search needs)
+    (λ c κs. search needs)
     returns-2
-    told-requires
+    (λ c κs. search needs)
     returns-3)

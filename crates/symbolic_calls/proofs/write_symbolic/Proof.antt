@@ -5,18 +5,12 @@ use Rattle.symbolic_calls.proofs.Laws.{promised, told, stored}
 use Rattle.symbolic_calls.proofs.write_symbolic.Statement.{statement}
 use Rattle.symbolic_calls.proofs.write_symbolic.Tie as tie
 
-refusal-requires : tie.Need-refusal-requires
-refusal-requires c κs = search needs
-
 returns : tie.Need-returns
 unfolding tab
 returns c = let a = c .before .before .args in promised (a .fp) (a .s) _ (told (a .fp) (a .s) _ (c .before .refusal .ensures) (c .if1 .taken))
 
 block-of-requires : tie.Need-block-of-requires
 block-of-requires c κs = sym (c .before .refusal .ensures) ∙ c .if1 .left
-
-store-requires : tie.Need-store-requires
-store-requires c κs = search needs
 
 returns-2 : tie.Need-returns-2
 returns-2 c =
@@ -26,4 +20,4 @@ returns-2 c =
 
 pub write-symbolic-spec : {M : Type 1} → statement M
 write-symbolic-spec =
-    tie.close (tie.spec refusal-requires returns block-of-requires store-requires returns-2)
+    tie.close (tie.spec (λ c κs. search needs) returns block-of-requires (λ c κs. search needs) returns-2)

@@ -17,23 +17,8 @@ abbrev μ-loop : tie.MeasureT-loop
 loop-holds : tie.Need-loop-holds Inv-loop μ-loop
 loop-holds c = (omega arith, c .before .pre, filling-start _ 0 107 _ refl)
 
-mul-clipped : tie.Need-mul-clipped Inv-loop μ-loop
-mul-clipped c = omega arith
-
-shared-slice-read-clipped : tie.Need-shared-slice-read-clipped Inv-loop μ-loop
-shared-slice-read-clipped c = omega arith
-
-clipped-requires : tie.Need-clipped-requires Inv-loop μ-loop
-clipped-requires c κs = search needs
-
 array-write-out : tie.Need-array-write-out Inv-loop μ-loop
 array-write-out c = omega (arith, c .before .before .before .loop .inv .2 .size)
-
-add-i : tie.Need-add-i Inv-loop μ-loop
-add-i c = omega arith
-
-loop-less : tie.Need-loop-less Inv-loop μ-loop
-loop-less c = omega arith
 
 loop-again : tie.Need-loop-again Inv-loop μ-loop
 loop-again c = (omega arith, omega arith, filling-more _ 0 107 _ _ _ (omega arith) (c .before .before .before .loop .inv .2) (c .clipped .ensures))
@@ -49,11 +34,11 @@ clipped-numbers-spec =
     Inv-loop
     μ-loop
     loop-holds
-    mul-clipped
-    shared-slice-read-clipped
-    clipped-requires
+    (λ c. omega arith)
+    (λ c. omega arith)
+    (λ c κs. search needs)
     array-write-out
-    add-i
-    loop-less
+    (λ c. omega arith)
+    (λ c. omega arith)
     loop-again
     returns)

@@ -19,24 +19,6 @@ abbrev μ-loop : tie.MeasureT-loop
 loop-holds : tie.Need-loop-holds Inv-loop μ-loop
 loop-holds c = (omega arith, c .before .pre, refl)
 
-add-fits : tie.Need-add-fits Inv-loop μ-loop
-add-fits c = omega arith
-
-mul-fits : tie.Need-mul-fits Inv-loop μ-loop
-mul-fits c = omega arith
-
-shared-slice-read-fits : tie.Need-shared-slice-read-fits Inv-loop μ-loop
-shared-slice-read-fits c = omega arith
-
-fits-requires : tie.Need-fits-requires Inv-loop μ-loop
-fits-requires c κs = search needs
-
-add-i : tie.Need-add-i Inv-loop μ-loop
-add-i c = omega arith
-
-loop-less : tie.Need-loop-less Inv-loop μ-loop
-loop-less c = omega arith
-
 loop-again : tie.Need-loop-again Inv-loop μ-loop
 loop-again c = (omega arith, omega arith, rw (c .fits2 .ensures, c .before .before .before .loop .inv .2, add-one))
 
@@ -51,11 +33,11 @@ endpoints-fit-spec =
     Inv-loop
     μ-loop
     loop-holds
-    add-fits
-    mul-fits
-    shared-slice-read-fits
-    fits-requires
-    add-i
-    loop-less
+    (λ c. omega arith)
+    (λ c. omega arith)
+    (λ c. omega arith)
+    (λ c κs. search needs)
+    (λ c. omega arith)
+    (λ c. omega arith)
     loop-again
     returns)

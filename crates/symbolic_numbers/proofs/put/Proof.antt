@@ -37,25 +37,13 @@ settings-of-requires c κs = search needs
 loop-holds : tie.Need-loop-holds Inv-loop μ-loop Inv-loop2 μ-loop2 Inv-loop3 μ-loop3
 loop-holds c = (omega arith, laid-none 0 _ _, c .before .before .before .before .before .pre)
 
-mul-numbers : tie.Need-mul-numbers Inv-loop μ-loop Inv-loop2 μ-loop2 Inv-loop3 μ-loop3
-mul-numbers c = omega arith
-
 array-read-numbers :
     tie.Need-array-read-numbers Inv-loop μ-loop Inv-loop2 μ-loop2 Inv-loop3 μ-loop3
 array-read-numbers c = omega arith
 
-mul-numbers-2 : tie.Need-mul-numbers-2 Inv-loop μ-loop Inv-loop2 μ-loop2 Inv-loop3 μ-loop3
-mul-numbers-2 c = omega arith
-
 slice-write-numbers :
     tie.Need-slice-write-numbers Inv-loop μ-loop Inv-loop2 μ-loop2 Inv-loop3 μ-loop3
 slice-write-numbers c = omega (arith, c .before .loop .inv .2)
-
-add-i : tie.Need-add-i Inv-loop μ-loop Inv-loop2 μ-loop2 Inv-loop3 μ-loop3
-add-i c = omega arith
-
-loop-less : tie.Need-loop-less Inv-loop μ-loop Inv-loop2 μ-loop2 Inv-loop3 μ-loop3
-loop-less c = omega arith
 
 loop-again : tie.Need-loop-again Inv-loop μ-loop Inv-loop2 μ-loop2 Inv-loop3 μ-loop3
 loop-again c = let l = c .before .loop in (omega arith, laid-more 0 (l .i) (l .i) _ _ (l .numbers) (omega arith) (omega (arith, l .inv .2)) (l .inv .1) refl, length-set (l .numbers) (l .i) _ ∙ l .inv .2)
@@ -63,27 +51,9 @@ loop-again c = let l = c .before .loop in (omega arith, laid-more 0 (l .i) (l .i
 loop2-holds : tie.Need-loop2-holds Inv-loop μ-loop Inv-loop2 μ-loop2 Inv-loop3 μ-loop3
 loop2-holds c = (omega arith, laid-none 21 _ _, c .before .loop .inv .2)
 
-array-copy-out-v : tie.Need-array-copy-out-v Inv-loop μ-loop Inv-loop2 μ-loop2 Inv-loop3 μ-loop3
-array-copy-out-v c = omega arith
-
-wide-requires : tie.Need-wide-requires Inv-loop μ-loop Inv-loop2 μ-loop2 Inv-loop3 μ-loop3
-wide-requires c κs = search needs
-
-add-numbers : tie.Need-add-numbers Inv-loop μ-loop Inv-loop2 μ-loop2 Inv-loop3 μ-loop3
-add-numbers c = omega arith
-
-mul-numbers-3 : tie.Need-mul-numbers-3 Inv-loop μ-loop Inv-loop2 μ-loop2 Inv-loop3 μ-loop3
-mul-numbers-3 c = omega arith
-
 slice-write-numbers-2 :
     tie.Need-slice-write-numbers-2 Inv-loop μ-loop Inv-loop2 μ-loop2 Inv-loop3 μ-loop3
 slice-write-numbers-2 c = omega (arith, c .before .before .before .loop2 .inv .2)
-
-add-j : tie.Need-add-j Inv-loop μ-loop Inv-loop2 μ-loop2 Inv-loop3 μ-loop3
-add-j c = omega arith
-
-loop2-less : tie.Need-loop2-less Inv-loop μ-loop Inv-loop2 μ-loop2 Inv-loop3 μ-loop3
-loop2-less c = omega arith
 
 loop2-again : tie.Need-loop2-again Inv-loop μ-loop Inv-loop2 μ-loop2 Inv-loop3 μ-loop3
 loop2-again c = let l = c .before .before .before .loop2 in (omega arith, laid-more 21 (l .j) (21 + l .j) _ _ (l .numbers) refl (omega (arith, l .inv .2)) (l .inv .1) (c .wide .ensures), length-set (l .numbers) (21 + l .j) _ ∙ l .inv .2)
@@ -91,27 +61,9 @@ loop2-again c = let l = c .before .before .before .loop2 in (omega arith, laid-m
 loop3-holds : tie.Need-loop3-holds Inv-loop μ-loop Inv-loop2 μ-loop2 Inv-loop3 μ-loop3
 loop3-holds c = (omega arith, laid-none 39 _ _, c .before .loop2 .inv .2)
 
-array-copy-out-w : tie.Need-array-copy-out-w Inv-loop μ-loop Inv-loop2 μ-loop2 Inv-loop3 μ-loop3
-array-copy-out-w c = omega arith
-
-wide-requires-2 : tie.Need-wide-requires-2 Inv-loop μ-loop Inv-loop2 μ-loop2 Inv-loop3 μ-loop3
-wide-requires-2 c κs = search needs
-
-add-numbers-2 : tie.Need-add-numbers-2 Inv-loop μ-loop Inv-loop2 μ-loop2 Inv-loop3 μ-loop3
-add-numbers-2 c = omega arith
-
-mul-numbers-4 : tie.Need-mul-numbers-4 Inv-loop μ-loop Inv-loop2 μ-loop2 Inv-loop3 μ-loop3
-mul-numbers-4 c = omega arith
-
 slice-write-numbers-3 :
     tie.Need-slice-write-numbers-3 Inv-loop μ-loop Inv-loop2 μ-loop2 Inv-loop3 μ-loop3
 slice-write-numbers-3 c = omega (arith, c .before .before .before .loop3 .inv .2)
-
-add-k : tie.Need-add-k Inv-loop μ-loop Inv-loop2 μ-loop2 Inv-loop3 μ-loop3
-add-k c = omega arith
-
-loop3-less : tie.Need-loop3-less Inv-loop μ-loop Inv-loop2 μ-loop2 Inv-loop3 μ-loop3
-loop3-less c = omega arith
 
 loop3-again : tie.Need-loop3-again Inv-loop μ-loop Inv-loop2 μ-loop2 Inv-loop3 μ-loop3
 loop3-again c = let l = c .before .before .before .loop3 in (omega arith, laid-more 39 (l .k) (39 + l .k) _ _ (l .numbers) refl (omega (arith, l .inv .2)) (l .inv .1) (c .wide2 .ensures), length-set (l .numbers) (39 + l .k) _ ∙ l .inv .2)
@@ -174,30 +126,30 @@ put-spec =
     μ-loop3
     settings-of-requires
     loop-holds
-    mul-numbers
+    (λ c. omega arith)
     array-read-numbers
-    mul-numbers-2
+    (λ c. omega arith)
     slice-write-numbers
-    add-i
-    loop-less
+    (λ c. omega arith)
+    (λ c. omega arith)
     loop-again
     loop2-holds
-    array-copy-out-v
-    wide-requires
-    add-numbers
-    mul-numbers-3
+    (λ c. omega arith)
+    (λ c κs. search needs)
+    (λ c. omega arith)
+    (λ c. omega arith)
     slice-write-numbers-2
-    add-j
-    loop2-less
+    (λ c. omega arith)
+    (λ c. omega arith)
     loop2-again
     loop3-holds
-    array-copy-out-w
-    wide-requires-2
-    add-numbers-2
-    mul-numbers-4
+    (λ c. omega arith)
+    (λ c κs. search needs)
+    (λ c. omega arith)
+    (λ c. omega arith)
     slice-write-numbers-3
-    add-k
-    loop3-less
+    (λ c. omega arith)
+    (λ c. omega arith)
     loop3-again
     wide-requires-3
     slice-write-numbers-4

@@ -16,17 +16,8 @@ abbrev μ-loop : tie.MeasureT-loop
 loop-holds : tie.Need-loop-holds Inv-loop μ-loop
 loop-holds c = (omega arith, filling-start _ 0 16 _ (c .pre))
 
-array-read-block : tie.Need-array-read-block Inv-loop μ-loop
-array-read-block c = search needs
-
 slice-write-block : tie.Need-slice-write-block Inv-loop μ-loop
 slice-write-block c = omega (arith, c .before .loop .inv .1 .size)
-
-add-i : tie.Need-add-i Inv-loop μ-loop
-add-i c = omega arith
-
-loop-less : tie.Need-loop-less Inv-loop μ-loop
-loop-less c = omega arith
 
 loop-again : tie.Need-loop-again Inv-loop μ-loop
 loop-again c = (omega arith, filling-more _ 0 16 _ _ _ (omega arith) (c .before .loop .inv .1) refl)
@@ -44,10 +35,10 @@ put-block-spec =
     Inv-loop
     μ-loop
     loop-holds
-    array-read-block
+    (λ c. search needs)
     slice-write-block
-    add-i
-    loop-less
+    (λ c. omega arith)
+    (λ c. omega arith)
     loop-again
     same-length
     returns)

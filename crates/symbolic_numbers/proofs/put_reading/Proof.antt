@@ -6,9 +6,6 @@ use borrow.Author.Needs.{needs}
 use Rattle.symbolic_numbers.proofs.put_reading.Statement.{statement}
 use Rattle.symbolic_numbers.proofs.put_reading.Tie as tie
 
-refused-or-5-requires : tie.Need-refused-or-5-requires
-refused-or-5-requires c κs = search needs
-
 returns : tie.Need-returns
 returns c =
     let k = c .before .before in
@@ -22,9 +19,6 @@ returns c =
       ),
     )
 
-refused-or-5-requires-2 : tie.Need-refused-or-5-requires-2
-refused-or-5-requires-2 c κs = search needs
-
 returns-2 : tie.Need-returns-2
 returns-2 c =
     let k = c .before .before .before in
@@ -37,21 +31,6 @@ returns-2 c =
         spare-kept (st .reading) (now (st .numbers)) (now (st .spare)) h,
       ),
     )
-
-put-requires : tie.Need-put-requires
-put-requires c κs = search needs
-
-put-spare-requires : tie.Need-put-spare-requires
-put-spare-requires c κs = search needs
-
-number-told-requires : tie.Need-number-told-requires
-number-told-requires c κs = search needs
-
-same-length : tie.Need-same-length
-same-length c = search needs
-
-same-length-2 : tie.Need-same-length-2
-same-length-2 c = search needs
 
 returns-3 : tie.Need-returns-3
 returns-3 c =
@@ -75,13 +54,13 @@ pub put-reading-spec : {M : Type 1} → statement M
 put-reading-spec =
     tie.close
     (tie.spec
-    refused-or-5-requires
+    (λ c κs. search needs)
     returns
-    refused-or-5-requires-2
+    (λ c κs. search needs)
     returns-2
-    put-requires
-    put-spare-requires
-    number-told-requires
-    same-length
-    same-length-2
+    (λ c κs. search needs)
+    (λ c κs. search needs)
+    (λ c κs. search needs)
+    (λ c. search needs)
+    (λ c. search needs)
     returns-3)

@@ -12,15 +12,6 @@ use borrow.Author.Needs.{needs}
 use Rattle.symbolic_numbers.proofs.writing_of.Statement.{statement}
 use Rattle.symbolic_numbers.proofs.writing_of.Tie as tie
 
-block-from-requires : tie.Need-block-from-requires
-block-from-requires c κs = search needs
-
-write-symbolic-requires : tie.Need-write-symbolic-requires
-write-symbolic-requires c κs = search needs
-
-endpoints-fit-requires : tie.Need-endpoints-fit-requires
-endpoints-fit-requires c κs = search needs
-
 returns : tie.Need-returns
 returns c =
     let w = c .before .before in
@@ -29,12 +20,6 @@ returns c =
     w .write-symbolic .ensures .0
     ∙ ap (writingOf (a .footprint)) (w .before .block-from .ensures ∙ from-clipped ns)
     ∙ written-clipped (a .footprint) (blockFrom ns) (from-sized ns) (sym (from-fits ns) ∙ sym (c .before .endpoints-fit .ensures) ∙ c .if1 .taken)
-
-number-told-requires : tie.Need-number-told-requires
-number-told-requires c κs = search needs
-
-or-34-requires : tie.Need-or-34-requires
-or-34-requires c κs = search needs
 
 returns-2 : tie.Need-returns-2
 unfolding tab tabFrom
@@ -52,10 +37,10 @@ pub writing-of-spec : {M : Type 1} → statement M
 writing-of-spec =
     tie.close
     (tie.spec
-    block-from-requires
-    write-symbolic-requires
-    endpoints-fit-requires
+    (λ c κs. search needs)
+    (λ c κs. search needs)
+    (λ c κs. search needs)
     returns
-    number-told-requires
-    or-34-requires
+    (λ c κs. search needs)
+    (λ c κs. search needs)
     returns-2)

@@ -5,15 +5,6 @@ use borrow.Author.Needs.{needs}
 use Rattle.symbolic_reader.proofs.colour.Statement.{statement}
 use Rattle.symbolic_reader.proofs.colour.Tie as tie
 
-mul-field-at : tie.Need-mul-field-at
-mul-field-at c = search needs
-
-add-field-at : tie.Need-add-field-at
-add-field-at c = search needs
-
-field-at-requires : tie.Need-field-at-requires
-field-at-requires c κs = search needs
-
 cast-result : tie.Need-cast-result
 cast-result c = omega (arith, narrow _ _ 16 16 (omega arith) (omega arith) (c .field-at .ensures) .below)
 
@@ -22,4 +13,4 @@ unfolding colourAt
 returns c = c .field-at .ensures
 
 pub colour-spec : {M : Type 1} → statement M
-colour-spec = tie.close (tie.spec mul-field-at add-field-at field-at-requires cast-result returns)
+colour-spec = tie.close (tie.spec (λ c. search needs) (λ c. search needs) (λ c κs. search needs) cast-result returns)

@@ -16,18 +16,6 @@ abbrev μ-loop : tie.MeasureT-loop
 loop-holds : tie.Need-loop-holds Inv-loop μ-loop
 loop-holds c = (omega arith, filling-start _ (stored 0) 18 _ refl)
 
-array-copy-out-out : tie.Need-array-copy-out-out Inv-loop μ-loop
-array-copy-out-out c = omega arith
-
-array-set-from-out : tie.Need-array-set-from-out Inv-loop μ-loop
-array-set-from-out c = omega arith
-
-add-i : tie.Need-add-i Inv-loop μ-loop
-add-i c = omega arith
-
-loop-less : tie.Need-loop-less Inv-loop μ-loop
-loop-less c = omega arith
-
 loop-again : tie.Need-loop-again Inv-loop μ-loop
 loop-again c = (omega arith, filling-more _ (stored 0) 18 _ _ _ (omega arith) (c .before .before .loop .inv .1) refl)
 
@@ -41,9 +29,9 @@ first-18-spec =
     Inv-loop
     μ-loop
     loop-holds
-    array-copy-out-out
-    array-set-from-out
-    add-i
-    loop-less
+    (λ c. omega arith)
+    (λ c. omega arith)
+    (λ c. omega arith)
+    (λ c. omega arith)
     loop-again
     returns)

@@ -5,18 +5,6 @@ use borrow.Author.Needs.{needs}
 use Rattle.symbolic_reader.proofs.weights.Statement.{statement}
 use Rattle.symbolic_reader.proofs.weights.Tie as tie
 
-weight-count-requires : tie.Need-weight-count-requires
-weight-count-requires c κs = search needs
-
-cast-n : tie.Need-cast-n
-cast-n c = search needs
-
-reversed-requires : tie.Need-reversed-requires
-reversed-requires c κs = search needs
-
-read-sequence-requires : tie.Need-read-sequence-requires
-read-sequence-requires c κs = search needs
-
 returns : tie.Need-returns
 unfolding weightAt
 returns c =
@@ -28,4 +16,4 @@ returns c =
 pub weights-spec : {M : Type 1} → statement M
 weights-spec =
     tie.close
-    (tie.spec weight-count-requires cast-n reversed-requires read-sequence-requires returns)
+    (tie.spec (λ c κs. search needs) (λ c. search needs) (λ c κs. search needs) (λ c κs. search needs) returns)

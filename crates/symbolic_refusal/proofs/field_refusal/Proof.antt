@@ -6,33 +6,6 @@ use borrow.Author.Needs.{needs}
 use Rattle.symbolic_refusal.proofs.field_refusal.Statement.{statement}
 use Rattle.symbolic_refusal.proofs.field_refusal.Tie as tie
 
-unknown-footprint-requires : tie.Need-unknown-footprint-requires
-unknown-footprint-requires c κs = search needs
-
-told-requires : tie.Need-told-requires
-told-requires c κs = search needs
-
-bad-fields-requires : tie.Need-bad-fields-requires
-bad-fields-requires c κs = search needs
-
-told-requires-2 : tie.Need-told-requires-2
-told-requires-2 c κs = search needs
-
-grid-of-requires : tie.Need-grid-of-requires
-grid-of-requires c κs = search needs
-
-no-block-mode-requires : tie.Need-no-block-mode-requires
-no-block-mode-requires c κs = search needs
-
-told-requires-3 : tie.Need-told-requires-3
-told-requires-3 c κs = search needs
-
-first-requires : tie.Need-first-requires
-first-requires c κs = search needs
-
-first-requires-2 : tie.Need-first-requires-2
-first-requires-2 c κs = search needs
-
 returns : tie.Need-returns
 unfolding fieldReasons
 returns c =
@@ -44,13 +17,13 @@ pub field-refusal-spec : {M : Type 1} → statement M
 field-refusal-spec =
     tie.close
     (tie.spec
-    unknown-footprint-requires
-    told-requires
-    bad-fields-requires
-    told-requires-2
-    grid-of-requires
-    no-block-mode-requires
-    told-requires-3
-    first-requires
-    first-requires-2
+    (λ c κs. search needs)
+    (λ c κs. search needs)
+    (λ c κs. search needs)
+    (λ c κs. search needs)
+    (λ c κs. search needs)
+    (λ c κs. search needs)
+    (λ c κs. search needs)
+    (λ c κs. search needs)
+    (λ c κs. search needs)
     returns)

@@ -9,14 +9,8 @@ use Rattle.symbolic_refusal.proofs.mode_at.Tie as tie
 past : (c : tie.Else1) → length (c .before .args .t1) ≤ c .before .args .p
 past c = let l : length (c .before .args .t1) ≡ 4 = search needs in omega arith
 
-array-read-result : tie.Need-array-read-result
-array-read-result c = search needs
-
-returns : tie.Need-returns
-returns c = search needs
-
 returns-2 : tie.Need-returns-2
 returns-2 c = sym (List·getD-eq-default (c .before .args .t1) 0 {n = c .before .args .p} (past c))
 
 pub mode-at-spec : {M : Type 1} → statement M
-mode-at-spec = tie.close (tie.spec array-read-result returns returns-2)
+mode-at-spec = tie.close (tie.spec (λ c. search needs) (λ c. search needs) returns-2)

@@ -5,16 +5,10 @@ use borrow.Author.Needs.{needs}
 use Rattle.symbolic_refusal.proofs.refusal.Statement.{statement}
 use Rattle.symbolic_refusal.proofs.refusal.Tie as tie
 
-void-refusal-requires : tie.Need-void-refusal-requires
-void-refusal-requires c κs = search needs
-
 returns : tie.Need-returns
 returns c =
     let a = c .before .before .before .args in
     c .void-refusal .ensures ∙ sym (refusal-is (a .fp) (a .s) ∙ ap firstOf (refusals-void (a .s) (c .before .if1 .taken) (a .fp)))
-
-mode-refusal-requires : tie.Need-mode-refusal-requires
-mode-refusal-requires c κs = search needs
 
 returns-2 : tie.Need-returns-2
 returns-2 c =
@@ -22,4 +16,4 @@ returns-2 c =
     c .mode-refusal .ensures ∙ sym (refusal-is (a .fp) (a .s) ∙ ap firstOf (refusals-mode (a .s) (c .before .if1 .left) (a .fp)))
 
 pub refusal-spec : {M : Type 1} → statement M
-refusal-spec = tie.close (tie.spec void-refusal-requires returns mode-refusal-requires returns-2)
+refusal-spec = tie.close (tie.spec (λ c κs. search needs) returns (λ c κs. search needs) returns-2)

@@ -18,24 +18,6 @@ loop-holds : tie.Need-loop-holds Inv-loop μ-loop
 unfolding within
 loop-holds c = (omega arith, refl)
 
-mul-both : tie.Need-mul-both Inv-loop μ-loop
-mul-both c = omega arith
-
-array-read-both : tie.Need-array-read-both Inv-loop μ-loop
-array-read-both c = omega arith
-
-most-by-requires : tie.Need-most-by-requires Inv-loop μ-loop
-most-by-requires c κs = search needs
-
-both-requires : tie.Need-both-requires Inv-loop μ-loop
-both-requires c κs = search needs
-
-add-i : tie.Need-add-i Inv-loop μ-loop
-add-i c = omega arith
-
-loop-less : tie.Need-loop-less Inv-loop μ-loop
-loop-less c = omega arith
-
 loop-again : tie.Need-loop-again Inv-loop μ-loop
 unfolding within
 loop-again c = (omega arith, rw (c .both .ensures, c .before .most-by .ensures, c .before .before .before .loop .inv .1, add-one))
@@ -50,11 +32,11 @@ six-within-spec =
     Inv-loop
     μ-loop
     loop-holds
-    mul-both
-    array-read-both
-    most-by-requires
-    both-requires
-    add-i
-    loop-less
+    (λ c. omega arith)
+    (λ c. omega arith)
+    (λ c κs. search needs)
+    (λ c κs. search needs)
+    (λ c. omega arith)
+    (λ c. omega arith)
     loop-again
     returns)

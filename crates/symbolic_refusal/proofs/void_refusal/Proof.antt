@@ -9,30 +9,6 @@ use borrow.Author.Needs.{needs}
 use Rattle.symbolic_refusal.proofs.void_refusal.Statement.{statement}
 use Rattle.symbolic_refusal.proofs.void_refusal.Tie as tie
 
-unknown-footprint-requires : tie.Need-unknown-footprint-requires
-unknown-footprint-requires c κs = search needs
-
-told-requires : tie.Need-told-requires
-told-requires c κs = search needs
-
-bad-void-fields-requires : tie.Need-bad-void-fields-requires
-bad-void-fields-requires c κs = search needs
-
-told-requires-2 : tie.Need-told-requires-2
-told-requires-2 c κs = search needs
-
-bad-extents-requires : tie.Need-bad-extents-requires
-bad-extents-requires c κs = search needs
-
-told-requires-3 : tie.Need-told-requires-3
-told-requires-3 c κs = search needs
-
-first-requires : tie.Need-first-requires
-first-requires c κs = search needs
-
-first-requires-2 : tie.Need-first-requires-2
-first-requires-2 c κs = search needs
-
 returns : tie.Need-returns
 unfolding voidStages
 returns c =
@@ -45,12 +21,12 @@ pub void-refusal-spec : {M : Type 1} → statement M
 void-refusal-spec =
     tie.close
     (tie.spec
-    unknown-footprint-requires
-    told-requires
-    bad-void-fields-requires
-    told-requires-2
-    bad-extents-requires
-    told-requires-3
-    first-requires
-    first-requires-2
+    (λ c κs. search needs)
+    (λ c κs. search needs)
+    (λ c κs. search needs)
+    (λ c κs. search needs)
+    (λ c κs. search needs)
+    (λ c κs. search needs)
+    (λ c κs. search needs)
+    (λ c κs. search needs)
     returns)

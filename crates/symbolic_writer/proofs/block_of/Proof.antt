@@ -6,9 +6,6 @@ use Rattle.symbolic_writer.proofs.Accepted.{packable, mode-piled, void-
 use Rattle.symbolic_writer.proofs.block_of.Statement.{statement}
 use Rattle.symbolic_writer.proofs.block_of.Tie as tie
 
-void-block-requires : tie.Need-void-block-requires
-void-block-requires c κs = search needs
-
 sized : (c : tie.Start) → Sized (c .args .s)
 sized c = record {
   colours-4 = search needs;
@@ -28,4 +25,4 @@ returns-2 : tie.Need-returns-2
 returns-2 c = let z = c .before .before .before in c .mode-block .ensures ∙ mode-piled (z .args .fp) (z .args .s) (z .pre) (c .before .if1 .left) (sized z)
 
 pub block-of-spec : {M : Type 1} → statement M
-block-of-spec = tie.close (tie.spec (λ c κs. search needs) void-block-requires returns mode-block-requires returns-2)
+block-of-spec = tie.close (tie.spec (λ c κs. search needs) (λ c κs. search needs) returns mode-block-requires returns-2)

@@ -11,17 +11,8 @@ use Rattle.symbolic_writer.proofs.mode_block.Statement.{statement}
 use Rattle.symbolic_writer.proofs.mode_block.Tie as tie
 use borrow.Author.Needs.{needs}
 
-header-of-requires : tie.Need-header-of-requires
-header-of-requires c κs = search needs
-
 modes-code-requires : tie.Need-modes-code-requires
 modes-code-requires c κs = rw (c .before .header-of .ensures) (c .before .before .pre .partitions-most)
-
-endpoint-count-requires : tie.Need-endpoint-count-requires
-endpoint-count-requires c κs = search needs
-
-endpoint-range-of-requires : tie.Need-endpoint-range-of-requires
-endpoint-range-of-requires c κs = search needs
 
 settings-requires : tie.Need-settings-requires
 settings-requires c κs = (c .before .before .before .before .before .pre, c .before .before .modes-code .ensures ∙ ap modesCode (c .before .before .before .before .header-of .ensures))
@@ -43,33 +34,6 @@ with-endpoints-requires c κs = (c .before .before .before .before .before .befo
 endpoints-end-requires : tie.Need-endpoints-end-requires
 endpoints-end-requires c κs = (c .before .before .before .endpoint-count .ensures .0, c .before .before .endpoint-range-of .ensures, counted (c .before .before) .2)
 
-append-requires : tie.Need-append-requires
-append-requires c κs = search needs
-
-component-from-requires : tie.Need-component-from-requires
-component-from-requires c κs = search needs
-
-wide-requires : tie.Need-wide-requires
-wide-requires c κs = search needs
-
-append-requires-2 : tie.Need-append-requires-2
-append-requires-2 c κs = search needs
-
-extra-from-requires : tie.Need-extra-from-requires
-extra-from-requires c κs = search needs
-
-append-requires-3 : tie.Need-append-requires-3
-append-requires-3 c κs = search needs
-
-weights-from-requires : tie.Need-weights-from-requires
-weights-from-requires c κs = search needs
-
-weights-of-requires : tie.Need-weights-of-requires
-weights-of-requires c κs = search needs
-
-with-block-requires : tie.Need-with-block-requires
-with-block-requires c κs = search needs
-
 returns : tie.Need-returns
 unfolding piled modeCells
 returns c =
@@ -88,21 +52,21 @@ pub mode-block-spec : {M : Type 1} → statement M
 mode-block-spec =
     tie.close
     (tie.spec
-    header-of-requires
+    (λ c κs. search needs)
     modes-code-requires
-    endpoint-count-requires
-    endpoint-range-of-requires
+    (λ c κs. search needs)
+    (λ c κs. search needs)
     settings-requires
     cast-with-endpoints
     with-endpoints-requires
     endpoints-end-requires
-    append-requires
-    component-from-requires
-    wide-requires
-    append-requires-2
-    extra-from-requires
-    append-requires-3
-    weights-from-requires
-    weights-of-requires
-    with-block-requires
+    (λ c κs. search needs)
+    (λ c κs. search needs)
+    (λ c κs. search needs)
+    (λ c κs. search needs)
+    (λ c κs. search needs)
+    (λ c κs. search needs)
+    (λ c κs. search needs)
+    (λ c κs. search needs)
+    (λ c κs. search needs)
     returns)

@@ -18,9 +18,6 @@ Inv-loop modes selector count classes₀ lows₀ i₀ classes lows i =
 abbrev μ-loop : tie.MeasureT-loop
 μ-loop modes selector count classes₀ lows₀ i₀ classes lows i = count - i
 
-array-read-wide : tie.Need-array-read-wide Inv-loop μ-loop
-array-read-wide c = omega arith
-
 wide-requires : tie.Need-wide-requires Inv-loop μ-loop
 wide-requires c κs = tt
 
@@ -28,18 +25,9 @@ returns : tie.Need-returns Inv-loop μ-loop
 unfolding modesCode
 returns c = c .wide .ensures .0 ∙ rw (eq-eqb _ _ (c .before .if1 .taken))
 
-cast-count : tie.Need-cast-count Inv-loop μ-loop
-cast-count c = omega arith
-
 loop-holds : tie.Need-loop-holds Inv-loop μ-loop
 unfolding stream
 loop-holds c = (omega arith, refl, refl, omega arith, omega arith)
-
-cast-wide : tie.Need-cast-wide Inv-loop μ-loop
-cast-wide c = omega arith
-
-array-read-wide-2 : tie.Need-array-read-wide-2 Inv-loop μ-loop
-array-read-wide-2 c = omega arith
 
 wide-requires-2 : tie.Need-wide-requires-2 Inv-loop μ-loop
 wide-requires-2 c κs = tt
@@ -47,20 +35,11 @@ wide-requires-2 c κs = tt
 class-bit-requires : tie.Need-class-bit-requires Inv-loop μ-loop
 class-bit-requires c κs = omega (arith, c .wide2 .ensures .1)
 
-power-requires : tie.Need-power-requires Inv-loop μ-loop
-power-requires c κs = omega arith
-
 mul-classes : tie.Need-mul-classes Inv-loop μ-loop
 mul-classes c = omega (arith, mul-le-mul {n₂ = 1} {m₂ = 256} (c .before .class-bit .ensures .1) (c .power .ensures .1))
 
 add-classes : tie.Need-add-classes Inv-loop μ-loop
 add-classes c = omega (arith, mul-le-mul {n₂ = 1} {m₂ = 256} (c .before .class-bit .ensures .1) (c .power .ensures .1))
-
-mul-power : tie.Need-mul-power Inv-loop μ-loop
-mul-power c = omega arith
-
-power-requires-2 : tie.Need-power-requires-2 Inv-loop μ-loop
-power-requires-2 c κs = omega arith
 
 low-most : (c : tie.After-power2 Inv-loop μ-loop) → c .before .before .before .wide2 .result % 4 * c .power2 .result ≤ 3 * 256
 low-most c = mul-le-mul {n₂ = 3} {m₂ = 256} (omega arith) (c .power2 .ensures .1)
@@ -70,12 +49,6 @@ mul-lows c = omega (arith, low-most c)
 
 add-lows : tie.Need-add-lows Inv-loop μ-loop
 add-lows c = omega (arith, low-most c)
-
-add-i : tie.Need-add-i Inv-loop μ-loop
-add-i c = omega arith
-
-loop-less : tie.Need-loop-less Inv-loop μ-loop
-loop-less c = omega arith
 
 loop-again : tie.Need-loop-again Inv-loop μ-loop
 unfolding stream
@@ -88,9 +61,6 @@ loop-again c =
       omega (arith, mul-le-mul {n₂ = 1} {m₂ = 256} (c .before .before .class-bit .ensures .1) (c .before .power .ensures .1)),
       omega (arith, low-most c),
     )
-
-power-requires-3 : tie.Need-power-requires-3 Inv-loop μ-loop
-power-requires-3 c κs = omega arith
 
 high-most : (c : tie.After-power3 Inv-loop μ-loop) → c .before .before .loop .lows * c .power3 .result ≤ 3072 * 256
 high-most c = mul-le-mul {n₂ = 3072} {m₂ = 256} (omega arith) (c .power3 .ensures .1)
@@ -115,26 +85,26 @@ modes-code-spec =
     (tie.spec
     Inv-loop
     μ-loop
-    array-read-wide
+    (λ c. omega arith)
     wide-requires
     returns
-    cast-count
+    (λ c. omega arith)
     loop-holds
-    cast-wide
-    array-read-wide-2
+    (λ c. omega arith)
+    (λ c. omega arith)
     wide-requires-2
     class-bit-requires
-    power-requires
+    (λ c κs. omega arith)
     mul-classes
     add-classes
-    mul-power
-    power-requires-2
+    (λ c. omega arith)
+    (λ c κs. omega arith)
     mul-lows
     add-lows
-    add-i
-    loop-less
+    (λ c. omega arith)
+    (λ c. omega arith)
     loop-again
-    power-requires-3
+    (λ c κs. omega arith)
     mul-result
     add-result
     returns-2)

@@ -6,9 +6,6 @@ use borrow.Author.Needs.{needs}
 use Rattle.symbolic_writer.proofs.power.Statement.{statement}
 use Rattle.symbolic_writer.proofs.power.Tie as tie
 
-shl-result : tie.Need-shl-result
-shl-result c = search needs
-
 returns : tie.Need-returns
 returns c =
     let i = c .args .i in
@@ -16,4 +13,4 @@ returns c =
     (one-shl i (omega arith), rw (one-shl i (omega arith)) p)
 
 pub power-spec : {M : Type 1} → statement M
-power-spec = tie.close (tie.spec shl-result returns)
+power-spec = tie.close (tie.spec (λ c. search needs) returns)

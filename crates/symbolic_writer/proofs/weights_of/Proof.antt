@@ -8,12 +8,6 @@ use borrow.Author.Needs.{needs}
 use Rattle.symbolic_writer.proofs.weights_of.Statement.{statement}
 use Rattle.symbolic_writer.proofs.weights_of.Tie as tie
 
-grid-of-requires : tie.Need-grid-of-requires
-grid-of-requires c κs = search needs
-
-weight-count-requires : tie.Need-weight-count-requires
-weight-count-requires c κs = search needs
-
 long-enough : (c : tie.Start) → length (c .args .s .weights) ≡ 64
 long-enough c = simp length-map at (c .good .0 .1 .1 .1 .1 .1 .1 .1 .1 .1 .1 .1 .1 .1 .1 .1 .1 .1 .0 .1 .0 .1)
 
@@ -22,24 +16,6 @@ cast-n c =
     let s = c .before .before .before .args .s in
     let e : c .weight-count .result ≡ weightCount (sheetGrid s) = c .weight-count .ensures .0 ∙ ap weightCount (c .before .before .grid-of .ensures) in
     omega (arith, c .before .before .before .pre .weights-most)
-
-no-bits-requires : tie.Need-no-bits-requires
-no-bits-requires c κs = search needs
-
-write-sequence-requires : tie.Need-write-sequence-requires
-write-sequence-requires c κs = search needs
-
-reversed-requires : tie.Need-reversed-requires
-reversed-requires c κs = search needs
-
-weights-from-requires : tie.Need-weights-from-requires
-weights-from-requires c κs = search needs
-
-clipped-weight-bits-requires : tie.Need-clipped-weight-bits-requires
-clipped-weight-bits-requires c κs = search needs
-
-part-requires : tie.Need-part-requires
-part-requires c κs = search needs
 
 returns : tie.Need-returns
 returns c =
@@ -50,13 +26,13 @@ pub weights-of-spec : {M : Type 1} → statement M
 weights-of-spec =
     tie.close
     (tie.spec
-    grid-of-requires
-    weight-count-requires
+    (λ c κs. search needs)
+    (λ c κs. search needs)
     cast-n
-    no-bits-requires
-    write-sequence-requires
-    reversed-requires
-    weights-from-requires
-    clipped-weight-bits-requires
-    part-requires
+    (λ c κs. search needs)
+    (λ c κs. search needs)
+    (λ c κs. search needs)
+    (λ c κs. search needs)
+    (λ c κs. search needs)
+    (λ c κs. search needs)
     returns)

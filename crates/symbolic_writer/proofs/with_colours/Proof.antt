@@ -4,42 +4,6 @@ use borrow.Author.Needs.{needs}
 use Rattle.symbolic_writer.proofs.with_colours.Statement.{statement}
 use Rattle.symbolic_writer.proofs.with_colours.Tie as tie
 
-array-read-wide16 : tie.Need-array-read-wide16
-array-read-wide16 c = search needs
-
-wide16-requires : tie.Need-wide16-requires
-wide16-requires c κs = search needs
-
-append-requires : tie.Need-append-requires
-append-requires c κs = search needs
-
-array-read-wide16-2 : tie.Need-array-read-wide16-2
-array-read-wide16-2 c = search needs
-
-wide16-requires-2 : tie.Need-wide16-requires-2
-wide16-requires-2 c κs = search needs
-
-append-requires-2 : tie.Need-append-requires-2
-append-requires-2 c κs = search needs
-
-array-read-wide16-3 : tie.Need-array-read-wide16-3
-array-read-wide16-3 c = search needs
-
-wide16-requires-3 : tie.Need-wide16-requires-3
-wide16-requires-3 c κs = search needs
-
-append-requires-3 : tie.Need-append-requires-3
-append-requires-3 c κs = search needs
-
-array-read-wide16-4 : tie.Need-array-read-wide16-4
-array-read-wide16-4 c = search needs
-
-wide16-requires-4 : tie.Need-wide16-requires-4
-wide16-requires-4 c κs = search needs
-
-append-requires-4 : tie.Need-append-requires-4
-append-requires-4 c κs = search needs
-
 returns : tie.Need-returns
 returns c =
     appended (c .append4 .ensures) refl
@@ -54,16 +18,16 @@ pub with-colours-spec : {M : Type 1} → statement M
 with-colours-spec =
     tie.close
     (tie.spec
-    array-read-wide16
-    wide16-requires
-    append-requires
-    array-read-wide16-2
-    wide16-requires-2
-    append-requires-2
-    array-read-wide16-3
-    wide16-requires-3
-    append-requires-3
-    array-read-wide16-4
-    wide16-requires-4
-    append-requires-4
+    (λ c. search needs)
+    (λ c κs. search needs)
+    (λ c κs. search needs)
+    (λ c. search needs)
+    (λ c κs. search needs)
+    (λ c κs. search needs)
+    (λ c. search needs)
+    (λ c κs. search needs)
+    (λ c κs. search needs)
+    (λ c. search needs)
+    (λ c κs. search needs)
+    (λ c κs. search needs)
     returns)

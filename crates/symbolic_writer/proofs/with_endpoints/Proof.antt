@@ -8,15 +8,6 @@ use Rattle.symbolic_writer.proofs.with_endpoints.Tie as tie
 long-enough : (c : tie.Start) → length (c .args .s .endpoints) ≡ 18
 long-enough c = simp length-map at (c .good .1 .0 .1 .1 .1 .1 .1 .1 .1 .1 .1 .1 .1 .1 .1 .1 .1 .1 .0 .1 .0 .1)
 
-endpoints-from-requires : tie.Need-endpoints-from-requires
-endpoints-from-requires c κs = search needs
-
-lengthened-requires : tie.Need-lengthened-requires
-lengthened-requires c κs = search needs
-
-write-sequence-requires : tie.Need-write-sequence-requires
-write-sequence-requires c κs = search needs
-
 returns : tie.Need-returns
 returns c =
     let b = c .before .before .before .before in
@@ -26,7 +17,7 @@ pub with-endpoints-spec : {M : Type 1} → statement M
 with-endpoints-spec =
     tie.close
     (tie.spec
-    endpoints-from-requires
-    lengthened-requires
-    write-sequence-requires
+    (λ c κs. search needs)
+    (λ c κs. search needs)
+    (λ c κs. search needs)
     returns)

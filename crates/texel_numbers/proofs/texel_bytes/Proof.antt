@@ -3,17 +3,8 @@ use borrow.Author.Needs.{needs}
 use Rattle.texel_numbers.proofs.texel_bytes.Statement.{statement}
 use Rattle.texel_numbers.proofs.texel_bytes.Tie as tie
 
-asked-at-requires : tie.Need-asked-at-requires
-asked-at-requires c κs = search needs
-
-told-requires : tie.Need-told-requires
-told-requires c κs = search needs
-
 put-bytes-requires : tie.Need-put-bytes-requires
 put-bytes-requires c κs = c .before .before .asked-at .ensures .1 .bytes refl
-
-same-length : tie.Need-same-length
-same-length c = search needs
 
 returns : tie.Need-returns
 returns c =
@@ -23,4 +14,4 @@ returns c =
 
 pub texel-bytes-spec : {M : Type 1} → statement M
 texel-bytes-spec =
-    tie.close (tie.spec asked-at-requires told-requires put-bytes-requires same-length returns)
+    tie.close (tie.spec (λ c κs. search needs) (λ c κs. search needs) put-bytes-requires (λ c. search needs) returns)

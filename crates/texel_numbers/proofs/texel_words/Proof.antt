@@ -2,18 +2,6 @@ use borrow.Author.Needs.{needs}
 use Rattle.texel_numbers.proofs.texel_words.Statement.{statement}
 use Rattle.texel_numbers.proofs.texel_words.Tie as tie
 
-texel-at-requires : tie.Need-texel-at-requires
-texel-at-requires c κs = search needs
-
-told-requires : tie.Need-told-requires
-told-requires c κs = search needs
-
-put-words-requires : tie.Need-put-words-requires
-put-words-requires c κs = search needs
-
-same-length : tie.Need-same-length
-same-length c = search needs
-
 returns : tie.Need-returns
 returns c =
     let p = c .before .before in
@@ -22,4 +10,4 @@ returns c =
 
 pub texel-words-spec : {M : Type 1} → statement M
 texel-words-spec =
-    tie.close (tie.spec texel-at-requires told-requires put-words-requires same-length returns)
+    tie.close (tie.spec (λ c κs. search needs) (λ c κs. search needs) (λ c κs. search needs) (λ c. search needs) returns)

@@ -6,18 +6,6 @@ use borrow.Author.Needs.{needs}
 use Rattle.texel_weights.proofs.point_of.Statement.{statement}
 use Rattle.texel_weights.proofs.point_of.Tie as tie
 
-stored-in-requires : tie.Need-stored-in-requires
-stored-in-requires c κs = search needs
-
-add-stored-in : tie.Need-add-stored-in
-add-stored-in c = search needs
-
-stored-in-requires-2 : tie.Need-stored-in-requires-2
-stored-in-requires-2 c κs = search needs
-
-weight-pair-requires : tie.Need-weight-pair-requires
-weight-pair-requires c κs = search needs
-
 stored-told : {x : Stored} {n : ℕ} → x ≡ stored n → x .0 ≡ n
 stored-told e = ap (λ (y : Stored). y .0) e
 
@@ -27,4 +15,4 @@ returns c = λ level right. rw (← stored-told (c .before .before .stored-in .e
 pub point-of-spec : {M : Type 1} → statement M
 point-of-spec =
     tie.close
-    (tie.spec stored-in-requires add-stored-in stored-in-requires-2 weight-pair-requires returns)
+    (tie.spec (λ c κs. search needs) (λ c. search needs) (λ c κs. search needs) (λ c κs. search needs) returns)

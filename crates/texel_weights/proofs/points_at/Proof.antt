@@ -10,12 +10,6 @@ use borrow.Author.Needs.{needs}
 use Rattle.texel_weights.proofs.points_at.Statement.{statement}
 use Rattle.texel_weights.proofs.points_at.Tie as tie
 
-weight-sequence-requires : tie.Need-weight-sequence-requires
-weight-sequence-requires c κs = search needs
-
-cast-each : tie.Need-cast-each
-cast-each c = search needs
-
 mul-first : tie.Need-mul-first
 mul-first c = let s = c .before .before in let a = s .args in let m = points-le (a .h .grid) (s .pre .0 .0) (s .pre .0 .1) in omega (arith, s .pre .1 .0, m, small (a .n) (a .h .grid .planes) (omega (arith, s .pre .1 .0, m)) (s .pre .0 .0 .planes-most))
 
@@ -34,12 +28,6 @@ mul-down c = let s = c .before .before in let a = s .args in let m = points-le (
 cast-down : tie.Need-cast-down
 cast-down c = let s = c .before .before in let a = s .args in let m = points-le (a .h .grid) (s .pre .0 .0) (s .pre .0 .1) in omega (arith, s .pre .1 .0, m, small (a .below) (a .h .grid .planes) (omega (arith, s .pre .1 .0, m)) (s .pre .0 .0 .planes-most))
 
-cast-rows-from : tie.Need-cast-rows-from
-cast-rows-from c = search needs
-
-mul-rows-from : tie.Need-mul-rows-from
-mul-rows-from c = search needs
-
 rows-from-requires : tie.Need-rows-from-requires
 rows-from-requires c κs =
     let s = c .before .before in
@@ -49,17 +37,8 @@ rows-from-requires c κs =
     let p = a .h .grid .planes in
     (omega (arith, small (a .n + a .below) p (omega (arith, s .pre .1 .0, m)) (l .planes-most), add-mul (a .n) (a .below) p), omega (arith, l .planes-most))
 
-weight-words-requires : tie.Need-weight-words-requires
-weight-words-requires c κs = search needs
-
-point-of-requires : tie.Need-point-of-requires
-point-of-requires c κs = search needs
-
 point-of-requires-2 : tie.Need-point-of-requires-2
 point-of-requires-2 c κs = let s = c .before .before .before .before .before .before .before in omega (arith, mul-le-mul-right (s .args .h .grid .planes) (s .pre .1 .1), s .pre .0 .0 .planes-most)
-
-point-of-requires-3 : tie.Need-point-of-requires-3
-point-of-requires-3 c κs = search needs
 
 point-of-requires-4 : tie.Need-point-of-requires-4
 point-of-requires-4 c κs = let s = c .before .before .before .before .before .before .before .before .before .before .before in omega (arith, mul-le-mul-right (s .args .h .grid .planes) (s .pre .1 .1), s .pre .0 .0 .planes-most)
@@ -87,20 +66,20 @@ pub points-at-spec : {M : Type 1} → statement M
 points-at-spec =
     tie.close
     (tie.spec
-    weight-sequence-requires
-    cast-each
+    (λ c κs. search needs)
+    (λ c. search needs)
     mul-first
     cast-first
     mul-across
     cast-across
     mul-down
     cast-down
-    cast-rows-from
-    mul-rows-from
+    (λ c. search needs)
+    (λ c. search needs)
     rows-from-requires
-    weight-words-requires
-    point-of-requires
+    (λ c κs. search needs)
+    (λ c κs. search needs)
     point-of-requires-2
-    point-of-requires-3
+    (λ c κs. search needs)
     point-of-requires-4
     returns)

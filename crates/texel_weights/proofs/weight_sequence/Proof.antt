@@ -8,19 +8,10 @@ use borrow.Author.Needs.{needs}
 use Rattle.texel_weights.proofs.weight_sequence.Statement.{statement}
 use Rattle.texel_weights.proofs.weight_sequence.Tie as tie
 
-weight-bits-requires : tie.Need-weight-bits-requires
-weight-bits-requires c κs = search needs
-
 -- 64 weights take few bits
 cast-w : tie.Need-cast-w
 unfolding weightBits
 cast-w c = omega (arith, c .weight-bits .ensures, range-bits-le (c .before .args .g .range) (weightCount (c .before .args .g)) 64 (c .before .pre))
-
-reversed-requires : tie.Need-reversed-requires
-reversed-requires c κs = search needs
-
-part-requires : tie.Need-part-requires
-part-requires c κs = search needs
 
 returns : tie.Need-returns
 unfolding weightBits rangeBits sequenceAt
@@ -28,4 +19,4 @@ returns c = c .part .ensures ∙ rw (c .before .reversed .ensures, c .before .be
 
 pub weight-sequence-spec : {M : Type 1} → statement M
 weight-sequence-spec =
-    tie.close (tie.spec weight-bits-requires cast-w reversed-requires part-requires returns)
+    tie.close (tie.spec (λ c κs. search needs) cast-w (λ c κs. search needs) (λ c κs. search needs) returns)

@@ -24,41 +24,14 @@ reach s =
 room : (s : tie.Start) → s .args .h .grid .width * s .args .h .grid .height * s .args .h .grid .depth ≤ 64
 room s = points-le (s .args .h .grid) (s .pre .0 .0) (s .pre .0 .1)
 
-cast-row : tie.Need-cast-row
-cast-row c = search needs
-
-cast-n : tie.Need-cast-n
-cast-n c = search needs
-
 mul-n : tie.Need-mul-n
 mul-n c = omega (arith, reach (c .before), room (c .before))
-
-cast-n-2 : tie.Need-cast-n-2
-cast-n-2 c = search needs
 
 add-n : tie.Need-add-n
 add-n c = omega (arith, reach (c .before), room (c .before))
 
-step-requires : tie.Need-step-requires
-step-requires c κs = search needs
-
-step-requires-2 : tie.Need-step-requires-2
-step-requires-2 c κs = search needs
-
 points-at-requires : tie.Need-points-at-requires
 points-at-requires c κs = let s = c .before .before .before in (s .pre .0, (omega (arith, reach s, c .before .step .ensures, c .step2 .ensures), rw (c .before .step .ensures) (step-one (s .args .gs) (s .args .h .grid .width))))
-
-array-copy-out-infill-both : tie.Need-array-copy-out-infill-both
-array-copy-out-infill-both c = search needs
-
-array-copy-out-infill-both-2 : tie.Need-array-copy-out-infill-both-2
-array-copy-out-infill-both-2 c = search needs
-
-array-copy-out-infill-both-3 : tie.Need-array-copy-out-infill-both-3
-array-copy-out-infill-both-3 c = search needs
-
-array-copy-out-infill-both-4 : tie.Need-array-copy-out-infill-both-4
-array-copy-out-infill-both-4 c = search needs
 
 infill-both-requires : tie.Need-infill-both-requires
 infill-both-requires c κs =
@@ -83,17 +56,17 @@ pub weights-at-spec : {M : Type 1} → statement M
 weights-at-spec =
     tie.close
     (tie.spec
-    cast-row
-    cast-n
+    (λ c. search needs)
+    (λ c. search needs)
     mul-n
-    cast-n-2
+    (λ c. search needs)
     add-n
-    step-requires
-    step-requires-2
+    (λ c κs. search needs)
+    (λ c κs. search needs)
     points-at-requires
-    array-copy-out-infill-both
-    array-copy-out-infill-both-2
-    array-copy-out-infill-both-3
-    array-copy-out-infill-both-4
+    (λ c. search needs)
+    (λ c. search needs)
+    (λ c. search needs)
+    (λ c. search needs)
     infill-both-requires
     returns)

@@ -12,9 +12,6 @@ facts c =
     let a = c .before .args in
     routed (a .width) (a .height) (a .depth) (a .gs) (a .gt) (a .gr) (c .before .pre .0) (c .route-at .ensures)
 
-route-at-requires : tie.Need-route-at-requires
-route-at-requires c κs = search needs
-
 mul-p0 : tie.Need-mul-p0
 mul-p0 c = omega (arith, facts c .n0)
 
@@ -58,7 +55,7 @@ pub infill-volume-spec : {M : Type 1} → statement M
 infill-volume-spec =
     tie.close
     (tie.spec
-    route-at-requires
+    (λ c κs. search needs)
     mul-p0
     array-copy-out-p0
     mul-p1

@@ -8,8 +8,5 @@ use Rattle.volume_infill.proofs.layer_size.Tie as tie
 mul-result : tie.Need-mul-result
 mul-result c = let h : c .args .width * c .args .height ≤ 255 * 255 = mul-le-mul {n₂ = 255} {m₂ = 255} (omega arith) (omega arith) in omega arith
 
-returns : tie.Need-returns
-returns c = search needs
-
 pub layer-size-spec : {M : Type 1} → statement M
-layer-size-spec = tie.close (tie.spec mul-result returns)
+layer-size-spec = tie.close (tie.spec mul-result (λ c. search needs))

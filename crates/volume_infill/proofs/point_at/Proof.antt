@@ -23,8 +23,5 @@ mul-result c = omega (arith, rows c, all c)
 add-result : tie.Need-add-result
 add-result c = omega (arith, rows c, all c)
 
-returns : tie.Need-returns
-returns c = search needs
-
 pub point-at-spec : {M : Type 1} → statement M
-point-at-spec = tie.close (tie.spec mul-row add-row mul-result add-result returns)
+point-at-spec = tie.close (tie.spec mul-row add-row mul-result add-result (λ c. search needs))

@@ -11,24 +11,6 @@ facts c =
     reach (s .args .width) (s .args .height) (s .args .depth) (s .args .gs) (s .args .gt) (s .args .gr) (s .pre) (c .before .before .before .before .before .layer-size .ensures)
     (c .before .point-at .ensures) (c .before .before .before .before .step .ensures) (c .before .before .before .step2 .ensures) (c .before .before .step3 .ensures) (c .way .ensures)
 
-layer-size-requires : tie.Need-layer-size-requires
-layer-size-requires c κs = search needs
-
-step-requires : tie.Need-step-requires
-step-requires c κs = search needs
-
-step-requires-2 : tie.Need-step-requires-2
-step-requires-2 c κs = search needs
-
-step-requires-3 : tie.Need-step-requires-3
-step-requires-3 c κs = search needs
-
-point-at-requires : tie.Need-point-at-requires
-point-at-requires c κs = search needs
-
-way-requires : tie.Need-way-requires
-way-requires c κs = search needs
-
 add-first : tie.Need-add-first
 add-first c = omega (arith, facts (c .before))
 
@@ -55,12 +37,12 @@ pub route-at-spec : {M : Type 1} → statement M
 route-at-spec =
     tie.close
     (tie.spec
-    layer-size-requires
-    step-requires
-    step-requires-2
-    step-requires-3
-    point-at-requires
-    way-requires
+    (λ c κs. search needs)
+    (λ c κs. search needs)
+    (λ c κs. search needs)
+    (λ c κs. search needs)
+    (λ c κs. search needs)
+    (λ c κs. search needs)
     add-first
     add-second
     add-far

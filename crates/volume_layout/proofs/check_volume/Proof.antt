@@ -40,9 +40,6 @@ grid-of-requires c κs = (let l = low c in omega arith, fine c)
 product-requires : tie.Need-product-requires
 product-requires c κs = let s = layout c in (s .deep-most, s .down-most, s .across-most)
 
-mul-if3 : tie.Need-mul-if3
-mul-if3 c = search needs
-
 returns-3 : tie.Need-returns-3
 returns-3 c = let k = c .before in
     let t = k .before .before in
@@ -50,9 +47,6 @@ returns-3 c = let k = c .before in
 
 product-requires-2 : tie.Need-product-requires-2
 product-requires-2 c κs = let s = layout (c .before .before) in (s .depth-most, s .height-most, s .width-most)
-
-mul-if4 : tie.Need-mul-if4
-mul-if4 c = search needs
 
 returns-4 : tie.Need-returns-4
 returns-4 c = let k = c .before in
@@ -76,9 +70,9 @@ check-volume-spec =
     returns-2
     grid-of-requires
     product-requires
-    mul-if3
+    (λ c. search needs)
     returns-3
     product-requires-2
-    mul-if4
+    (λ c. search needs)
     returns-4
     returns-5)

@@ -4,15 +4,6 @@ use borrow.Author.Needs.{needs}
 use Rattle.volume_numbers.proofs.refusal_or_5.Statement.{statement}
 use Rattle.volume_numbers.proofs.refusal_or_5.Tie as tie
 
-check-volume-requires : tie.Need-check-volume-requires
-check-volume-requires c κs = search needs
-
-enum-known-checked : tie.Need-enum-known-checked
-enum-known-checked c = search needs
-
-enum-told : tie.Need-enum-told
-enum-told c = search needs
-
 returns : tie.Need-returns
 returns c = rejected-number _ _ _ _ _ _ _ (sym (c .before .before .before .check-volume .ensures) ∙ c .before .checked .given .1)
 
@@ -21,4 +12,4 @@ returns-2 c = accepted-number _ _ _ _ _ _ _ (sym (c .before .before .check-volum
 
 pub refusal-or-5-spec : {M : Type 1} → statement M
 refusal-or-5-spec =
-    tie.close (tie.spec check-volume-requires enum-known-checked enum-told returns returns-2)
+    tie.close (tie.spec (λ c κs. search needs) (λ c. search needs) (λ c. search needs) returns returns-2)

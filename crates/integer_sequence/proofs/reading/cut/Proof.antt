@@ -8,12 +8,6 @@ use borrow.Author.Needs.{needs}
 use Rattle.integer_sequence.proofs.reading.cut.Statement.{statement}
 use Rattle.integer_sequence.proofs.reading.cut.Tie as tie
 
-shr-result : tie.Need-shr-result
-shr-result c = search needs
-
-shl-result : tie.Need-shl-result
-shl-result c = search needs
-
 rem-result : tie.Need-rem-result
 rem-result c = rw (one-shl (c .args .w) (omega arith)) (pow-pos (c .args .w))
 
@@ -24,4 +18,4 @@ returns c =
     (refl, lt-of-lt-of-le (mod-lt _ (pow-pos (c .args .w))) (pow-mono {i = c .args .w} {j = 8} (omega arith)))
 
 pub cut-spec : {M : Type 1} → statement M
-cut-spec = tie.close (tie.spec shr-result shl-result rem-result returns)
+cut-spec = tie.close (tie.spec (λ c. search needs) (λ c. search needs) rem-result returns)

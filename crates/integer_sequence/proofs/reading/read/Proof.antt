@@ -4,20 +4,11 @@ use borrow.Author.Needs.{needs}
 use Rattle.integer_sequence.proofs.reading.read.Statement.{statement}
 use Rattle.integer_sequence.proofs.reading.read.Tie as tie
 
-enum-told : tie.Need-enum-told
-enum-told c = search needs
-
 read-bits-requires : tie.Need-read-bits-requires
 read-bits-requires c κs = (narrow-bits _ (narrow _ (c .enum-told .given .1) (c .before .before .pre .0)), omega arith)
 
-enum-told-2 : tie.Need-enum-told-2
-enum-told-2 c = search needs
-
 read-trits-requires : tie.Need-read-trits-requires
 read-trits-requires c κs = (narrow-trits _ (narrow _ (c .enum-told2 .given .1) (c .before .before .pre .0)), omega arith)
-
-enum-told-3 : tie.Need-enum-told-3
-enum-told-3 c = search needs
 
 read-quints-requires : tie.Need-read-quints-requires
 read-quints-requires c κs = (narrow-quints _ (narrow _ (c .enum-told3 .given .1) (c .before .before .pre .0)), omega arith)
@@ -35,11 +26,11 @@ pub read-spec : {M : Type 1} → statement M
 read-spec =
     tie.close
     (tie.spec
-    enum-told
+    (λ c. search needs)
     read-bits-requires
-    enum-told-2
+    (λ c. search needs)
     read-trits-requires
-    enum-told-3
+    (λ c. search needs)
     read-quints-requires
     returns
     returns-2

@@ -16,29 +16,11 @@ Inv-loop b n out₀ s i₀ out rest i = (i ≤ n) × Turn Bits b (blockNumber s)
 abbrev μ-loop : tie.MeasureT-loop
 μ-loop b n out₀ s i₀ out rest i = n - i
 
-no-numbers-requires : tie.Need-no-numbers-requires Inv-loop μ-loop
-no-numbers-requires c κs = search needs
-
 loop-holds : tie.Need-loop-holds Inv-loop μ-loop
 loop-holds c = (omega arith, turn-first Bits _ _ _ (c .no-numbers .ensures) refl)
 
-word-at-requires : tie.Need-word-at-requires Inv-loop μ-loop
-word-at-requires c κs = search needs
-
 cut-requires : tie.Need-cut-requires Inv-loop μ-loop
 cut-requires c κs = (omega arith, omega arith)
-
-array-set-from-out : tie.Need-array-set-from-out Inv-loop μ-loop
-array-set-from-out c = omega arith
-
-later-requires : tie.Need-later-requires Inv-loop μ-loop
-later-requires c κs = omega arith
-
-add-i : tie.Need-add-i Inv-loop μ-loop
-add-i c = omega arith
-
-loop-less : tie.Need-loop-less Inv-loop μ-loop
-loop-less c = omega arith
 
 loop-again : tie.Need-loop-again Inv-loop μ-loop
 unfolding sequenceBits
@@ -55,14 +37,14 @@ read-bits-spec =
     (tie.spec
     Inv-loop
     μ-loop
-    no-numbers-requires
+    (λ c κs. search needs)
     loop-holds
-    word-at-requires
+    (λ c κs. search needs)
     cut-requires
     (λ c. omega arith)
-    array-set-from-out
-    later-requires
-    add-i
-    loop-less
+    (λ c. omega arith)
+    (λ c κs. omega arith)
+    (λ c. omega arith)
+    (λ c. omega arith)
     loop-again
     returns)

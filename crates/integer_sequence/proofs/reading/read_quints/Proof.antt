@@ -38,9 +38,6 @@ second c = put-if Quints _ _ _ (λ p. p .taken) (λ q. q .left) (omega arith) (f
 third : (c : tie.Joined2 Inv-loop μ-loop) → c .if2 .out ≡ upTo (c .before .before) 3
 third c = put-if Quints _ _ _ (λ p. p .taken) (λ q. q .left) (omega arith) (second (c .before)) (element (c .before .before) 2 _ (omega arith) refl) (omega arith) (c .if2 .came)
 
-quint-group-requires : tie.Need-quint-group-requires Inv-loop μ-loop
-quint-group-requires c κs = omega arith
-
 loop-holds : tie.Need-loop-holds Inv-loop μ-loop
 loop-holds c = (omega arith, turn-first Quints _ _ _ (c .no-numbers .ensures) refl)
 
@@ -60,7 +57,7 @@ read-quints-spec =
     (λ c κs. tt)
     loop-holds
     (λ c κs. tt)
-    quint-group-requires
+    (λ c κs. omega arith)
     (λ c. omega arith)
     (λ c. omega arith)
     (λ c. omega arith)

@@ -44,9 +44,6 @@ fourth c = put-if Trits _ _ _ (λ p. p .taken) (λ q. q .left) (omega arith) (th
 fifth : (c : tie.Joined4 Inv-loop μ-loop) → c .if4 .out ≡ upTo (c .before .before .before .before) 5
 fifth c = put-if Trits _ _ _ (λ p. p .taken) (λ q. q .left) (omega arith) (fourth (c .before)) (element (c .before .before .before .before) 4 _ (omega arith) refl) (omega arith) (c .if4 .came)
 
-trit-group-requires : tie.Need-trit-group-requires Inv-loop μ-loop
-trit-group-requires c κs = omega arith
-
 loop-holds : tie.Need-loop-holds Inv-loop μ-loop
 loop-holds c = (omega arith, turn-first Trits _ _ _ (c .no-numbers .ensures) refl)
 
@@ -66,7 +63,7 @@ read-trits-spec =
     (λ c κs. tt)
     loop-holds
     (λ c κs. tt)
-    trit-group-requires
+    (λ c κs. omega arith)
     (λ c. omega arith)
     (λ c. omega arith)
     (λ c. omega arith)
