@@ -34,7 +34,7 @@ fileOut kind s old =
     let h = headerIn s in
     pick (eqb (headerRefusal s) 0) (imageOut (h .footprint) kind (h .width) (h .height) (drop 16 s) old) old
 
--- ---- what is proved of it (`five-last` in proofs/Refusals)
+-- ---- what is proved of it (theorem: proofs/Refusals.antt, `five-last`)
 
 -- "tested in this order before 01's": 41, 42, 43, then 3, 4 and 5; 0 for none
 unfoldable pub fileRefusal : List ℕ → ℕ → ℕ

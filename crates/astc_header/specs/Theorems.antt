@@ -1,4 +1,5 @@
--- 02, a: what is proved of reading and writing headers (proofs/RoundTrip, `reads-back`, `written-again`; proofs/Refusals, `never-1`).
+-- 02, a: what is proved of reading and writing headers. Theorems: proofs/RoundTrip.antt, `reads-back` (of a header that is not refused, and as many
+-- blocks as it asks for), `written-again` (of a file that is accepted).
 -- Assumes nothing.
 use Prim.Native.Nat.{ℕ}
 use mathlib.Core.Path.{_≡_}

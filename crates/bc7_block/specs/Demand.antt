@@ -1,5 +1,5 @@
--- DEMAND 3 FOR BC7, over the definitions: "under the same statement as demand 3 without footprint and kind", for all sheets and all blocks.
--- The proof is proofs/Demand: demand-3.
+-- 02, l: demand 3 for BC7, over the definitions: "under the same statement as demand 3 without footprint and kind", for all sheets and all blocks.
+-- Theorem: proofs/Demand.antt, `demand-3`.
 -- Assumes nothing.
 use mathlib.Core.Path.{_≡_}
 use mathlib.Core.Logic.{_↔_}

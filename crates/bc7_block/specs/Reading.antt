@@ -1,4 +1,4 @@
--- Request l: what a block, given as one number of 128 bits, reads as.
+-- 02, l: what a block, given as one number of 128 bits, reads as.
 -- Assumes nothing.
 use mathlib.Core.Path.{_≡_}
 use Prim.Native.Nat.{ℕ, _+_, _<_}
@@ -36,7 +36,8 @@ unfoldable pub zeroBlock : Bc7Block
 unfolding bc7Block tab
 zeroBlock = bc7Block 0 (λ k. 0)
 
--- "It then reads as a sheet when each used field is what [004] make of its bits and each unused one is 0": a field without bits is 0
+-- 01: "It then reads as a sheet when each used field is what .. make of its bits and each unused one is 0", here what 004 makes of them: a field
+-- without bits is 0
 pub record ReadsAs (B : ℕ) (s : Bc7Block) : Type 0 where
   pub mode : s .mode ≡ modeAt B
   pub fields : (k : ℕ) → k < 60 → valueIn s k ≡ fieldAt B k

@@ -1,4 +1,4 @@
--- Request l: what the one-block call, the reader and the writer of sheets answer and leave, for every input.
+-- 02, l: what the one-block call, the reader and the writer of sheets answer and leave, for every input.
 -- Assumes nothing.
 use Prim.Native.Nat.{ℕ}
 use mathlib.Core.Bool.{not}
@@ -37,7 +37,7 @@ unfoldable pub decodeTold : List ℕ → ℕ → ℕ
 unfolding decodeRefusal faultOf
 decodeTold s places = pick (eqb (decodeRefusal (length s) places) 0) (faultOf (numberOf s)) (decodeRefusal (length s) places)
 
--- the result buffer after the call
+-- the result buffer after the call: "nothing is written" on a refusal
 unfoldable pub decodeOut : List ℕ → List ℕ → List ℕ
 unfolding decodeRefusal blockBytes
 decodeOut s old = pick (eqb (decodeRefusal (length s) (length old)) 0) (blockBytes (numberOf s)) old

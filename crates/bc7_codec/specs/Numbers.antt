@@ -1,4 +1,4 @@
--- A sheet as a list of sixty numbers: "mode, partition, rotation, index selection, endpoints, P bits and two sets of sixteen indices".
+-- 02, l: a sheet as a list of sixty numbers: "mode, partition, rotation, index selection, endpoints, P bits and two sets of sixteen indices".
 -- Assumes nothing.
 use Prim.Native.Nat.{ℕ}
 use lib.Dec.{eqb}

@@ -1,4 +1,4 @@
--- Request l: the sixty-four bytes of a block, and its fault.
+-- 02, l: the sixty-four bytes of a block, the "64 result bytes".
 -- Assumes nothing.
 use Prim.Native.Nat.{ℕ, _/_, _%_}
 use mathlib.Core.List.{List}

@@ -1,4 +1,4 @@
-// A BC7 block's settings, read once for each block, and its ends, expanded once and byLane so that one product mixes four channels.
+// A BC7 block's settings, read once for each block, and its ends, expanded once and laid by lanes, so that one product mixes four channels.
 use bc7_layout::Mode;
 use bits::PhysicalBlock;
 ghost use mathlib.Core.Path.{_≡_};

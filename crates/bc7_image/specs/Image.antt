@@ -37,7 +37,7 @@ bc7Numbers w h s = tab (λ n. bc7NumberAt w s (n / 4 % w) (n / 4 / w) (n % 4)) (
 abbrev pub bc7Refusal : ℕ → ℕ → ℕ → ℕ → ℕ
 bc7Refusal w h bytes places = imageRefusal 0 w h bytes places
 
--- which are 3, 4 and 5 (`three-four-five` in proofs/Calls)
+-- which are 3, 4 and 5 (theorem: proofs/Calls.antt, `three-four-five`)
 abbrev pub ThreeFourFive : ℕ → ℕ → ℕ → ℕ → Type 0
 ThreeFourFive w h bytes places =
     bc7Refusal w h bytes places
@@ -63,6 +63,6 @@ bc7Told w h s places =
     let e = bc7Refusal w h (length s) places in
     pick (eqb e 0) (toldDecoded (bc7Tally w h s)) (record { refusal = e; count = 0; first = 0; fault = 0 })
 
--- the result buffer after the call
+-- the result buffer after the call: "nothing is written" on a refusal
 unfoldable pub bc7Out : ℕ → ℕ → List ℕ → List ℕ → List ℕ
 bc7Out w h s old = pick (eqb (bc7Refusal w h (length s) (length old)) 0) (bc7Numbers w h s) old

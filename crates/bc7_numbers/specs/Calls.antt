@@ -1,4 +1,4 @@
--- What the calls that read and write a sheet as a list of sixty numbers answer, and what they leave.
+-- 02, l: what the calls that read and write a sheet as a list of sixty numbers answer, and what they leave.
 -- Assumes nothing.
 use Prim.Native.Nat.{ℕ}
 use mathlib.Core.List.{List}

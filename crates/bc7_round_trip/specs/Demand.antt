@@ -1,4 +1,4 @@
--- Request l, "under the same statement as demand 3 without footprint and kind": of what the writer, the reader of sheets and the one-block call return.
+-- 02, l: "under the same statement as demand 3 without footprint and kind": of what the writer, the reader of sheets and the one-block call return.
 -- Assumes nothing.
 use mathlib.Core.Path.{_≡_}
 use mathlib.Core.Logic.{_↔_}

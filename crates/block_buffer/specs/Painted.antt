@@ -6,7 +6,7 @@ use lib.ListN.{getD}
 use Rattle.laws.specs.Table.{replaced}
 use Rattle.interpolation.specs.declared.Texel.{Texel}
 
--- the four numbers of a texel, "Channels are R, G, B, A"
+-- the four numbers of a texel; 01: "Channels are R, G, B, A"
 abbrev pub fourOf : Texel → List ℕ
 fourOf t = t .r ∷ t .g ∷ t .b ∷ t .a ∷ []
 

@@ -88,8 +88,8 @@ pub fn error_texel(kind: Kind) -> Texel
     }
 }
 
-// All texels of a flat block, row by row; the row's partitions are found at once. Only points of the grid are read: at the last column or row a point stands
-// for its neighbour outside, whose factor is 0.
+// All texels of a flat block, row by row; the row's partitions are found at once. Only points of the grid are read: at the last column or row a
+// point stands for its neighbour outside, whose factor is 0.
 fn paint(
     kind: Kind,
     g: WeightGrid,

@@ -13,6 +13,7 @@ use Rattle.block_fault.specs.declared.Settings.{Settings}
 use Rattle.block_fault.specs.Bits.{modeAt, isVoid, headerAt}
 use Rattle.block_fault.specs.Faults.{faultOf}
 
+-- which of the three it is, HDR taken or not
 unfoldable pub verdictOf : Bool → ℕ → ℕ → Verdict
 verdictOf hdr fp B = pick (eqb (faultOf hdr fp B) 0) (pick (isVoid (modeAt fp B)) VoidExtent Coded) (Fault (faultOf hdr fp B))
 

@@ -1,5 +1,6 @@
--- 02, b: "demand 2 speaks of each reading with its own list, and 21 shows magenta .. like any fault". What a block shows, by the reading: one text
--- for both. With Ordinary these are `blockTexel`, `blockNumberAt`, `blockChannel`, `blockNumbers` and `blockInto` of the crate texel, by computation.
+-- 02, b: "demand 2 speaks of each reading with its own list, and 21 shows magenta and a sheet of zeros like any fault." What a block shows, by the
+-- reading: one text for both. With Ordinary these are `blockTexel`, `blockNumberAt`, `blockChannel`, `blockNumbers` and `blockInto` of the crate
+-- texel, by computation.
 -- Assumes nothing.
 use Prim.Native.Nat.{ℕ, _*_, _/_, _%_}
 use mathlib.Core.List.{List}

@@ -1,5 +1,5 @@
--- What a rewritten image is: every block passes the strict reading where it had no fault, all shows as before, and blocks with a fault are
--- untouched. Theorem: proofs/Frames.antt, `agreed`.
+-- What a rewritten image is: every block passes the strict reading where it had no fault, all shows as before, and blocks with a fault by
+-- kind 2's list are untouched. Theorem: proofs/Frames.antt, `agreed`.
 -- Assumes nothing.
 use mathlib.Core.Path.{_≡_}
 use mathlib.Core.Bool.{true}

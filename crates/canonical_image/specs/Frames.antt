@@ -25,7 +25,7 @@ use Rattle.image_layout.specs.Call.{imageTally}
 
 -- ---- one block
 
--- 1 footprint above 13; 4 block bytes not exactly 16; 5 result buffer not exactly 16 bytes. 0 for none.
+-- 1 footprint above 23 (02, h); 4 block bytes not exactly 16; 5 result buffer not exactly 16 bytes. 0 for none.
 unfoldable pub oneRefusal : ℕ → ℕ → ℕ → ℕ
 oneRefusal fp bytes places = firstOf (when (ltb 23 fp) 1 ∷ when (not (eqb bytes 16)) 4 ∷ when (not (eqb places 16)) 5 ∷ [])
 

@@ -16,7 +16,7 @@ use Rattle.caption_image.specs.Image.{imageBlocks}
 abbrev pub bestGrey : ℕ → ℕ → ℕ → ℕ
 bestGrey e0 e1 wanted = greyOf e0 e1 (bestWeight e0 e1 wanted)
 
--- at column x of row y, whatever the 4 w h result bytes held
+-- at column x of row y, both in the image, with sides that are not refused and ends that are bytes, whatever the 4 w h result bytes held
 pub record Shown (e0 e1 w h : ℕ) (wanted old : List ℕ) (x y : ℕ) : Type 0 where
   pub taken : imageRefusal footprint w h (length (imageBlocks e0 e1 w h wanted)) (length old) ≡ 0
   pub texel : (c : ℕ) → c < 4

@@ -53,7 +53,7 @@ more c b = quiet (record { phase = c .phase; have = c .have + 1; held = set (c .
 abbrev pub begun : Clip → Frame → Clip
 begun c f = record { phase = Blocks; have = 0; held = zeros; index = c .index; block = 0; last = blocksIn f - 1; frame = f }
 
--- the tenth byte: "these four are told at a frame's tenth byte, not earlier"
+-- the tenth byte: "These four are told at a frame's tenth byte, not earlier."
 unfoldable pub checked : Clip → List ℕ → Step
 checked c s = pick (eqb (frameRefusal (frameIn s) (lengthIn s)) 0) (quiet (begun c (frameIn s))) (over c (frameRefusal (frameIn s) (lengthIn s)))
 

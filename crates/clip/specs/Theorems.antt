@@ -1,4 +1,5 @@
--- 02, j: what is proved of the reader's rules. The proofs are theorems of these names' types in proofs/.
+-- 02, j: what is proved of the reader's rules. Theorems: proofs/Cut.antt, `one-feed`, `cut`, `fixed`, `for-good`; proofs/Timely.antt, `timely`;
+-- proofs/ReadBack.antt, `ends`, `read-back`.
 -- Assumes nothing.
 use Prim.Native.Nat.{ℕ, _+_, _*_, _%_, _^_, _≤_, _<_}
 use mathlib.Core.Path.{_≡_}

@@ -63,7 +63,7 @@ writeRefusal f bytes room =
 unfoldable pub frameOut : Frame → List ℕ → List ℕ → List ℕ
 frameOut f blocks old = pick (eqb (writeRefusal f (length blocks) (length old)) 0) (frameBytes f blocks) old
 
--- ---- what is proved of the bytes (`head-back` in proofs/Bytes)
+-- ---- what is proved of the bytes (theorem: proofs/Bytes.antt, `head-back`)
 
 -- the ten bytes are read as they were written, and their length is that "of the rest"
 pub record HeadBack : Type 0 where

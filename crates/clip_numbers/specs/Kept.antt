@@ -13,7 +13,7 @@ abbrev pub Bytes : List ℕ → Type 0
 Bytes [] = Unit {0}
 Bytes (b ∷ s) = (b < 256) × Bytes s
 
--- proved as `kept` in proofs/Kept
+-- Theorem: proofs/Kept.antt, `kept`.
 pub record Kept : Type 0 where
   pub started : clipOf (numbersOf freshOf) ≡ freshOf
   pub fed : (s p : List ℕ) → Bytes p → clipOf (numbersOf (feedOf (clipOf s) p .clip)) ≡ feedOf (clipOf s) p .clip

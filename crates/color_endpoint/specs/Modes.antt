@@ -1,4 +1,5 @@
 -- 000, "LDR Endpoint Decoding": from a colour endpoint mode (CEM) and its unquantised numbers v0, v1, .. to the ends e0 and e1.
+-- 01: "Endpoint modes as printed in 003.", which prints the same.
 -- Assumes nothing.
 use Prim.Native.Nat.{ℕ, _+_, _*_, _/_, _%_, min}
 use mathlib.Core.Bool.{Bool}
@@ -37,7 +38,7 @@ highLuminance v0 v1 = min (lowLuminance v0 v1 + v1 % 64) 255
 unfoldable pub mode1 : List Level → EndpointPair
 mode1 v = luminancePair (lowLuminance (levelAt v 0) (levelAt v 1)) (highLuminance (levelAt v 0) (levelAt v 1)) 255 255
 
--- "Mode 4 LDR Luminance+Alpha, direct"
+-- "Mode 4 LDR Luminance+Alpha,direct"
 unfoldable pub mode4 : List Level → EndpointPair
 mode4 v = luminancePair (levelAt v 0) (levelAt v 1) (levelAt v 2) (levelAt v 3)
 

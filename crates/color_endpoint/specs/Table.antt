@@ -38,6 +38,6 @@ tableBy make none modes count levels =
 abbrev pub entryOf : List ℕ → ℕ → List Level → ℕ → EndpointPair
 entryOf modes count levels p = entryBy pairOf zeroPair modes count levels p
 
--- 01: "four partitions may each hold a pair of four channels"
+-- 01: "Four partitions may each hold a pair of four channels."
 abbrev pub tableOf : List ℕ → ℕ → List Level → List EndpointPair
 tableOf modes count levels = tableBy pairOf zeroPair modes count levels

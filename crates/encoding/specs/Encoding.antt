@@ -22,6 +22,6 @@ codeBits Bits n = 0
 codeBits Trits n = (8 * n + 4) / 5
 codeBits Quints n = (7 * n + 2) / 3
 
--- the bits that n numbers with b bits each take; also the place where number n begins
+-- "n numbers with b bits each take nb bits, plus ceil(8n/5) with trits, ceil(7n/3) with quints."; also the place where number n begins
 unfoldable pub sequenceBits : Encoding → ℕ → ℕ → ℕ
 sequenceBits e b n = n * b + codeBits e n

@@ -10,7 +10,7 @@ pub enum Encoding {
     Quints,
 }
 
-// A number as a block stores it, quantised. 01: "stored numbers and widened numbers are two kinds that must not mix".
+// A number as a block stores it, quantised. 01: "Stored numbers and widened numbers are two kinds that must not mix".
 pub struct Stored(pub u8);
 
 // An unquantised number (01: widened): an endpoint's 0..255 or a weight's 0..64.

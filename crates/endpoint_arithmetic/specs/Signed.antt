@@ -1,4 +1,5 @@
--- 000, "LDR Endpoint Decoding": the procedures that its modes share, over signed numbers.
+-- 000, "LDR Endpoint Decoding": the procedures that its modes share, over signed numbers. 01: "Transfers give an offset from -32 to 31; blue
+-- contraction halves sums that may be negative, rounding down, and clamping comes last."
 -- Assumes nothing.
 use Prim.Native.Nat.{ℕ, _+_, _*_, _/_, _%_, _≤_, _<_, min}
 use mathlib.Core.List.{List, [], _∷_}

@@ -30,6 +30,7 @@ depthOf fp = getD (getD footprints fp []) 2 0
 unfoldable pub sidesOf : ℕ → Footprint
 sidesOf fp = record { width = widthOf fp; height = heightOf fp; depth = depthOf fp }
 
+-- how many texels a block covers
 unfoldable pub texelsOf : ℕ → ℕ
 texelsOf fp = widthOf fp * heightOf fp * depthOf fp
 

@@ -1,7 +1,8 @@
 -- 02, n: "no other choice of weights at these settings does better. Among equals take the smaller weight at each place. .. prove also that
 -- changing one wanted grey changes at most that texel's weight, the rest of the block's bits staying equal."
 -- Said of the writer's blocks and of what the one-block call and the reader of sheets tell of them.
--- Theorems: proofs/Demand.antt, `shows`, `best`, `local`, `placed`; proofs/Choices.antt, `chosen`, `at-settings`.
+-- Theorems: proofs/Demand.antt, `shows`, `best`, `local`, `placed`; proofs/Choices.antt, `chosen`, `at-settings`. The two ends are bytes, the result
+-- buffer is of 64.
 -- Assumes nothing.
 use mathlib.Core.Path.{_≡_}
 use mathlib.Core.List.{List, [], _∷_}

@@ -25,15 +25,17 @@ pub record Room (alpha : Bool) (e : List ℕ) : Type 0 where
   pub twelve : (c : ℕ) → getD e c 0 ≤ 4095
   pub last : alpha ≡ false → getD e 3 0 ≤ 255
 
--- mode 14: "fill in the alphas", e0.alpha = v6, e1.alpha = v7
+-- 000, "HDR Endpoint Mode 14": "fill in the alphas", e0.alpha = v6, e1.alpha = v7
 unfoldable pub mode14 : List Level → HdrPair
 mode14 v = direct (levelAt v 0) (levelAt v 1) (levelAt v 2) (levelAt v 3) (levelAt v 4) (levelAt v 5) (levelAt v 6) (levelAt v 7)
 
+-- 000, "HDR Endpoint Mode 15": mode 11's RGB, and alphas of their own
 unfoldable pub mode15 : List Level → HdrPair
 mode15 v =
     direct (levelAt v 0) (levelAt v 1) (levelAt v 2) (levelAt v 3) (levelAt v 4) (levelAt v 5)
     (alphasOf (levelAt v 6) (levelAt v 7) .0) (alphasOf (levelAt v 6) (levelAt v 7) .1)
 
+-- 000, "HDR Endpoint Mode 11": alphas of 1.0
 unfoldable pub mode11 : List Level → HdrPair
 mode11 v = direct (levelAt v 0) (levelAt v 1) (levelAt v 2) (levelAt v 3) (levelAt v 4) (levelAt v 5) oneHdr oneHdr
 
@@ -55,13 +57,14 @@ expandHalf hdr c = pick hdr (16 * c) (replicated c)
 unfoldable pub halfEnd : Bool → Bool → List ℕ → List ℕ
 halfEnd colour alpha e = expandHalf colour (getD e 0 0) ∷ expandHalf colour (getD e 1 0) ∷ expandHalf colour (getD e 2 0) ∷ expandHalf alpha (getD e 3 0) ∷ []
 
+-- the pair of an HDR mode, given whether its alpha is HDR, and that of an LDR mode
 unfoldable pub expandedHdr : Bool → HdrPair → HalfPair
 expandedHdr alpha p = record { c0 = halfEnd true alpha (p .e0); c1 = halfEnd true alpha (p .e1); colour = true; alpha = alpha }
 
 unfoldable pub expandedLdr : EndpointPair → HalfPair
 expandedLdr p = record { c0 = halfEnd false false (p .e0); c1 = halfEnd false false (p .e1); colour = false; alpha = false }
 
--- the pair of a mode in kind 2
+-- the pair of a mode in kind 2; 02, i: "Mode 14 keeps alpha linear."
 unfoldable pub halfPairOf : ℕ → List Level → HalfPair
 halfPairOf mode v = pick (isHdr mode) (expandedHdr (not (eqb mode 14)) (hdrPairOf mode v)) (expandedLdr (pairOf mode v))
 

@@ -1,5 +1,5 @@
--- What the list of faults says of the image and of the tally: a texel that is magenta where the list has 0 is a magenta texel of the
--- picture. Theorems: proofs/Shown.antt, `counted`, `shown`.
+-- What the list of faults says of the image and of the tally: where it has 0, a texel of the error colour is the block's own texel, not a
+-- sign of a fault. Theorems: proofs/Shown.antt, `counted`, `shown`.
 -- Assumes nothing.
 use mathlib.Core.Path.{_≡_}
 use Prim.Native.Nat.{ℕ, _%_, _<_}

@@ -16,7 +16,7 @@ use Rattle.image_layout.specs.Geometry.{blockIndex}
 use Rattle.image_layout.specs.Numbers.{blockBytes}
 use Rattle.image_layout.specs.Call.{imageRefusal, imageOutIn}
 
--- at every place of every image that a call takes
+-- at every place of every image that a call takes: x < w, y < h, c < 4
 pub record OwnBlock (reading : Reading) (fp : ℕ) (kind : Kind) (w h x y c : ℕ) : Type 0 where
   -- the texel's block is one of the image's
   pub index-in : fp < 14 → blockIndex fp w x y < blocksOf fp w h

@@ -1,4 +1,5 @@
--- 02, f: what asking one texel answers. The definitions of the picture calls, at one place.
+-- 02, f: what asking one texel answers, "by x and y in either kind", and in kind 2 too (02, i). The definitions of the picture calls, at one
+-- place.
 -- Assumes nothing.
 use Prim.Native.Nat.{ℕ}
 use mathlib.Core.Bool.{Bool}
@@ -22,7 +23,8 @@ mayAsk fp w h bytes x y = both (eqb (viewRefusal fp w h bytes) 0) (both (ltb x w
 unfoldable pub shownTexel : Kind → Texel → Texel
 shownTexel kind t = record { r = shownOf kind (t .r); g = shownOf kind (t .g); b = shownOf kind (t .b); a = shownOf kind (t .a) }
 
--- the answer inside: the fault of the texel's block, 0 for none, and the picture's four numbers there
+-- the answer inside: the fault of the texel's block, 0 for none, and the picture's four numbers there: "It answers the fault with the magenta
+-- texel where the block is bad." (02, i: in kind 2 65535 in all four channels)
 unfoldable pub askedIn : ℕ → ℕ → List ℕ → Kind → ℕ → ℕ → Asked
 askedIn fp w s kind x y = record {
   refusal = 0;

@@ -23,12 +23,12 @@ unfoldable pub codeAt : Encoding → ℕ → ℕ → ℕ → ℕ
 unfolding stream share
 codeAt e b s g = stream (codeBits e) (λ k. share e b s (g * groupSize e + k)) (groupSize e)
 
--- number i of the sequence s with b bits each: "a stored number is its digit times 2^b plus its b bits"
+-- number i of the sequence s with b bits each: "A stored number is its digit times 2^b plus its b bits."
 unfoldable pub number : Encoding → ℕ → ℕ → ℕ → ℕ
 unfolding field digit codeAt sequenceBits
 number e b s i = digit e (codeAt e b s (i / groupSize e)) (i % groupSize e) * 2 ^ b + field s (sequenceBits e b i) b
 
--- the sequence of n numbers that begins at bit `from` of B: "bits past the end are read as 0"
+-- the sequence of n numbers that begins at bit `from` of B: "Bits past the end are read as 0."
 unfoldable pub sequenceAt : Encoding → ℕ → ℕ → ℕ → ℕ → ℕ
 unfolding field sequenceBits
 sequenceAt e b B from n = field B from (sequenceBits e b n)

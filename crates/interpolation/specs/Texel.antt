@@ -12,7 +12,7 @@ use Rattle.interpolation.specs.declared.Texel.{Texel}
 use Rattle.interpolation.specs.declared.Kind.{Kind}
 use Rattle.interpolation.specs.Expansion.{expandedPair}
 
--- C = floor( (C0*(64-i) + C1*i + 32)/64 ); for a weight above 64, which no table gives, 64-i counts 0
+-- C = floor( (C0*(64-i) + C1*i + 32)/64 ), 01: "over the widened pair"; for a weight above 64, which no table gives, 64-i counts 0
 unfoldable pub mixOf : ℕ → ℕ → ℕ → ℕ
 mixOf c0 c1 i = (c0 * (64 - i) + c1 * i + 32) / 64
 

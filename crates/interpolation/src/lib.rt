@@ -39,7 +39,7 @@ pub struct ExpandedPair {
     pub c1: [u16; 4],
 }
 
-// Four 16-bit numbers; what a kind shows of each is `shown`.
+// Four 16-bit numbers; what a kind shows of each is `shownOf`.
 pub struct Texel {
     pub r: u16,
     pub g: u16,
@@ -90,8 +90,8 @@ fn texel_on(kind: Kind, l: [u16; 10], first: u16, second: u16, component: u8) ->
     }
 }
 
-// A texel of a kind on the lines of its pair, from the weights of both planes; the component that the component selector names (01: plane channel) takes the second weight, 4 or
-// more standing for none.
+// A texel of a kind on the lines of its pair, from the weights of both planes; the component that the component selector names (01: plane
+// channel) takes the second weight, 4 or more standing for none.
 pub fn mix_line(kind: Kind, l: [u16; 10], weights: LevelPair, component: u8) -> Texel
     ensures { λ r. ⌜ r ≡ lineTexel kind l (firstLevel weights) (secondLevel weights) component ⌝ }
     ensures { λ r. ⌜ ((p : EndpointPair) → l ≡ lineOf p → Mixes kind p (firstLevel weights) (secondLevel weights) component r) ⌝ }

@@ -3,7 +3,7 @@
 -- Assumes nothing.
 use Prim.Native.Nat.{ℕ, _+_, _*_, _/_}
 
--- where channel c of the texel in column x of row q stands, in rows of w texels
+-- 01: "Channels are R, G, B, A, rows first": where channel c of the texel in column x of row q stands, in rows of w texels
 abbrev pub place : ℕ → ℕ → ℕ → ℕ → ℕ
 place w x q c = 4 * (q * w + x) + c
 

@@ -2,8 +2,8 @@
 //
 // Texels are made row by row. Between two rows of words' samples lie four rows of texels; both rows of words stand unpacked in a window, and
 // the bottom one becomes the next top one. The first and the last row, which lie about both edges, are kept, so that each word is unpacked once.
-// For a row of texels the window's samples are
-// interpolated downwards first, once for each word, into a line, and then across, once for each texel.
+// For a row of texels the window's samples are interpolated downwards first, once for each word, into a line, and then across, once for each
+// texel.
 use pvrtc_word::Rgba;
 ghost use mathlib.Core.Path.{_≡_};
 ghost use Prim.Native.Nat.{ℕ, _+_, _*_, _/_, _%_, _^_, _≤_, _<_};

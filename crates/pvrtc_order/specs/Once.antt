@@ -1,4 +1,4 @@
--- 02, k: "Prove that the word order reaches every word exactly once." The statement; its proof is proofs/Once.
+-- 02, k: "Prove that the word order reaches every word exactly once." Theorem: proofs/Once.antt, `once`.
 -- Assumes nothing.
 use mathlib.Core.Path.{_≡_}
 use Prim.Native.Nat.{ℕ, _*_, _^_, _<_}

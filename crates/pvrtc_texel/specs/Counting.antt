@@ -1,5 +1,5 @@
--- 02, k: "list which words count, at most four for a texel, and prove that no other does". The list and the statement; the proof is
--- proofs/Exact.
+-- 02, k: "list which words count, at most four for a texel, and prove that no other does". Theorem:
+-- proofs/Exact.antt, `exact`.
 -- Assumes nothing.
 use mathlib.Core.Path.{_≡_}
 use Prim.Native.Nat.{ℕ, _*_, _^_, _≤_, _<_}
@@ -42,7 +42,7 @@ pub record Counts (a b x y p : ℕ) : Type 0 where
   pub elsewhere : (q : ℕ) → q < 2 ^ a * 2 ^ b → (q ≡ p → ⊥) → wordAtPlace one q ≡ wordAtPlace other q
   pub differ : imageTexel a b one x y 0 ≡ imageTexel a b other x y 0 → ⊥
 
--- the list is exact
+-- the list is exact, at every texel of the image: x < 4 * 2 ^ a, y < 4 * 2 ^ b
 pub record Exact (a b x y : ℕ) : Type 0 where
   pub at-most-four : length (countingWords a b x y) ≤ 4
   -- each listed place is that of a word of the image,

@@ -1,4 +1,4 @@
--- Request k: an image from its bytes, and what a call refuses.
+-- 02, k: an image from its bytes, and what a call refuses.
 -- Assumes nothing.
 use Prim.Native.Nat.{ℕ, zero, suc, _+_, _*_, _/_, _%_, _^_}
 use mathlib.Core.Bool.{Bool, not}
@@ -63,7 +63,7 @@ unfoldable pub imageBytes : ℕ → ℕ → List ℕ → List ℕ
 unfolding imageTexel sideBits tab
 imageBytes w h s = tab (λ n. imageTexel (sideBits w) (sideBits h) s (n / 4 % w) (n / 4 / w) (n % 4)) (4 * (w * h))
 
--- the result buffer after the call: as it was where the call is refused
+-- the result buffer after the call: "nothing is written" on a refusal
 unfoldable pub imageOut : ℕ → ℕ → List ℕ → List ℕ → List ℕ
 unfolding imageRefusal imageBytes
 imageOut w h s old = pick (eqb (imageRefusal w h (length s) (length old)) 0) (imageBytes w h s) old

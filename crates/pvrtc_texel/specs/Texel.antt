@@ -6,7 +6,7 @@ use lib.Dec.{eqb}
 use Rattle.laws.specs.Choice.{pick, both}
 use Rattle.pvrtc_texel.specs.Word.{colourA, colourB, modulationWeight, punched}
 
--- along one axis of n words, at texel x: X_Low, "(x - 2) / 4" rounded down, and X_Low + 1; "The texture data words are wrapped toroidally".
+-- along one axis of n words, at texel x: X_Low, which is (x - 2) / 4 rounded down, and X_Low + 1; "The texture data words are wrapped toroidally".
 -- X_Low is one less than (x + 2) / 4, and - 1 for the first two texels: n - 1 is added for - 1.
 unfoldable pub lowWord : ℕ → ℕ → ℕ
 lowWord n x = ((x + 2) / 4 + (n - 1)) % n
@@ -14,7 +14,7 @@ lowWord n x = ((x + 2) / 4 + (n - 1)) % n
 unfoldable pub highWord : ℕ → ℕ → ℕ
 highWord n x = (x + 2) / 4 % n
 
--- "x_r = (x - 2) - (4 X_Low)"
+-- x_r, which is (x - 2) - 4 X_Low: "relative coordinates"
 unfoldable pub relative : ℕ → ℕ
 relative x = (x + 2) % 4
 
@@ -43,7 +43,7 @@ module _ (n m : ℕ) (word : ℕ → ℕ → ℕ) where
       (colour (word (lowWord n x) (highWord m y)) c)
       (colour (word (highWord n x) (highWord m y)) c))
 
-  -- channel c of the texel: "The modulation information is retrieved from word W_XMod,YMod where X_Mod is x / 4 and Y_Mod is y / 4"
+  -- channel c of the texel: "The modulation information is retrieved from word" X_Mod, Y_Mod, which are x / 4 and y / 4 rounded down
   unfoldable pub texelAt : ℕ → ℕ → ℕ → ℕ
   unfolding upscaled modulated modulationWeight punched colourA colourB
   texelAt x y c =

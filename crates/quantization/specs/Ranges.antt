@@ -44,6 +44,7 @@ unfoldable pub largestTo : ℕ → ℕ → ℕ → ℕ
 largestTo n left zero = 4
 largestTo n left (suc i) = pick (leb (rangeBits (4 + suc i) n) left) (4 + suc i) (largestTo n left i)
 
+-- the largest of all seventeen
 unfoldable pub endpointRange : ℕ → ℕ → ℕ
 unfolding largestTo
 endpointRange n left = largestTo n left 16

@@ -86,7 +86,8 @@ tritRow rows n = getD rows (2 * (n - 1)) noRow
 abbrev quintRow : List Row → ℕ → Row
 quintRow rows n = getD rows (2 * (n - 1) + 1) noRow
 
--- "unq = D * C + B; unq = unq ^ A; unq = (A & top) | (unq >> 2);"
+-- "unq = D * C + B; unq = unq ^ A;", then of an endpoint "unq = (A & 0x80) | (unq >> 2);", of a weight "unq = (A & 0x20) | (unq >> 2);": top is
+-- 0x80 or 0x20
 unfoldable processed : ℕ → ℕ → ℕ → ℕ → ℕ → ℕ
 processed top A B C D = bitOr (bitAnd A top) (bitXor (D * C + B) A / 4)
 

@@ -163,7 +163,7 @@ fn wide(x: u8) -> u32
     x as u32
 }
 
-// 000: "unq = D * C + B; unq = unq ^ A; unq = (A & top) | (unq >> 2);". A & top is (A + 1) / 4.
+// 000: "unq = D * C + B; unq = unq ^ A; unq = (A & 0x80) | (unq >> 2);". A & 0x80 is (A + 1) / 4.
 pub fn unquantize(rule: Rule, s: Stored) -> Level
     ensures { λ r. ⌜ r .0 ≡ byRule rule (s .0) ⌝ }
 {

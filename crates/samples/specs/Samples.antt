@@ -1,4 +1,5 @@
--- 01, "Bench samples": the samples marked P, as one table. Each entry is 01's words, what the definitions compute, and what 01 wants.
+-- 01, "Bench samples": the samples marked P, as one table, and behind them those of solid blocks, which 02, i, shows in kind 2. Each entry is 01's
+-- words, what the definitions compute, and what 01 wants.
 -- Assumes nothing.
 use mathlib.Core.Bool.{true, false}
 use Prim.Native.Nat.{ℕ, _-_, _/_, _%_, _^_}

@@ -1,4 +1,4 @@
--- 02, l: what the call for a picture of BC7 blocks answers and writes, with the tally of the image calls.
+-- Beyond 02, l: what the call for a picture of BC7 blocks answers and writes, with the tally of the image calls.
 -- Assumes nothing.
 use Prim.Native.Nat.{ℕ}
 use mathlib.Core.List.{List}

@@ -1,5 +1,5 @@
-// The calls exported to C for symbolic blocks (01: sheets) as lists of 107 numbers, the fields in the order of 01, "Fields", and the HDR
-// mark.
+// The calls exported to C for symbolic blocks (01: sheets) as lists of 107 numbers: the fields in the order of 01, "Fields", then the HDR
+// mark (02, i), the grid's depth and the third pair of extents (02, h).
 ghost use mathlib.Core.Path.{_≡_};
 ghost use lib.ListN.{length};
 ghost use Rattle.symbolic_numbers.specs.Calls.{readNumber, readNumbers, readSpare, writeNumber, writeBlock};

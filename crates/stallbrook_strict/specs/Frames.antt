@@ -1,4 +1,4 @@
--- What the calls for C that rewrite the blocks of an image answer and write, in a tally of three numbers that the caller lends.
+-- Beyond 02, b: what the calls for C that rewrite the blocks of an image answer and write, in a tally of three numbers that the caller lends.
 -- Assumes nothing.
 use Prim.Native.Nat.{ℕ}
 use mathlib.Core.List.{List}

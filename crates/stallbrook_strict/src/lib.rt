@@ -222,7 +222,7 @@ pub extern "C" fn stallbrook_astc_strict_decode_volume_float16(
     )
 }
 
-// ---- symbolic blocks (01: sheets)
+// ---- the faults of an image, and symbolic blocks (01: sheets)
 
 // The fault of each block in the strict reading: as `stallbrook_astc_image_faults`.
 #[no_mangle]

@@ -1,5 +1,5 @@
--- 02, b: "a strict reading of block, picture and sheet", "21 shows .. a sheet of zeros like any fault"; 02, i: "The sheet reader, ordinary or
--- strict, uses kind 2's list". 02, g: on a fault the spare bits are 0 and clear, `nothing`.
+-- 02, b: "a strict reading of block, picture and sheet", "21 shows magenta and a sheet of zeros like any fault"; 02, i: "The sheet reader,
+-- ordinary or strict, uses kind 2's list". 02, g: on a fault the spare bits are 0 and clear, `nothing`.
 -- Assumes nothing.
 use Prim.Native.Nat.{ℕ}
 use mathlib.Core.Bool.{true}

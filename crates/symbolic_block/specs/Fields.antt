@@ -1,5 +1,5 @@
--- 01, "Fields": a symbolic block (01: sheet) and the numbers that it holds. 02, i: "Sheets gain an HDR mark". 02, h: "The sheet gains a grid depth", "and solid sheets gain a third pair of
--- extents".
+-- 01, "Fields": a symbolic block (01: sheet) and the numbers that it holds. 02, i: "Sheets gain an HDR mark". 02, h: "The sheet gains a grid
+-- depth", "and solid sheets gain a third pair of extents".
 -- Assumes nothing.
 use mathlib.Core.Path.{_≡_}
 use mathlib.Core.Bool.{Bool}

@@ -36,7 +36,8 @@ unfoldable pub solidPicture : Kind → SymbolicBlock → Texel
 unfolding solidChannel
 solidPicture kind s = record { r = solidChannel kind s 0; g = solidChannel kind s 1; b = solidChannel kind s 2; a = solidChannel kind s 3 }
 
--- "the partition's mode makes its numbers a pair of colours": channel c of that pair, mixed by a weight, in kinds 0 and 1 "widened for the kind and mixed", in kind 2 the half float of what is mixed
+-- "the partition's mode makes its numbers a pair of colours": channel c of that pair, mixed by a weight, in kinds 0 and 1 "widened for the kind and
+-- mixed", in kind 2 the half float of what is mixed
 abbrev pub pairChannel : Kind → ℕ → List Level → ℕ → ℕ → ℕ
 pairChannel Unorm16 mode v c w = mixOf (expandOf Unorm16 (getD (pairOf mode v .e0) c 0)) (expandOf Unorm16 (getD (pairOf mode v .e1) c 0)) w
 pairChannel Srgb8 mode v c w = mixOf (expandOf Srgb8 (getD (pairOf mode v .e0) c 0)) (expandOf Srgb8 (getD (pairOf mode v .e1) c 0)) w
@@ -90,7 +91,7 @@ module _ (s : SymbolicBlock) where
   unfoldable pub numbersOf : ℕ → ℕ
   numbersOf p = 2 * (modeIn s p / 4 + 1)
 
-  -- "partition 0 takes the first .., each next partition those that follow": as many as the first p partitions take
+  -- "partition 0 takes the first 2(class+1) numbers, each next partition those that follow": as many as the first p partitions take
   unfoldable pub numbersOfFirst : ℕ → ℕ
   numbersOfFirst zero = 0
   numbersOfFirst (suc p) = numbersOfFirst p + numbersOf p

@@ -97,7 +97,7 @@ ofVoid fp B x = pick (isVoid (modeAt fp B)) x 0
 abbrev pub ofMode : ℕ → ℕ → ℕ → ℕ
 ofMode fp B x = pick (isVoid (modeAt fp B)) 0 x
 
--- the selector, the settings that follow from it, and the modes' bits
+-- the selector, and the mode bits past it
 abbrev pub selectorIn : ℕ → ℕ
 selectorIn B = selectorAt B (partitionsAt B)
 

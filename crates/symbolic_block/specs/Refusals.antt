@@ -130,7 +130,7 @@ markedWithout s = both (isMarked s) (not (someHdr (headerOf s)))
 
 -- ---- the lists
 
--- "1; 31; 32; 14 to 17; 33; 18; 19; 20; 34", for a mode sheet; 02, i: the HDR mark "clear with such a mode is still 20; set with none is
+-- 1; 31; 32; 14 to 17; 33; 18; 19; 20; 34, for a mode sheet; 02, i: the HDR mark "clear with such a mode is still 20; set with none is
 -- new refusal 35, last in order"
 unfoldable pub modeRefusals : ℕ → SymbolicBlock → List Reason
 modeRefusals fp s =

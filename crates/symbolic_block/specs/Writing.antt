@@ -29,8 +29,8 @@ modeNumber NoMode = 0
 abbrev pub classBit : ℕ → ℕ → ℕ
 classBit selector mode = (mode / 4 - (selector - 1)) % 2
 
--- the mode bits past the selector, as one number. "0: the next four are everyone's mode." "1 to 3: first one class bit for each of the
--- P partitions", these lie lowest, "then two mode bits for each"
+-- the mode bits past the selector, as one number. "0: the next four are everyone's mode, no extra bits. 1 to 3: 3P-4 extra bits sit above the six;
+-- first one class bit for each of the P partitions", these lie lowest, "then two mode bits for each"
 unfoldable pub modesCode : BlockHeader → ℕ
 modesCode h =
     pick (eqb (h .selector) 0) (getD (h .modes) 0 0)

@@ -22,7 +22,7 @@ use Rattle.spare_bits.specs.Spare.{noSpare, spareOf}
 unfoldable pub readRefusal : ℕ → ℕ → ℕ
 readRefusal fp bytes = firstOf (when (ltb 23 fp) 1 ∷ when (not (eqb bytes 16)) 4 ∷ [])
 
--- an answer with "a sheet of zeros"; 02, g: its spare bits are "0 and clear for faults and refusals"
+-- an answer with "a sheet of zeros"; 02, g: its spare bits are "0 and clear for solid blocks, faults and refusals"
 abbrev pub nothing : Answer → SymbolicReading
 nothing a = record { answer = a; block = zeroBlock; spare = noSpare }
 

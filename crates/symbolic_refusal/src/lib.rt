@@ -343,7 +343,7 @@ fn number_refusal(s: SymbolicBlock) -> u8
     first(numbers, mark)
 }
 
-// "1; 31; 32; 14 to 17; 33; 18; 19; 20; 34", and 35 of 02, i
+// 1; 31; 32; 14 to 17; 33; 18; 19; 20; 34, and 35 of 02, i
 fn mode_refusal(fp: u8, s: SymbolicBlock) -> u8
     ensures { λ r. ⌜ r ≡ firstOf (modeRefusals fp s) ⌝ }
 {

@@ -34,7 +34,7 @@ blockNumberAt fp kind B x y z c = shownChannel kind (blockTexel fp kind B x y z)
 abbrev pub inRow : {A : Type 0} → ℕ → (ℕ → ℕ → ℕ → A) → ℕ → ℕ → A
 inRow fp f x q = f x (q % heightOf fp) (q / heightOf fp)
 
--- "Channels are R, G, B, A, rows first": number k of a block, in 16 bits, is channel k % 4 of texel k / 4
+-- 01: "Channels are R, G, B, A, rows first": number k of a block, in 16 bits, is channel k % 4 of texel k / 4
 unfoldable pub blockChannel : ℕ → Kind → ℕ → ℕ → ℕ
 unfolding blockTexel
 blockChannel fp kind B k = channel (inRow fp (blockTexel fp kind B) (k / 4 % widthOf fp) (k / 4 / widthOf fp)) (k % 4)

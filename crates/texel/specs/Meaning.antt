@@ -58,6 +58,7 @@ module _ (fp : ℕ) (kind : Kind) (h : BlockHeader) (ends weights : List Level) 
   unfoldable pub secondWeight : ℕ
   secondWeight = pick (eqb (h .grid .planes) 2) (planeWeight 1) (planeWeight 0)
 
+  -- "the named channel"; 4, which names none, with one plane
   unfoldable pub secondComponent : ℕ
   secondComponent = pick (eqb (h .grid .planes) 2) (h .component) 4
 
@@ -86,8 +87,8 @@ shownChannel kind t c = shownOf kind (channel t c)
 unfoldable pub solidNumber : Bool → ℕ → ℕ
 solidNumber half n = pick half (unormHalf n) n
 
--- 02, i: "An HDR solid block shows its four colours as stored, infinities and NaN too. What is LDR .. shows in kind 2 the half floats that
--- 000 makes of it"
+-- 02, i: "An HDR solid block shows its four colours as stored, infinities and NaN too. What is LDR, a solid block or a channel, shows in kind 2
+-- the half floats that 000 makes of it"
 unfoldable pub solidTexel : Kind → Bool → (ℕ → ℕ) → Texel
 solidTexel kind hdr colour =
     let half = both (takesHdr kind) (not hdr) in

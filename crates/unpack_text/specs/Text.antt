@@ -16,7 +16,7 @@ use Rattle.block_fault.specs.Faults.{faultOf}
 use Rattle.texel.specs.BlockTexel.{blockNumbers}
 use Rattle.line_text.specs.Lines.{spaced, texelLine, linesOf}
 
--- "fault N" and "refused N"
+-- the line "fault N", and the line "refused 4" with any refusal for 4
 unfoldable pub faultLine : ℕ → List ℕ
 faultLine n = (102 ∷ 97 ∷ 117 ∷ 108 ∷ 116 ∷ []) ++ spaced (n ∷ [])
 

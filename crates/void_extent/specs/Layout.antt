@@ -30,7 +30,7 @@ extentAt volume B i = field B (extentPlace volume i) (extentWidth volume i)
 unfoldable pub colourAt : ℕ → ℕ → ℕ
 colourAt B i = field B (64 + 16 * i) 16
 
--- "extents neither all ones nor low < high on both axes"; 02, h: "For volumes .. speak of three axes"
+-- "extents neither all ones nor low < high on both axes"; 02, h: "For volumes faults 12 (its extents part) and 14 speak of three axes"
 unfoldable pub badExtents : Bool → (ℕ → ℕ) → Bool
 badExtents volume e =
     not (either (all (λ i. eqb (e i) (extentMost volume)) (2 * axesOf volume)) (all (λ a. ltb (e (2 * a)) (e (2 * a + 1))) (axesOf volume)))

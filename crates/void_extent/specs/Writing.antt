@@ -1,4 +1,4 @@
--- The 128 bits of a void extent, from its HDR mark, its extents and its colours.
+-- 01, "Bits of a block": the 128 bits of a void extent (01: solid block), from its HDR mark, its extents and its colours.
 -- Assumes nothing.
 use Prim.Native.Nat.{ℕ}
 use mathlib.Core.Bool.{Bool}

@@ -1,5 +1,5 @@
 -- 000, "Weight Infill": "For 3D, simplex interpolation is used". A grid point lies in a column, a row and a layer; places on the three axes
--- are `weight_grid: gridPlace`'s. Prepared for request h.
+-- are `weight_grid: gridPlace`'s. 02, h: "simplex infill of source document 000".
 -- Assumes nothing.
 use Prim.Native.Nat.{ℕ, _+_, _-_, _*_, _/_, _%_}
 use mathlib.Core.Bool.{Bool}

@@ -1,4 +1,4 @@
-// The weight of a texel of a volume, from the weights of its grid: simplex infill. Prepared for request h; no call reaches it yet.
+// The weight of a texel of a volume, from the weights of its grid: simplex infill (02, h).
 ghost use mathlib.Core.Path.{_≡_};
 ghost use Prim.Native.Nat.{_+_, _*_, _≤_, _<_};
 ghost use Rattle.encoding.specs.Levels.{firstLevel, secondLevel, Bytes};

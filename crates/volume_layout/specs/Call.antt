@@ -24,13 +24,14 @@ use Rattle.volume_layout.specs.declared.CheckedVolume.{CheckedVolume}
 use Rattle.volume_layout.specs.declared.CheckedVolume.the-variants.{Rejected, Accepted}
 use Rattle.volume_layout.specs.Numbers.{texelsIn, volumeNumbersIn}
 
+-- "a depth of 0 or above 2,048"
 unfoldable pub depthLimit : ℕ
 depthLimit = 2048
 
 unfoldable pub badDepth : ℕ → Bool
 badDepth n = either (eqb n 0) (ltb depthLimit n)
 
--- 3: a width, height or depth
+-- 3, of a width, a height or a depth
 unfoldable pub badSizes : ℕ → ℕ → ℕ → Bool
 badSizes w h d = either (badSide w) (either (badSide h) (badDepth d))
 
@@ -69,7 +70,7 @@ checkedOf fp w h d bytes places =
     let e = volumeRefusal fp w h d bytes places in
     pick (eqb e 0) (Accepted (volumeGrid fp w h d)) (Rejected e)
 
--- ---- the answer and the buffer, in a reading
+-- ---- the answer and the buffer, in a reading (02, b); the names without one are the ordinary reading's
 
 -- the faults of a volume's blocks
 unfoldable pub volumeTallyIn : Reading → ℕ → Kind → ℕ → ℕ → ℕ → List ℕ → Tally

@@ -1,5 +1,5 @@
 -- 02, h: the numbers of a volume picture, "texels and blocks with x fastest, then y, then z". In the ordinary reading or the strict one, one text for
--- both; the names without a reading are the ordinary one's.
+-- both.
 -- Assumes nothing.
 use Prim.Native.Nat.{ℕ, _*_, _/_, _%_}
 use mathlib.Core.List.{List}

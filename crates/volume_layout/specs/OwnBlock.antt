@@ -15,7 +15,7 @@ use Rattle.volume_layout.specs.Rows.{rowOf}
 use Rattle.volume_layout.specs.Numbers.{blockIndex}
 use Rattle.volume_layout.specs.Call.{blocksOf, volumeRefusal, volumeOutIn}
 
--- at every place of every volume that a call takes
+-- at every place of every volume that a call takes: x < w, y < h, z < d, c < 4
 pub record OwnBlock (reading : Reading) (fp : ℕ) (kind : Kind) (w h d x y z c : ℕ) : Type 0 where
   -- the texel's block is one of the volume's
   pub index-in : fp < 24 → blockIndex fp w h x y z < blocksOf fp w h d

@@ -1,5 +1,6 @@
--- 02, h: "Some volume settings have two block modes ..: the reader takes both, the writer the smaller mode number". What the bits that are found
--- for a grid (`blockModeOf`) are, said of all 2,048 modes of volumes and of flat blocks. Theorem: proofs/Modes.antt, `least`.
+-- 02, h: "Some volume settings have two block modes (6x2x2 and its turns, one plane, the six low ranges): the reader takes both, the writer the
+-- smaller mode number." What the bits that are found for a grid (`blockModeOf`) are, said of all 2,048 modes of volumes and of flat blocks.
+-- Theorem: proofs/Modes.antt, `least`.
 -- Assumes nothing.
 use mathlib.Core.Path.{_≡_}
 use mathlib.Core.Bool.{Bool, false}

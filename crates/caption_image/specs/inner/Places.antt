@@ -1,4 +1,4 @@
--- What the code's parts ask and leave.
+-- What the code's parts ask.
 -- Assumes nothing.
 use mathlib.Core.Path.{_≡_}
 use mathlib.Core.List.{List}

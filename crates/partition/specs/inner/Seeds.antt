@@ -1,4 +1,4 @@
--- The same where z is 0, by seeds that are made once for a block. That both agree is a theorem: proofs/Agree.antt.
+-- The partition of a place where z is 0, by seeds that are made once for a block. That both agree is a theorem: proofs/Agree.antt.
 -- Assumes nothing.
 use Prim.Native.Nat.{ℕ, _+_, _-_, _*_, _/_, _%_, _^_}
 use mathlib.Core.Path.{_≡_}
