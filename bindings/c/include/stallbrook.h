@@ -28,9 +28,9 @@ extern "C" {
 
 /* ---- Version, constants, and what the numbers mean. */
 
-#define STALLBROOK_VERSION "0.6.0"
+#define STALLBROOK_VERSION "0.7.0"
 #define STALLBROOK_VERSION_MAJOR 0
-#define STALLBROOK_VERSION_MINOR 6
+#define STALLBROOK_VERSION_MINOR 7
 #define STALLBROOK_VERSION_PATCH 0
 
 /* STALLBROOK_VERSION of the library that is linked or loaded. */
