@@ -56,6 +56,9 @@ int main(void)
     ANSWERS(4, stallbrook_astc_image_faults(0, 0, 4, 4, NULL, 0, bytes, 1, tally, 3));
     ANSWERS(5, stallbrook_astc_image_faults(0, 0, 4, 4, block, 16, NULL, 0, tally, 3));
     ANSWERS(5, stallbrook_astc_image_faults(0, 0, 4, 4, block, 16, bytes, 1, NULL, 0));
+    ANSWERS(3, stallbrook_astc_image_faults(0, 2, 0, 0, NULL, 0, NULL, 0, NULL, 0));
+    ANSWERS(2, stallbrook_astc_image_faults(0, 3, 0, 0, NULL, 0, NULL, 0, NULL, 0));
+    ANSWERS(1, stallbrook_astc_image_faults(14, 3, 0, 0, NULL, 0, NULL, 0, NULL, 0));
 
     ANSWERS(4, stallbrook_astc_strict_decode_block_unorm16(0, NULL, 0, words, 64));
     ANSWERS(5, stallbrook_astc_strict_decode_block_unorm16(0, block, 16, NULL, 0));
@@ -84,6 +87,9 @@ int main(void)
     ANSWERS(4, stallbrook_astc_strict_image_faults(0, 0, 4, 4, NULL, 0, bytes, 1, tally, 3));
     ANSWERS(5, stallbrook_astc_strict_image_faults(0, 0, 4, 4, block, 16, NULL, 0, tally, 3));
     ANSWERS(5, stallbrook_astc_strict_image_faults(0, 0, 4, 4, block, 16, bytes, 1, NULL, 0));
+    ANSWERS(3, stallbrook_astc_strict_image_faults(0, 2, 0, 0, NULL, 0, NULL, 0, NULL, 0));
+    ANSWERS(2, stallbrook_astc_strict_image_faults(0, 3, 0, 0, NULL, 0, NULL, 0, NULL, 0));
+    ANSWERS(1, stallbrook_astc_strict_image_faults(14, 3, 0, 0, NULL, 0, NULL, 0, NULL, 0));
     ANSWERS(4, stallbrook_astc_strict_read_symbolic(0, NULL, 0, numbers, STALLBROOK_SYMBOLIC, spare, STALLBROOK_SPARE));
     ANSWERS(5, stallbrook_astc_strict_read_symbolic(0, block, 16, NULL, 0, spare, STALLBROOK_SPARE));
     ANSWERS(5, stallbrook_astc_strict_read_symbolic(0, block, 16, numbers, STALLBROOK_SYMBOLIC, NULL, 0));

@@ -80,6 +80,18 @@ class Pictures(Told):
         tally = picture.decode("srgb8").tally
         self.assertEqual((tally.faulty, tally.first), (3, (1, Fault(13))))
 
+    def test_strict_faults(self):
+        spare = SOUND[:5] + b"\1" + SOUND[6:]
+        picture = Picture(SOUND + HDR + bytes(16) + spare + SOUND + spare, "4x4", 9, 8)
+        for kind in ("unorm16", "srgb8"):
+            self.assertEqual(picture.faults(kind).tolist(), [[0, 13, 11], [0, 0, 0]])
+            self.assertEqual(picture.faults(kind, strict=True).tolist(), [[0, 13, 11], [21, 0, 21]])
+        self.assertEqual(picture.faults("float16", strict=True).tolist(), [[0, 0, 11], [21, 0, 21]])
+        self.refused(2, lambda: picture.faults(3, strict=True))
+        for kind, told in (("srgb8", (4, (1, Fault(13)))), ("float16", (3, (2, Fault(11))))):
+            self.assertEqual(picture.decode(kind, strict=True).tally, told)
+        self.assertEqual(picture.canonical().faults("float16", strict=True).tolist(), [[0, 0, 11], [0, 0, 0]])
+
     def test_refusals(self):
         self.refused(1, Picture, SOUND, 14, 3, 3)
         self.refused(1, Picture, SOUND, 24, 4, 4)

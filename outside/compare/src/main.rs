@@ -160,6 +160,7 @@ fn main() {
         run.symbolic(case);
     }
     for case in make::edges(&mut r) {
+        faults::picture(&mut run, &case);
         run.image(case);
     }
     run.image(make::panorama(&mut r));
