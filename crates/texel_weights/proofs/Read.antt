@@ -83,18 +83,17 @@ module _ (B : ℕ) (h : BlockHeader) (l : Limits (h .grid)) (room : weightCount 
     unfolding pointOf
     point-told ea eb er = er ∙ both (eqb planes 2) refl ea eb ∙ sym listed
 
-  -- the numbers that were read from point m on
-  module _ (m from s : ℕ) (xs : StoredEight) (ef : from ≡ m * planes) (es : s ≡ sequence) (ex : Eight (2 * planes) (λ j. number (encodingAt range) (bitsAt range) s (from + j)) xs) where
-    read : (j i : ℕ) → j < 2 * planes → from + j ≡ i → stored (xs .0 / 2 ^ (8 * j) % 256) ≡ stored (number (encodingAt range) (bitsAt range) sequence i)
+  -- so many numbers that were read from point m on
+  module _ (m from s count : ℕ) (xs : StoredEight) (ef : from ≡ m * planes) (es : s ≡ sequence) (ex : Eight count (λ j. number (encodingAt range) (bitsAt range) s (from + j)) xs) where
+    read : (j i : ℕ) → j < count → from + j ≡ i → stored (xs .0 / 2 ^ (8 * j) % 256) ≡ stored (number (encodingAt range) (bitsAt range) sequence i)
     read j i h e = ap stored (ex .at j h ∙ ap₂ (λ (q k : ℕ). number (encodingAt range) (bitsAt range) q k) es e)
 
     -- that point, or its right neighbour
-    pub point-in : (right k at : ℕ) (r : LevelPair) → right ≤ 1 → k ≡ m + right → at ≡ right * planes → k < h .grid .width * h .grid .height * h .grid .depth
+    pub point-in : (right k at : ℕ) (r : LevelPair) → at + planes ≤ count → k ≡ m + right → at ≡ right * planes → k < h .grid .width * h .grid .height * h .grid .depth
         → r ≡ levelPair (unquantWeight range (xs .0 / 2 ^ (8 * at) % 256)) (pick (eqb planes 2) (unquantWeight range (xs .0 / 2 ^ (8 * (at + 1)) % 256)) 0) → r ≡ getD (pointsAt B h) k noPoint
-    point-in right k at r one ek ea inside er =
-        let u : right * planes ≤ 1 * planes = mul-le-mul-right planes one in
+    point-in right k at r room ek ea inside er =
         let e : from + at ≡ k * planes = rw (ef, ek, ea) (sym (add-mul m right planes)) in
-        point-told k inside (read at (k * planes) (omega (arith, l .planes-low, u, ea)) e) (λ two. read (at + 1) (k * planes + 1) (omega (arith, two, u, ea)) (omega (arith, e))) er
+        point-told k inside (read at (k * planes) (omega (arith, l .planes-low, room)) e) (λ two. read (at + 1) (k * planes + 1) (omega (arith, two, room)) (omega (arith, e))) er
 
 pub step-one : (place points : ℕ) → stepOf place points 1 ≤ 1
 unfolding stepOf

@@ -40,7 +40,7 @@ fn point_of(words: &[u64; 4], planes: u8, row: StoredEight, j: u32) -> LevelPair
     quantization::weight_pair(words, planes, low, high)
 }
 
-// The points that are n, its right neighbour, the lower one and the one right of that.
+// The points that are n, its right neighbour, the lower one and the one right of that; at the last column no number behind the point is read.
 fn points_at(
     block: PhysicalBlock,
     h: BlockHeader,
@@ -60,7 +60,7 @@ fn points_at(
     let first = (n * each) as u32;
     let across = (right * each) as u32;
     let down = (below * each) as u32;
-    let rows = sequence_numbers::rows_from(s, range, first, down, 2 * (planes as u32));
+    let rows = sequence_numbers::rows_from(s, range, first, down, across + planes as u32);
     let words = quantization::weight_words(range);
     let p00 = point_of(&words, planes, rows.upper, 0);
     let p01 = point_of(&words, planes, rows.upper, across);
