@@ -1,7 +1,7 @@
 // One texel over a run of a picture: what a row of a block shows that has one colour, or a fault. Two texels at a time.
 use interpolation::Texel;
 ghost use mathlib.Core.Path.{_≡_};
-ghost use Prim.Native.Nat.{_+_, _*_, _/_, _≤_};
+ghost use Prim.Native.Nat.{_+_, _*_, _/_, _%_, _≤_};
 ghost use lib.ListN.{length};
 ghost use Rattle.laws.specs.Table.{putFour};
 ghost use Rattle.interpolation.specs.declared.Kind.the-variants.{Unorm16, Srgb8};
@@ -36,15 +36,26 @@ pub fn fill_numbers(t: Texel, at: usize, n: usize, out: &mut [u16])
     }
 }
 
-// A texel's bytes at place i, the top bytes of its numbers.
-fn put_bytes(out: &mut [u8], i: usize, t: Texel)
-    requires { ⌜ i + 4 ≤ length (now out) ⌝ }
-    ensures { λ _. ⌜ now (out .exit) ≡ putFour (now (out .entry)) i (t .r / 256) (t .g / 256) (t .b / 256) (t .a / 256) ⌝ }
+// The top bytes of a texel's numbers in one number, the first in bits 7..0: made once for all places.
+fn byte_word(t: Texel) -> u32
+    ensures { λ r. ⌜ (r % 256 ≡ t .r / 256) × (r / 256 % 256 ≡ t .g / 256) × (r / 65536 % 256 ≡ t .b / 256) × (r / 16777216 ≡ t .a / 256) ⌝ }
 {
-    out[i] = interpolation::top_byte(t.r);
-    out[i + 1] = interpolation::top_byte(t.g);
-    out[i + 2] = interpolation::top_byte(t.b);
-    out[i + 3] = interpolation::top_byte(t.a);
+    let r = interpolation::top_byte(t.r) as u32;
+    let g = interpolation::top_byte(t.g) as u32;
+    let b = interpolation::top_byte(t.b) as u32;
+    let a = interpolation::top_byte(t.a) as u32;
+    r + 256 * g + 65536 * b + 16777216 * a
+}
+
+// The four bytes of a number at place i, as one store.
+fn put_bytes(out: &mut [u8], i: usize, w: u32)
+    requires { ⌜ i + 4 ≤ length (now out) ⌝ }
+    ensures { λ _. ⌜ now (out .exit) ≡ putFour (now (out .entry)) i (w % 256) (w / 256 % 256) (w / 65536 % 256) (w / 16777216) ⌝ }
+{
+    out[i] = (w % 256) as u8;
+    out[i + 1] = (w / 256 % 256) as u8;
+    out[i + 2] = (w / 65536 % 256) as u8;
+    out[i + 3] = (w / 16777216) as u8;
 }
 
 // The same in bytes.
@@ -52,13 +63,14 @@ pub fn fill_bytes(t: Texel, at: usize, n: usize, out: &mut [u8])
     requires { ⌜ (n ≤ 216) × (at + 4 * n ≤ length (now out)) ⌝ }
     ensures { λ _. ⌜ Pasted (shownOf Srgb8) (everywhere t) 0 (4 * n) (now (out .entry)) at (now (out .exit)) ⌝ }
 {
+    let w = byte_word(t);
     let mut i: usize = 0;
     while i + 1 < n {
-        put_bytes(out, at + 4 * i, t);
-        put_bytes(out, at + 4 * (i + 1), t);
+        put_bytes(out, at + 4 * i, w);
+        put_bytes(out, at + 4 * (i + 1), w);
         i += 2;
     }
     if i < n {
-        put_bytes(out, at + 4 * i, t);
+        put_bytes(out, at + 4 * i, w);
     }
 }
