@@ -1,14 +1,15 @@
 -- A texel of a flat block from what is prepared, step by step.
 -- Assumes nothing.
-use mathlib.Core.Bool.{false}
-use mathlib.Core.Path.{_≡_, _∙_}
+use mathlib.Core.Bool.{Bool, true, false}
+use mathlib.Core.Path.{_≡_, sym, _∙_, subst}
 use mathlib.Core.List.{List, []}
 use Prim.Native.Nat.{ℕ, _+_, _-_, _*_, _/_, _%_, _≤_, _<_}
 use native.Mathlib.Nat.{mul-le-mul, mul-comm, mod-lt, div-lt-iff-lt-mul, div-add-mod'}
 use native.Mathlib.Omega.{arith}
-use lib.Dec.{eqb}
+use lib.Dec.{T, eqb, eqb→eq}
 use lib.ListN.{getD}
-use Rattle.laws.specs.Choice.{pick}
+use Rattle.laws.specs.Choice.{pick, both}
+use Rattle.laws.proofs.Computed.{both-left, both-right}
 use Rattle.laws.specs.Table.{tab}
 use Rattle.block_mode.specs.declared.WeightGrid.{WeightGrid}
 use Rattle.block_mode.specs.Back2D.{Limits}
@@ -52,6 +53,14 @@ pub told : (kind : Kind) (g : WeightGrid) (component : ℕ) (points : List Level
 unfolding texelIn texelOnGrid readOf
 told kind g component points lines seeds partitions f x y both h ew ep es et en er eb e1 e2 el =
     rw (el, e1, e2, er, eb, en, es, et, ep ∙ which-told seeds partitions y x ew h)
+
+-- what the test of a grid's sides says
+pub points-true : (partitions width w height h : ℕ) {r : Bool} → r ≡ both (eqb partitions 1) (both (eqb width w) (eqb height h)) → r ≡ true
+    → (partitions ≡ 1) × ((width ≡ w) × (height ≡ h))
+points-true partitions width w height h e t =
+    let p : T (both (eqb partitions 1) (both (eqb width w) (eqb height h))) = subst T (sym (sym e ∙ t)) tt in
+    let q = both-right (eqb partitions 1) (both (eqb width w) (eqb height h)) p in
+    (eqb→eq partitions 1 (both-left (eqb partitions 1) _ p), (eqb→eq width w (both-left (eqb width w) (eqb height h) q), eqb→eq height h (both-right (eqb width w) (eqb height h) q)))
 
 -- at a point of the grid its weight is the point's
 read-point : (plane : LevelPair → ℕ) (points : List LevelPair) (width height x y : ℕ) → readOf plane points width height (16 * x) (16 * y) ≡ plane (getD points (y * width + x) noPoint)

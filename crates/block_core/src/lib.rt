@@ -14,12 +14,12 @@ ghost use mathlib.Core.Path.{_≡_};
 ghost use Prim.Native.Nat.{ℕ, _*_, _/_, _%_, _≤_, _<_};
 ghost use lib.Dec.{eqb};
 ghost use lib.ListN.{length};
-ghost use Rattle.laws.specs.Choice.{pick};
+ghost use Rattle.laws.specs.Choice.{pick, both};
 ghost use Rattle.bits.specs.Block.{blockNumber};
 ghost use Rattle.footprint.specs.Footprint.{widthOf, texelsOf, isVolume};
 ghost use Rattle.block_header.specs.Counts.{weightCount, endpointCount, endpointRangeOf};
 ghost use Rattle.block_mode.specs.Back2D.{Limits};
-ghost use mathlib.Core.Bool.{true, false};
+ghost use mathlib.Core.Bool.{false};
 ghost use Rattle.interpolation.specs.Expansion.{takesHdr};
 ghost use Rattle.texel.specs.Meaning.{errorTexel, texelFrom};
 ghost use Rattle.texel.specs.BlockTexel.{inRow, blockInto};
@@ -133,7 +133,7 @@ fn paint(
 
 // Whether a block has one partition and its grid a point for each texel.
 fn on_points(g: WeightGrid, f: Frame, partitions: u8) -> bool
-    ensures { λ r. ⌜ (r ≡ true → (partitions ≡ 1) × ((g .width ≡ f .width) × (g .height ≡ f .height))) ⌝ }
+    ensures { λ r. ⌜ r ≡ both (eqb partitions 1) (both (eqb (g .width) (f .width)) (eqb (g .height) (f .height))) ⌝ }
 {
     if partitions != 1 {
         return false;

@@ -6,7 +6,7 @@ use Rattle.block_fault.specs.Bits.{weightAt}
 use Rattle.block_core.specs.inner.Prepared.{frameOf, Inside, ByteLevels}
 use Rattle.block_levels.proofs.Levels.{layer-le}
 use Rattle.block_core.proofs.Frames.{inside, in-volume}
-use Rattle.block_core.proofs.Painting.{point-told, room-for}
+use Rattle.block_core.proofs.Painting.{points-true, point-told, room-for}
 use native.Mathlib.Nat.{mul-comm}
 use native.Mathlib.Omega.{arith}
 use Rattle.block_core.proofs.Shows.{byte-levels, flat-told, volume-told}
@@ -43,7 +43,7 @@ mul-count c = omega (arith, room-for _ _ (ready (c .before .before .before .befo
 
 -- what is known of a grid with a point for each texel
 same : (c : tie.Then2) → (start (c .before .before .before .before .before) .args .s .header .partitions ≡ 1) × ((start (c .before .before .before .before .before) .args .s .header .grid .width ≡ c .before .before .frame-of .result .width) × (start (c .before .before .before .before .before) .args .s .header .grid .height ≡ c .before .before .frame-of .result .height))
-same c = c .before .on-points .ensures (c .if2 .taken)
+same c = points-true _ _ _ _ _ (c .before .on-points .ensures) (c .if2 .taken)
 
 paint-points-requires : tie.Need-paint-points-requires
 paint-points-requires c κs =
