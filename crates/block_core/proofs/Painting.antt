@@ -23,6 +23,9 @@ use Rattle.encoding.specs.declared.LevelPair.{LevelPair}
 use Rattle.encoding.specs.Levels.{firstLevel, secondLevel}
 use Rattle.weight_grid.specs.Bilinear.{w00, w01, w10, w11, blendOf}
 use Rattle.weight_grid.specs.inner.Points.{stepOf, noPoint, readOf}
+use Rattle.weight_grid.specs.inner.Columns.{columnOf}
+use Rattle.weight_grid.specs.declared.Column.{Column}
+use Rattle.weight_grid.proofs.ByColumns.{read-column}
 use Rattle.block_levels.proofs.Levels.{layer-le}
 use Rattle.weight_grid.proofs.Reading.{read-lt}
 use Rattle.interpolation.specs.declared.Texel.{Texel}
@@ -39,20 +42,27 @@ pub reach : (g : WeightGrid) (gs gt : ℕ) → Limits g → weightCount g ≤ 64
 reach g gs gt l n hs ht =
     omega (arith, layer-le g l n, read-lt (g .width) (g .height) gs gt (omega (arith, l .width-low)) (omega (arith, l .height-low)) hs ht)
 
--- the texel, step by step
-pub told : (kind : Kind) (g : WeightGrid) (component : ℕ) (points : List LevelPair) (lines : List (List ℕ)) (seeds : Seeds) (partitions : ℕ) (f : Frame) (x y : ℕ)
-    {gs gt n right below p : ℕ} (both : LevelPair) {which : List ℕ} {t : Texel} → x < 16
-    → which ≡ tab (λ k. pick (eqb partitions 1) 0 (selectBy seeds k y)) 16 → p ≡ getD which x 0
-    → gs ≡ gridPlace (f .across) x (g .width) → gt ≡ gridPlace (f .down) y (g .height)
-    → n ≡ gt / 16 * g .width + gs / 16 → right ≡ stepOf gs (g .width) 1 → below ≡ stepOf gt (g .height) (g .width)
-    → firstLevel both ≡ blendOf (gs % 16) (gt % 16) (firstLevel (getD points n noPoint)) (firstLevel (getD points (n + right) noPoint))
-    (firstLevel (getD points (n + below) noPoint)) (firstLevel (getD points (n + below + right) noPoint))
-    → secondLevel both ≡ blendOf (gs % 16) (gt % 16) (secondLevel (getD points n noPoint)) (secondLevel (getD points (n + right) noPoint))
-    (secondLevel (getD points (n + below) noPoint)) (secondLevel (getD points (n + below + right) noPoint))
-    → t ≡ texelOn kind (getD lines p []) (firstLevel both) (secondLevel both) component → t ≡ texelIn kind g component points lines seeds partitions f x y
-unfolding texelIn texelOnGrid readOf
-told kind g component points lines seeds partitions f x y both h ew ep es et en er eb e1 e2 el =
-    rw (el, e1, e2, er, eb, en, es, et, ep ∙ which-told seeds partitions y x ew h)
+module _ (g : WeightGrid) (f : Frame) (x : ℕ) {gt upper lower : ℕ} (col : Column) (ec : col ≡ columnOf (f .across) (g .width) x) (eu : upper ≡ gt / 16 * g .width) (eo : lower ≡ upper + stepOf gt (g .height) (g .width)) where
+  -- by a column: the last point that is read, and where the others stand before it
+  pub reach-column : Limits g → weightCount g ≤ 64 → gridPlace (f .across) x (g .width) ≤ 16 * (g .width - 1) → gt ≤ 16 * (g .height - 1)
+      → (lower + col .next < 64) × (col .at ≤ col .next) × (upper ≤ lower)
+  unfolding columnOf
+  reach-column l n hs ht = rw (ec, eo, eu) (omega (arith, reach g (gridPlace (f .across) x (g .width)) gt l n hs ht), omega arith, omega arith)
+
+  -- the texel, step by step
+  pub told : (kind : Kind) (component : ℕ) (points : List LevelPair) (lines : List (List ℕ)) (seeds : Seeds) (partitions y : ℕ)
+      {p : ℕ} (both : LevelPair) {which : List ℕ} {t : Texel} → x < 16
+      → which ≡ tab (λ k. pick (eqb partitions 1) 0 (selectBy seeds k y)) 16 → p ≡ getD which x 0 → gt ≡ gridPlace (f .down) y (g .height)
+      → firstLevel both ≡ blendOf (col .part % 16) (gt % 16) (firstLevel (getD points (upper + col .at) noPoint)) (firstLevel (getD points (upper + col .next) noPoint))
+      (firstLevel (getD points (lower + col .at) noPoint)) (firstLevel (getD points (lower + col .next) noPoint))
+      → secondLevel both ≡ blendOf (col .part % 16) (gt % 16) (secondLevel (getD points (upper + col .at) noPoint)) (secondLevel (getD points (upper + col .next) noPoint))
+      (secondLevel (getD points (lower + col .at) noPoint)) (secondLevel (getD points (lower + col .next) noPoint))
+      → t ≡ texelOn kind (getD lines p []) (firstLevel both) (secondLevel both) component → t ≡ texelIn kind g component points lines seeds partitions f x y
+  unfolding texelIn texelOnGrid
+  told kind component points lines seeds partitions y both h ew ep et e1 e2 el =
+      let r1 = (rw ec at e1) ∙ read-column firstLevel points (f .across) (g .width) (g .height) x gt eu eo in
+      let r2 = (rw ec at e2) ∙ read-column secondLevel points (f .across) (g .width) (g .height) x gt eu eo in
+      rw (el, r1, r2, et, ep ∙ which-told seeds partitions y x ew h)
 
 -- what the test of a grid's sides says
 pub points-true : (partitions width w height h : ℕ) {r : Bool} → r ≡ both (eqb partitions 1) (both (eqb width w) (eqb height h)) → r ≡ true

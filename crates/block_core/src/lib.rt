@@ -106,22 +106,23 @@ fn paint(
     ensures { λ r. ⌜ (length (now (out .entry)) ≡ 864 → now (out .exit) ≡ painted (f .width) (texelIn kind g component points (now (lines .entry)) seeds partitions f) (f .height * f .width) (now (out .entry))) ⌝ }
 {
     let row = g.width as usize;
+    let columns = weight_grid::columns(f.across, g.width, f.width);
     let mut y: u8 = 0;
     while y < f.height {
         let gt = weight_grid::grid_place(f.down, y, g.height);
-        let from = ((gt / 16) as usize) * row;
-        let below = weight_grid::step(gt, g.height, row);
+        let upper = ((gt / 16) as usize) * row;
+        let lower = upper + weight_grid::step(gt, g.height, row);
         let which = partition::row_partitions(seeds, partitions, y);
         let mut x: u8 = 0;
         while x < f.width {
-            let gs = weight_grid::grid_place(f.across, x, g.width);
-            let n = from + (gs / 16) as usize;
-            let right = weight_grid::step(gs, g.width, 1);
-            let p00 = points[n];
-            let p01 = points[n + right];
-            let p10 = points[n + below];
-            let p11 = points[n + below + right];
-            let both = weight_grid::infill_both(gs, gt, p00, p01, p10, p11);
+            let c = columns[x as usize];
+            let left = c.at as usize;
+            let right = c.next as usize;
+            let p00 = points[upper + left];
+            let p01 = points[upper + right];
+            let p10 = points[lower + left];
+            let p11 = points[lower + right];
+            let both = weight_grid::infill_both(c.part as u32, gt, p00, p01, p10, p11);
             let line = lines[which[x as usize] as usize];
             let t = half_line::mix(kind, line, both, component);
             put(out, place(f.width, x, y), t.r, t.g, t.b, t.a);

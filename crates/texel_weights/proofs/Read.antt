@@ -95,14 +95,6 @@ module _ (B : ℕ) (h : BlockHeader) (l : Limits (h .grid)) (room : weightCount 
         let e : from + at ≡ k * planes = rw (ef, ek, ea) (sym (add-mul m right planes)) in
         point-told k inside (read at (k * planes) (omega (arith, l .planes-low, room)) e) (λ two. read (at + 1) (k * planes + 1) (omega (arith, two, room)) (omega (arith, e))) er
 
-pub step-one : (place points : ℕ) → stepOf place points 1 ≤ 1
-unfolding stepOf
-step-one place points = at (ltb (place / 16 + 1) points)
-  where
-    at : (t : Bool) → pick t 1 0 ≤ 1
-    at true = omega arith
-    at false = omega arith
-
 -- a plane of what is read, from the four points
 pub read-told : (plane : LevelPair → ℕ) (points : List LevelPair) (width height gs gt : ℕ) {n right below v : ℕ} {p : List LevelPair} → n ≡ gt / 16 * width + gs / 16
     → right ≡ stepOf gs width 1 → below ≡ stepOf gt height width

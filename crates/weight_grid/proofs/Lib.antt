@@ -2,3 +2,4 @@ pub mod Factors
 pub mod Planes
 pub mod Points
 pub mod Reading
+pub mod ByColumns

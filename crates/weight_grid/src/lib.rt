@@ -1,10 +1,12 @@
 // The weight of a texel, from the weights of a grid that may be smaller than the block.
 ghost use mathlib.Core.Path.{_≡_};
-ghost use Prim.Native.Nat.{_-_, _%_, _≤_, _<_};
+ghost use Prim.Native.Nat.{ℕ, _-_, _*_, _%_, _≤_, _<_};
 ghost use Rattle.weight_grid.specs.Place.{scaleOf, gridPlace};
 ghost use Rattle.encoding.specs.Levels.{firstLevel, secondLevel, Bytes};
 ghost use Rattle.weight_grid.specs.Bilinear.{blendOf};
 ghost use Rattle.weight_grid.specs.inner.Points.{bothOf, stepOf};
+ghost use Rattle.weight_grid.specs.inner.Columns.{columnOf, noColumn};
+ghost use Rattle.laws.specs.Table.{padded};
 use encoding::LevelPair;
 
 fn less_one(n: u8) -> u32
@@ -62,6 +64,47 @@ pub fn step(place: u32, points: u8, size: usize) -> usize
     }
 }
 
+// A column of texels on the grid: the points beside it and its way between them, once for all rows of a block. At the last point it stands for its
+// right neighbour.
+pub struct Column {
+    pub at: u8,
+    pub next: u8,
+    pub part: u8,
+}
+
+fn column_at(scale: u16, x: u8, points: u8) -> Column
+    requires { ⌜ (gridPlace scale x points ≤ 16 * (points - 1)) × (points ≤ 12) ⌝ }
+    ensures { λ r. ⌜ r ≡ columnOf scale points x ⌝ }
+{
+    let place = grid_place(scale, x, points);
+    let at = (place / 16) as usize;
+    Column {
+        at: at as u8,
+        next: (at + step(place, points, 1)) as u8,
+        part: (place % 16) as u8,
+    }
+}
+
+// The columns of a block of this width.
+pub fn columns(scale: u16, points: u8, width: u8) -> [Column; 12]
+    requires { ⌜ ((x : ℕ) → x < width → gridPlace scale x points ≤ 16 * (points - 1)) ⌝ }
+    requires { ⌜ (points ≤ 12) × (width ≤ 12) ⌝ }
+    ensures { λ r. ⌜ r ≡ padded 12 width (columnOf scale points) noColumn ⌝ }
+{
+    let none = Column {
+        at: 0,
+        next: 0,
+        part: 0,
+    };
+    let mut out = [none; 12];
+    let mut x: u8 = 0;
+    while x < width {
+        out[x as usize] = column_at(scale, x, points);
+        x += 1;
+    }
+    out
+}
+
 // The factors of four neighbours, and the sum of their packed weights in sixteenths: both planes at once. 16711935 is 255 in each.
 fn blend_both(fs: u32, ft: u32, p00: u32, p01: u32, p10: u32, p11: u32) -> u32
     requires { ⌜ (fs < 16) × (ft < 16) ⌝ }
@@ -71,7 +114,7 @@ fn blend_both(fs: u32, ft: u32, p00: u32, p01: u32, p10: u32, p11: u32) -> u32
     let w11 = (fs * ft + 8) / 16;
     let w10 = ft - w11;
     let w01 = fs - w11;
-    let w00 = 16 + w11 - fs - ft;
+    let w00 = 16 - ft - w01;
     (p00 * w00 + p01 * w01 + p10 * w10 + p11 * w11 + 524296) / 16
 }
 

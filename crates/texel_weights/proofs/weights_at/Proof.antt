@@ -8,7 +8,8 @@ use Rattle.weight_grid.specs.inner.Points.{stepOf}
 use Rattle.weight_grid.proofs.Reading.{read-lt}
 use Rattle.block_levels.proofs.Levels.{points-le}
 use Rattle.texel_weights.specs.inner.Points.{pointsAt}
-use Rattle.texel_weights.proofs.Read.{step-one, read-told, bytes-told}
+use Rattle.weight_grid.proofs.Points.{step-le}
+use Rattle.texel_weights.proofs.Read.{read-told, bytes-told}
 use borrow.Author.Needs.{needs}
 use Rattle.texel_weights.proofs.weights_at.Statement.{statement}
 use Rattle.texel_weights.proofs.weights_at.Tie as tie
@@ -31,7 +32,7 @@ add-n : tie.Need-add-n
 add-n c = omega (arith, reach (c .before), room (c .before))
 
 points-at-requires : tie.Need-points-at-requires
-points-at-requires c κs = let s = c .before .before .before in (s .pre .0, (omega (arith, reach s, c .before .step .ensures, c .step2 .ensures), rw (c .before .step .ensures) (step-one (s .args .gs) (s .args .h .grid .width))))
+points-at-requires c κs = let s = c .before .before .before in (s .pre .0, (omega (arith, reach s, c .before .step .ensures, c .step2 .ensures), rw (c .before .step .ensures) (step-le (s .args .gs) (s .args .h .grid .width) 1)))
 
 infill-both-requires : tie.Need-infill-both-requires
 infill-both-requires c κs =
