@@ -105,15 +105,11 @@ fn asked_in(
     let columns = footprint::width(footprint);
     let rows = footprint::height(footprint);
     let across = image_size::blocks_across(width, columns);
-    let b = y / (rows as u32) * across + x / (columns as u32);
+    let column = image_size::in_block(x, columns);
+    let row = image_size::in_block(y, rows);
+    let b = row.block * across + column.block;
     let block = image_parts::block_of(blocks, b as usize);
-    let t = one_texel::texel_of(
-        block,
-        footprint,
-        kind,
-        (x % (columns as u32)) as u8,
-        (y % (rows as u32)) as u8,
-    );
+    let t = one_texel::texel_of(block, footprint, kind, column.texel, row.texel);
     Asked {
         refusal: 0,
         fault: t.fault,

@@ -1,4 +1,3 @@
-use mathlib.Core.Path.{refl}
 use native.Mathlib.Omega.{arith}
 use borrow.Author.Needs.{needs}
 use Rattle.image_size.specs.Sides.{blocksAcross}
@@ -8,7 +7,7 @@ use Rattle.image_size.proofs.blocks_across.Tie as tie
 
 returns : tie.Need-returns
 unfolding blocksAcross
-returns c = (refl, let e = across-le (c .args .side) (c .args .n) (c .pre .0) in let m = c .pre .1 in omega arith)
+returns c = let s = c .before in (c .quotient .ensures, omega (arith, c .quotient .ensures, across-le (s .args .side) (s .args .n) (s .pre .0), s .pre .1))
 
 pub blocks-across-spec : {M : Type 1} → statement M
-blocks-across-spec = tie.close (tie.spec (λ c. search needs) (λ c. search needs) (λ c. search needs) returns)
+blocks-across-spec = tie.close (tie.spec (λ c. search needs) (λ c. search needs) (λ c κs. search needs) returns)

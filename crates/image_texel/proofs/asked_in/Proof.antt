@@ -1,5 +1,5 @@
-use mathlib.Core.Path.{_≡_, refl, _∙_}
-use Prim.Native.Nat.{_/_, _*_, _+_}
+use mathlib.Core.Path.{_≡_, ap₂}
+use Prim.Native.Nat.{ℕ, _/_, _*_, _+_}
 use native.Mathlib.Omega.{arith}
 use lib.ListN.{length}
 use denote.Ref.{now}
@@ -16,57 +16,29 @@ facts c =
     let a = s .args in
     bounded (a .footprint) (a .width) (a .height) (length (now (a .blocks))) (s .pre .0) (a .x) (a .y) (s .pre .1 .0) (s .pre .1 .1) (c .before .before .width .ensures) (c .before .height .ensures) (c .blocks-across .ensures .0)
 
-blocks-across-requires : tie.Need-blocks-across-requires
-blocks-across-requires c κs = let s = c .before .before .before in let a = s .args in wide-fine (a .footprint) (a .width) (a .height) (length (now (a .blocks))) (s .pre .0) (c .before .width .ensures)
-
-div-b : tie.Need-div-b
-div-b c = let f = facts c in omega (arith, f .small, f .column, f .row)
-
-mul-b : tie.Need-mul-b
-mul-b c = let f = facts c in omega (arith, f .small, f .column, f .row)
-
-div-b-2 : tie.Need-div-b-2
-div-b-2 c = let f = facts c in omega (arith, f .small, f .column, f .row)
-
-add-b : tie.Need-add-b
-add-b c = let f = facts c in omega (arith, f .small, f .column, f .row)
-
-cast-block-of : tie.Need-cast-block-of
-cast-block-of c = let f = facts c in omega (arith, f .small, f .column, f .row)
-
-block-of-requires : tie.Need-block-of-requires
-block-of-requires c κs = facts c .room
-
-rem-texel-of : tie.Need-rem-texel-of
-rem-texel-of c = let f = facts (c .before) in omega (arith, f .column, f .row, f .columns-most, f .rows-most)
-
-cast-texel-of-2 : tie.Need-cast-texel-of-2
-cast-texel-of-2 c = let f = facts (c .before) in omega (arith, f .column, f .row, f .columns-most, f .rows-most)
-
-rem-texel-of-2 : tie.Need-rem-texel-of-2
-rem-texel-of-2 c = let f = facts (c .before) in omega (arith, f .column, f .row, f .columns-most, f .rows-most)
-
-cast-texel-of-4 : tie.Need-cast-texel-of-4
-cast-texel-of-4 c = let f = facts (c .before) in omega (arith, f .column, f .row, f .columns-most, f .rows-most)
+-- its index
+index : (c : tie.After-in-block2) → let q = c .before .before in let a = q .before .before .before .before .args in
+    c .in-block2 .result .block * q .blocks-across .result + c .before .in-block .result .block ≡ a .y / q .before .height .result * q .blocks-across .result + a .x / q .before .before .width .result
+index c = ap₂ (λ (p k : ℕ). p * c .before .before .blocks-across .result + k) (c .in-block2 .ensures .0) (c .before .in-block .ensures .0)
 
 texel-of-requires : tie.Need-texel-of-requires
 texel-of-requires c κs =
-    let f = facts (c .before) in
-    let h = c .before .before in
-    let s = h .before .before .before in
+    let i = c .before .before .before in
+    let q = i .before .before in
+    let f = facts q in
+    let s = q .before .before .before .before in
     let a = s .args in
-    (flat-blocks (a .footprint) (a .width) (a .height) (length (now (a .blocks))) (s .pre .0), (omega (arith, f .column, h .before .width .ensures), omega (arith, f .row, h .height .ensures)))
+    (flat-blocks (a .footprint) (a .width) (a .height) (length (now (a .blocks))) (s .pre .0), (omega (arith, i .before .in-block .ensures .1, f .column, q .before .before .width .ensures), omega (arith, i .in-block2 .ensures .1, f .row, q .before .height .ensures)))
 
 returns : tie.Need-returns
 returns c =
     let t = c .before in
     let b = t .before in
-    let q = b .before in
-    let h = q .before in
-    let s = h .before .before .before in
-    let a = s .args in (
-      asked-told (a .footprint) (a .width) (now (a .blocks)) (a .kind) (a .x) (a .y) (t .texel-of .result) (h .before .width .ensures) (h .height .ensures) (q .blocks-across .ensures .0) refl
-          (b .block-of .ensures) refl refl (t .texel-of .ensures) (c .shown .ensures .0),
+    let i = b .before .before .before in
+    let q = i .before .before in
+    let a = q .before .before .before .before .args in (
+      asked-told (a .footprint) (a .width) (now (a .blocks)) (a .kind) (a .x) (a .y) (t .texel-of .result) (q .before .before .width .ensures) (q .before .height .ensures) (q .blocks-across .ensures .0) (index i)
+          (b .block-of .ensures) (i .before .in-block .ensures .1) (i .in-block2 .ensures .1) (t .texel-of .ensures) (c .shown .ensures .0),
       c .shown .ensures .1,
     )
 
@@ -76,21 +48,13 @@ asked-in-spec =
     (tie.spec
     (λ c κs. search needs)
     (λ c κs. search needs)
-    blocks-across-requires
-    (λ c. search needs)
-    div-b
-    mul-b
-    (λ c. search needs)
-    div-b-2
-    add-b
-    cast-block-of
-    block-of-requires
-    (λ c. search needs)
-    rem-texel-of
-    cast-texel-of-2
-    (λ c. search needs)
-    rem-texel-of-2
-    cast-texel-of-4
+    (λ c κs. let s = c .before .before .before in let a = s .args in wide-fine (a .footprint) (a .width) (a .height) (length (now (a .blocks))) (s .pre .0) (c .before .width .ensures))
+    (λ c κs. omega (arith, facts c .column))
+    (λ c κs. omega (arith, facts (c .before) .row))
+    (λ c. omega (arith, index (c .before), facts (c .before .before .before) .small))
+    (λ c. omega (arith, index (c .before .before), facts (c .before .before .before .before) .small))
+    (λ c. omega (arith, index (c .before .before), facts (c .before .before .before .before) .small))
+    (λ c κs. omega (arith, index (c .before .before), facts (c .before .before .before .before) .room))
     texel-of-requires
     (λ c κs. search needs)
     returns)
