@@ -138,6 +138,9 @@ module _ (κ : Encoding) (b s first : ℕ) where
         subst (λ (m : ℕ). number κ b word m ≡ number κ b s (g * groupSize κ + j)) r
         (number-alone κ b s (g * groupSize κ + j) fits (ep ∙ ap (λ (m : ℕ). m * sequenceBits κ b (groupSize κ)) (sym q)) ew))
 
+    pub got-place : first < 256 → first / groupSize κ * sequenceBits κ b (groupSize κ) ≤ 255 * 64
+    got-place l = mul-le-mul {n₂ = 255} {m₂ = 64} (omega (arith, div-le-self first (groupSize κ))) fits
+
     pub got-first : (p word x have : ℕ) → have + first % groupSize κ ≡ groupSize κ → have ≤ 8 → p ≡ first / groupSize κ * sequenceBits κ b (groupSize κ) → word ≡ field s p 64 → x ≡ groupNumbers κ b word
         → Got p (x / 2 ^ (8 * (first % groupSize κ))) have
     unfolding field

@@ -1,9 +1,9 @@
 -- A sequence in a block as it grows, some numbers at a time.
 -- Assumes nothing.
-use mathlib.Core.Path.{_≡_, sym, ap, _∙_, subst}
+use mathlib.Core.Path.{_≡_, refl, sym, ap, _∙_, subst}
 use mathlib.Core.List.{List, map}
 use Prim.Native.Nat.{ℕ, zero, suc, _+_, _-_, _*_, _/_, _%_, _^_, _≤_, _<_, min}
-use native.Mathlib.Nat.{zero-mul, add-zero, add-suc, add-comm, add-mul, mul-assoc, mul-comm, mul-le-mul, mod-mod, mod-le, add-mod-mod, lt-of-le-of-lt, min-eq-left, min-eq-right}
+use native.Mathlib.Nat.{zero-mul, zero-div, add-zero, add-suc, add-comm, add-mul, mul-assoc, mul-comm, mul-le-mul, mod-mod, mod-le, add-mod-mod, lt-of-le-of-lt, min-eq-left, min-eq-right}
 use native.Mathlib.Decide.{decLe}
 use native.Mathlib.Omega.{arith}
 use lib.Arith.{digits-lt, digits-div, digits-mod}
@@ -23,9 +23,10 @@ use Rattle.integer_sequence.proofs.Places.{share-group, place-next}
 use Rattle.integer_sequence.proofs.Groups.{place-group}
 use Rattle.integer_sequence.proofs.RoundTrip.{item-lt}
 use Rattle.integer_sequence.proofs.Search.{append-next}
+use Rattle.integer_sequence.proofs.Turns.{groups-next}
 use Rattle.sequence_words.specs.inner.Words.{piece}
 use Rattle.sequence_words.proofs.Words.{item-alone}
-use Rattle.sequence_words.proofs.Numbers.{values-length}
+use Rattle.sequence_words.proofs.Numbers.{values-length, written-length}
 
 -- where number i begins, for numbers of at most 8 bits, at most 64 of them
 pub place-le : (κ : Encoding) (b i : ℕ) → b ≤ 8 → i ≤ 64 → sequenceBits κ b i ≤ 1024
@@ -150,7 +151,7 @@ module _ (κ : Encoding) (b : ℕ) (xs : List ℕ) (i m : ℕ) (ys : List ℕ) (
   group-written from B bare en eo ea ew = write-more κ b xs from B bare (item κ b ys) i m follows en eo ea (word-is ew)
 
 -- a whole group of the first n numbers is one of all
-pub whole-taken : (size n i : ℕ) (xs : List ℕ) → i + size ≤ n → n ≤ length xs → (take size (drop i (take n xs)) ≡ take size (drop i xs)) × (length (take size (drop i xs)) ≡ size)
+whole-taken : (size n i : ℕ) (xs : List ℕ) → i + size ≤ n → n ≤ length xs → (take size (drop i (take n xs)) ≡ take size (drop i xs)) × (length (take size (drop i xs)) ≡ size)
 whole-taken size n i xs h l = (
   ext-getD 0 _ _ (long ∙ sym whole)
       (λ k p. let q : k < size = omega (arith, long) in
@@ -166,16 +167,69 @@ whole-taken size n i xs h l = (
     whole = simp (length-take, length-drop) (omega arith)
 
 -- the last group, which is cut, has the numbers that are left
-pub cut-length : (size n i : ℕ) (xs : List ℕ) → length xs ≡ n → n < i + size → length (take size (drop i xs)) ≡ n - i
+cut-length : (size n i : ℕ) (xs : List ℕ) → length xs ≡ n → n < i + size → length (take size (drop i xs)) ≡ n - i
 cut-length size n i xs e h = simp (length-take, length-drop) (omega arith)
 
 -- the place of the next group
-pub place-more : (κ : Encoding) (b from i : ℕ) {at step : ℕ} → i / groupSize κ * groupSize κ ≡ i → at ≡ from + sequenceBits κ b i → step ≡ sequenceBits κ b (groupSize κ)
+place-more : (κ : Encoding) (b from i : ℕ) {at step : ℕ} → i / groupSize κ * groupSize κ ≡ i → at ≡ from + sequenceBits κ b i → step ≡ sequenceBits κ b (groupSize κ)
     → at + step ≡ from + sequenceBits κ b (i + groupSize κ)
 place-more κ b from i whole ea es =
     let p : sequenceBits κ b (i + groupSize κ) ≡ sequenceBits κ b i + sequenceBits κ b (groupSize κ) =
     subst (λ (j : ℕ). sequenceBits κ b (j + groupSize κ) ≡ sequenceBits κ b j + sequenceBits κ b (groupSize κ)) whole (place-group κ b (i / groupSize κ) (groupSize κ)) in
     omega (arith, p, ea, es)
+
+-- the first n of the block's 64 numbers, group by group: B is the block before, v what is left of it before the first number
+module _ (κ : Encoding) (b n from : ℕ) (xs : List Stored) (v : ℕ) where
+  -- the groups up to number i stand in `out`, which ends at bit `at`
+  pub record Grown (out at i : ℕ) : Type 0 where
+    pub most : i ≤ n
+    pub whole : i / groupSize κ * groupSize κ ≡ i
+    pub place : at ≡ from + sequenceBits κ b i
+    pub held : out ≡ soFar κ b (take n (values xs)) from v i % 2 ^ 128
+
+  module _ (B : ℕ) (bare : v ≡ (field B 0 from + 0 * 2 ^ from) % 2 ^ 128) where
+    pub grown-none : Grown v from 0
+    unfolding sequenceBits
+    grown-none = record {
+      most = omega arith;
+      whole = rw (zero-div (groupSize κ)) (zero-mul (groupSize κ));
+      place = omega (arith, zero-mul b, code-le κ 0);
+      held = write-start κ b (take n (values xs)) from B bare;
+    }
+
+    module _ (few : n ≤ 64) (sized : length xs ≡ 64) (out at i : ℕ) (t : Grown out at i) where
+      pub grown-near : b ≤ 8 → from ≤ 255 → at ≤ 1279
+      grown-near h l = omega (arith, t .place, place-le κ b i h (omega (arith, t .most)))
+
+      -- all are there
+      pub grown-all : n ≤ i → out ≡ withSequence κ b B from (take n (values xs))
+      grown-all h = write-done κ b (take n (values xs)) from B bare (t .held) (omega (arith, t .most, written-length xs n sized few))
+
+      module _ (word next : ℕ) (en : next ≡ (field out 0 at + word * 2 ^ at) % 2 ^ 128) where
+        -- a whole group more
+        pub grown-more : i + groupSize κ ≤ n → word ≡ packed κ b (take (groupSize κ) (drop i (values xs)))
+            → Grown next (at + sequenceBits κ b (groupSize κ)) (i + groupSize κ)
+        grown-more h ew =
+            let group = whole-taken (groupSize κ) n i (values xs) h (omega (arith, values-length xs sized)) in
+            record {
+              most = h;
+              whole = groups-next κ i (t .whole);
+              place = place-more κ b from i (t .whole) (t .place) refl;
+              held =
+                  group-written κ b (take n (values xs)) i (groupSize κ) (take (groupSize κ) (drop i (values xs))) (t .whole) (group .0) (group .1)
+                  from B bare en (t .held) (t .place) ew;
+            }
+
+        -- the last group, cut
+        pub grown-cut : n < i + groupSize κ → word ≡ packed κ b (take (groupSize κ) (drop i (take n (values xs))))
+            → next ≡ withSequence κ b B from (take n (values xs))
+        grown-cut h ew =
+            let ys = take n (values xs) in
+            let len = written-length xs n sized few in
+            write-done κ b ys from B bare
+            (group-written κ b ys i (n - i) (take (groupSize κ) (drop i ys)) (t .whole) refl (cut-length (groupSize κ) n i ys len h)
+            from B bare en (t .held) (t .place) ew)
+            (omega (arith, len, t .most))
 
 -- numbers without digits follow any number
 pub bits-follow : (b : ℕ) (xs : List ℕ) (i m : ℕ) (v : ℕ → ℕ) → ((k : ℕ) → k < m → v k ≡ getD xs (i + k) 0 % 2 ^ b) → Follow Bits b xs i m v

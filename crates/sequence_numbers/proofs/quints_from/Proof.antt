@@ -1,12 +1,11 @@
-use mathlib.Core.Path.{_≡_, refl}
-use Prim.Native.Nat.{_+_, _-_, _*_, _/_, _≤_}
-use native.Mathlib.Nat.{mul-le-mul}
+use mathlib.Core.Path.{refl}
+use Prim.Native.Nat.{_-_}
 use native.Mathlib.Omega.{arith}
 use Rattle.bits.specs.Block.{blockNumber}
 use Rattle.encoding.specs.declared.Encoding.the-variants.{Quints}
 use Rattle.encoding.specs.Encoding.{sequenceBits}
 use Rattle.integer_sequence.proofs.Groups.{quints-narrow}
-use Rattle.sequence_numbers.proofs.Alone.{Got, got-first, got-near, got-room, got-more, got-all}
+use Rattle.sequence_numbers.proofs.Alone.{Got, got-place, got-first, got-near, got-room, got-more, got-all}
 use Rattle.sequence_numbers.proofs.quints_from.Statement.{statement}
 use Rattle.sequence_numbers.proofs.quints_from.Tie as tie
 
@@ -16,40 +15,8 @@ Inv-loop s b first n p₀ g out₀ have₀ p out have = Got Quints b (blockNumbe
 abbrev μ-loop : tie.MeasureT-loop
 μ-loop s b first n p₀ g out₀ have₀ p out have = n - have
 
-place : tie.Need-mul-p-2 Inv-loop μ-loop
-place c = let a = c .args in let m : a .first / 3 * (3 * a .b + 7) ≤ 255 * 22 = mul-le-mul {n₂ = 255} {m₂ = 22} (omega arith) (omega arith) in omega (arith, m)
-
-loop-holds : tie.Need-loop-holds Inv-loop μ-loop
-unfolding sequenceBits
-loop-holds c =
-    let a = c .before .before .args in
-    got-first Quints (a .b) (blockNumber (a .s)) (a .first) (quints-narrow _ (omega arith)) (omega arith) _ _ _ _ (omega arith) (omega arith) refl (c .before .word-at .ensures) (c .quint-group .ensures)
-
-next-place : tie.Need-add-p-3 Inv-loop μ-loop
-unfolding sequenceBits
-next-place c =
-    let a = c .before .before .before .before .args in
-    omega (arith, got-near Quints (a .b) (blockNumber (a .s)) (a .first) (quints-narrow _ (omega arith)) (omega arith) _ _ _ (c .before .loop .inv) (omega arith) (omega arith))
-
-add-out : tie.Need-add-out Inv-loop μ-loop
-unfolding sequenceBits
-add-out c =
-    let a = c .before .before .before .before .before .before .args in
-    record { fits = got-room Quints (a .b) (blockNumber (a .s)) (a .first) (quints-narrow _ (omega arith)) (omega arith) _ _ _ (c .before .before .before .loop .inv) (omega arith) _ _ (c .before .word-at2 .ensures) (c .quint-group2 .ensures) }
-
-loop-again : tie.Need-loop-again Inv-loop μ-loop
-unfolding sequenceBits
-loop-again c =
-    let a = c .before .before .before .before .before .before .args in
-    got-more Quints (a .b) (blockNumber (a .s)) (a .first) (quints-narrow _ (omega arith)) (omega arith) _ _ _ (c .before .before .before .loop .inv) (omega arith) _ _ (c .before .word-at2 .ensures) (c .quint-group2 .ensures)
-
-returns : tie.Need-returns Inv-loop μ-loop
-unfolding sequenceBits
-returns c =
-    let a = c .before .before .before .before .args in
-    got-all Quints (a .b) (blockNumber (a .s)) (a .first) (quints-narrow _ (omega arith)) (omega arith) _ _ _ _ (omega arith) (omega arith) (c .before .loop .inv)
-
 pub quints-from-spec : {M : Type 1} → statement M
+unfolding sequenceBits
 quints-from-spec =
     tie.close
     (tie.spec
@@ -57,24 +24,24 @@ quints-from-spec =
     μ-loop
     (λ c. omega arith)
     (λ c. omega arith)
-    place
+    (λ c. omega (arith, got-place Quints _ 0 _ (quints-narrow _ (omega arith)) (omega arith) (omega arith)))
     (λ c κs. tt)
     (λ c κs. omega arith)
     (λ c. omega arith)
     (λ c. omega arith)
     (λ c. omega arith)
     (λ c. omega arith)
-    loop-holds
+    (λ c. got-first Quints _ _ _ (quints-narrow _ (omega arith)) (omega arith) _ _ _ _ (omega arith) (omega arith) refl (c .before .word-at .ensures) (c .quint-group .ensures))
     (λ c. omega arith)
     (λ c. omega arith)
-    next-place
+    (λ c. omega (arith, got-near Quints _ _ _ (quints-narrow _ (omega arith)) (omega arith) _ _ _ (c .before .loop .inv) (omega arith) (omega arith)))
     (λ c κs. tt)
     (λ c κs. omega arith)
     (λ c. omega arith)
     (λ c. omega arith)
     (λ c. omega arith)
-    add-out
+    (λ c. record { fits = got-room Quints _ _ _ (quints-narrow _ (omega arith)) (omega arith) _ _ _ (c .before .before .before .loop .inv) (omega arith) _ _ (c .before .word-at2 .ensures) (c .quint-group2 .ensures) })
     (λ c. omega arith)
     (λ c. omega arith)
-    loop-again
-    returns)
+    (λ c. got-more Quints _ _ _ (quints-narrow _ (omega arith)) (omega arith) _ _ _ (c .before .before .before .loop .inv) (omega arith) _ _ (c .before .word-at2 .ensures) (c .quint-group2 .ensures))
+    (λ c. got-all Quints _ _ _ (quints-narrow _ (omega arith)) (omega arith) _ _ _ _ (omega arith) (omega arith) (c .before .loop .inv)))

@@ -1,81 +1,21 @@
-use mathlib.Core.Path.{_≡_, refl}
-use Prim.Native.Nat.{_+_, _-_, _*_, _/_, _%_, _^_, _≤_}
-use native.Mathlib.Nat.{zero-mul}
+use Prim.Native.Nat.{_-_}
 use native.Mathlib.Omega.{arith}
 use borrow.Author.Needs.{needs}
-use lib.ListN.{length, take, drop}
 use Rattle.bits.specs.Block.{blockNumber}
 use Rattle.encoding.specs.declared.Encoding.the-variants.{Quints}
 use Rattle.encoding.specs.Encoding.{sequenceBits}
-use Rattle.integer_sequence.specs.Writing.{values}
-use Rattle.integer_sequence.proofs.Turns.{groups-next}
-use Rattle.sequence_words.proofs.Numbers.{values-length, written-length}
-use Rattle.sequence_writer.proofs.Growing.{soFar, place-le, place-more, write-start, write-done, group-written, whole-taken, cut-length}
+use Rattle.sequence_writer.proofs.Growing.{Grown, grown-none, grown-near, grown-more, grown-cut, grown-all}
 use Rattle.sequence_writer.proofs.write_quints.Statement.{statement}
 use Rattle.sequence_writer.proofs.write_quints.Tie as tie
 
 abbrev Inv-loop : tie.InvT-loop
-Inv-loop from b xs n table out₀ at₀ i₀ out at i =
-    (i ≤ n) × (i / 3 * 3 ≡ i) × (at ≡ from + sequenceBits Quints b i) × (blockNumber out ≡ soFar Quints b (take n (values xs)) from (blockNumber out₀) i % 2 ^ 128)
+Inv-loop from b xs n table out₀ at₀ i₀ out at i = Grown Quints b n from xs (blockNumber out₀) (blockNumber out) at i
 
 abbrev μ-loop : tie.MeasureT-loop
 μ-loop from b xs n table out₀ at₀ i₀ out at i = n - i
 
-sized : (c : tie.Start Inv-loop μ-loop) → length (c .args .xs) ≡ 64
-sized c = search needs
-
-loop-holds : tie.Need-loop-holds Inv-loop μ-loop
-unfolding sequenceBits
-loop-holds c =
-    let a = c .before .before .args in
-    (omega arith, refl, omega (arith, zero-mul (a .b)), write-start Quints (a .b) (take (a .n) (values (a .xs))) (a .from) (blockNumber (a .block)) (c .append .ensures))
-
-three-quints-requires-2 : tie.Need-three-quints-requires-2 Inv-loop μ-loop
-three-quints-requires-2 c κs = (omega arith, omega arith, c .before .before .before .before .three-quints .ensures)
-
-at-le : (c : tie.After-append2 Inv-loop μ-loop) → c .before .before .before .before .loop .at ≤ 1279
-at-le c =
-    let a = c .before .before .before .before .before .before .before .args in
-    let l = c .before .before .before .before .loop in
-    omega (arith, l .inv .2, place-le Quints (a .b) (l .i) (c .before .before .before .before .before .before .before .pre .2) (omega arith))
-
-add-at-2 : tie.Need-add-at-2 Inv-loop μ-loop
-add-at-2 c = omega (arith, at-le c)
-
-loop-again : tie.Need-loop-again Inv-loop μ-loop
-unfolding sequenceBits
-loop-again c =
-    let a = c .before .before .before .before .before .before .before .args in
-    let l = c .before .before .before .before .loop in
-    let group = whole-taken 3 (a .n) (l .i) (values (a .xs)) (omega arith) (omega (arith, values-length (a .xs) (sized (c .before .before .before .before .before .before .before)))) in (
-      omega arith,
-      groups-next Quints (l .i) (l .inv .1),
-      place-more Quints (a .b) (a .from) (l .i) (l .inv .1) (l .inv .2) (omega arith),
-      group-written Quints (a .b) (take (a .n) (values (a .xs))) (l .i) 3 (take 3 (drop (l .i) (values (a .xs)))) (l .inv .1) (group .0) (group .1)
-          (a .from) (blockNumber (a .block)) (c .before .before .before .before .before .append .ensures) (c .append2 .ensures) (l .inv .3) (l .inv .2) (c .before .three-quints2 .ensures),
-    )
-
-last-quints-requires : tie.Need-last-quints-requires Inv-loop μ-loop
-last-quints-requires c κs = (omega arith, omega arith, omega arith, omega arith)
-
-returns : tie.Need-returns Inv-loop μ-loop
-returns c =
-    let a = c .before .before .before .before .before .before .before .args in
-    let l = c .before .before .before .before .loop in
-    let xs = take (a .n) (values (a .xs)) in
-    let len = written-length (a .xs) (a .n) (sized (c .before .before .before .before .before .before .before)) (c .before .before .before .before .before .before .before .pre .0) in
-    write-done Quints (a .b) xs (a .from) (blockNumber (a .block)) (c .before .before .before .before .before .append .ensures)
-    (group-written Quints (a .b) xs (l .i) (a .n - l .i) (take 3 (drop (l .i) xs)) (l .inv .1) refl (cut-length 3 (a .n) (l .i) xs len (omega arith))
-    (a .from) (blockNumber (a .block)) (c .before .before .before .before .before .append .ensures) (c .append3 .ensures) (l .inv .3) (l .inv .2) (c .before .last-quints .ensures))
-    (omega (arith, len))
-
-returns-2 : tie.Need-returns-2 Inv-loop μ-loop
-returns-2 c =
-    let a = c .before .before .before .before .before .args in
-    let len = written-length (a .xs) (a .n) (sized (c .before .before .before .before .before)) (c .before .before .before .before .before .pre .0) in
-    write-done Quints (a .b) (take (a .n) (values (a .xs))) (a .from) (blockNumber (a .block)) (c .before .before .before .append .ensures) (c .before .before .loop .inv .3) (omega (arith, len))
-
 pub write-quints-spec : {M : Type 1} → statement M
+unfolding sequenceBits
 write-quints-spec =
     tie.close
     (tie.spec
@@ -83,17 +23,17 @@ write-quints-spec =
     μ-loop
     (λ c κs. search needs)
     (λ c κs. search needs)
-    loop-holds
+    (λ c. grown-none Quints _ _ _ _ _ _ (c .append .ensures))
     (λ c. omega arith)
-    three-quints-requires-2
+    (λ c κs. (omega arith, omega arith, c .before .before .before .before .three-quints .ensures))
     (λ c κs. search needs)
     (λ c. omega arith)
     (λ c. omega arith)
-    add-at-2
+    (λ c. omega (arith, grown-near Quints _ _ _ _ _ _ (c .before .before .before .before .before .append .ensures) (omega arith) (search needs) _ _ _ (c .before .before .before .before .loop .inv) (omega arith) (omega arith)))
     (λ c. omega arith)
     (λ c. omega arith)
-    loop-again
-    last-quints-requires
+    (λ c. grown-more Quints _ _ _ _ _ _ (c .before .before .before .before .before .append .ensures) (omega arith) (search needs) _ _ _ (c .before .before .before .before .loop .inv) _ _ (c .append2 .ensures) (omega arith) (c .before .three-quints2 .ensures))
+    (λ c κs. (omega arith, omega arith, omega arith, omega arith))
     (λ c κs. search needs)
-    returns
-    returns-2)
+    (λ c. grown-cut Quints _ _ _ _ _ _ (c .before .before .before .before .before .append .ensures) (omega arith) (search needs) _ _ _ (c .before .before .before .before .loop .inv) _ _ (c .append3 .ensures) (omega arith) (c .before .last-quints .ensures))
+    (λ c. grown-all Quints _ _ _ _ _ _ (c .before .before .before .append .ensures) (omega arith) (search needs) _ _ _ (c .before .before .loop .inv) (omega arith)))
