@@ -24,7 +24,7 @@ quints-from-spec =
     μ-loop
     (λ c. omega arith)
     (λ c. omega arith)
-    (λ c. omega (arith, got-place Quints _ 0 _ (quints-narrow _ (omega arith)) (omega arith) (omega arith)))
+    (λ c. omega (arith, got-place Quints (c .args .b) 0 (c .args .first) (quints-narrow _ (omega arith)) (omega arith) (omega arith)))
     (λ c κs. tt)
     (λ c κs. omega arith)
     (λ c. omega arith)

@@ -24,7 +24,7 @@ trits-from-spec =
     μ-loop
     (λ c. omega arith)
     (λ c. omega arith)
-    (λ c. omega (arith, got-place Trits _ 0 _ (trits-narrow _ (omega arith)) (omega arith) (omega arith)))
+    (λ c. omega (arith, got-place Trits (c .args .b) 0 (c .args .first) (trits-narrow _ (omega arith)) (omega arith) (omega arith)))
     (λ c κs. tt)
     (λ c κs. omega arith)
     (λ c. omega arith)
