@@ -7,12 +7,6 @@ use borrow.Author.Needs.{needs}
 use Rattle.smallest_codes.proofs.two_quints.Statement.{statement}
 use Rattle.smallest_codes.proofs.two_quints.Tie as tie
 
-returns : tie.Need-returns
-returns c = let a = c .before .args in no-code Quints (a .d0 ∷ a .d1 ∷ []) 0 (omega arith) (omega arith) (omega arith)
-
-returns-2 : tie.Need-returns-2
-returns-2 c = let a = c .before .before .args in no-code Quints (a .d0 ∷ a .d1 ∷ []) 1 (omega arith) (omega arith) (omega arith)
-
 returns-3 : tie.Need-returns-3
 returns-3 c =
     let a = c .before .before .before .before .args in
@@ -23,8 +17,8 @@ pub two-quints-spec : {M : Type 1} → statement M
 two-quints-spec =
     tie.close
     (tie.spec
-    returns
-    returns-2
+    (λ c. let a = c .before .args in no-code Quints (a .d0 ∷ a .d1 ∷ []) 0 (omega arith) (omega arith) (omega arith))
+    (λ c. let a = c .before .before .args in no-code Quints (a .d0 ∷ a .d1 ∷ []) 1 (omega arith) (omega arith) (omega arith))
     (λ c κs. search needs)
     (λ c. search needs)
     (λ c. search needs)
