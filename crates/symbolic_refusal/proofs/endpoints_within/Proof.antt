@@ -14,29 +14,19 @@ Inv-loop n most xs ok₀ i₀ ok i = (i ≤ 18) × (ok ≡ within i n most (stor
 abbrev μ-loop : tie.MeasureT-loop
 μ-loop n most xs ok₀ i₀ ok i = 18 - i
 
-loop-holds : tie.Need-loop-holds Inv-loop μ-loop
-unfolding within
-loop-holds c = (omega arith, refl)
-
-loop-again : tie.Need-loop-again Inv-loop μ-loop
-unfolding within
-loop-again c = (omega arith, rw (c .both .ensures, c .before .most-by .ensures, c .before .before .wide .ensures, c .before .before .before .before .before .loop .inv .1, add-one))
-
-returns : tie.Need-returns Inv-loop μ-loop
-returns c = let z : c .before .loop .i ≡ 18 = omega arith in rw z at (c .before .loop .inv .1)
-
 pub endpoints-within-spec : {M : Type 1} → statement M
+unfolding within
 endpoints-within-spec =
     tie.close
     (tie.spec
     Inv-loop
     μ-loop
-    loop-holds
+    (λ c. (omega arith, refl))
     (λ c. omega arith)
     (λ c κs. search needs)
     (λ c κs. search needs)
     (λ c κs. search needs)
     (λ c. omega arith)
     (λ c. omega arith)
-    loop-again
-    returns)
+    (λ c. (omega arith, rw (c .both .ensures, c .before .most-by .ensures, c .before .before .wide .ensures, c .before .before .before .before .before .loop .inv .1, add-one)))
+    (λ c. let z : c .before .loop .i ≡ 18 = omega arith in rw z at (c .before .loop .inv .1)))
