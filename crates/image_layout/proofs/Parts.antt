@@ -1,6 +1,6 @@
 -- The part of an image that a block covers, and its rows, in terms of an image's layout.
 -- Assumes nothing.
-use mathlib.Core.Path.{_≡_, sym, ap, _∙_, subst}
+use mathlib.Core.Path.{_≡_, refl, sym, ap, _∙_, subst}
 use mathlib.Core.List.{List}
 use Prim.Native.Nat.{ℕ, _+_, _*_, _/_, _%_, _≤_, _<_}
 use native.Mathlib.Nat.{div-add-mod', mod-lt, div-lt-iff-lt-mul}
@@ -13,7 +13,7 @@ use Rattle.block_reading.specs.declared.Reading.{Reading}
 use Rattle.block_reading.specs.Shown.{channelIn}
 use Rattle.image_size.proofs.Laws.{across-inside}
 use Rattle.picture_regions.proofs.Covering.{mul-bound, below-row}
-use Rattle.picture_regions.proofs.Regions.{Pasted, Placed, placed-more}
+use Rattle.picture_regions.proofs.Regions.{Pasted, Placed, placed-none, placed-more}
 use Rattle.picture_regions.proofs.Blocks.{Cropped, Tile}
 use Rattle.image_layout.specs.declared.ImageGrid.{ImageGrid}
 use Rattle.image_layout.specs.declared.Part.{Part}
@@ -99,6 +99,24 @@ pub placed-row : (show : ℕ → ℕ) (g : ImageGrid) (p : Part) (dy : ℕ) (r :
 placed-row show g p dy r buf old l new f o pl q =
     placed-more show (g .width) (p .x) (p .columns) (g .columns) (λ i. p .y + i) (λ i. i) buf old dy l new (f .columns .in-side) (λ i h e. omega arith) pl
     (rw (o .from, o .n, o .at) at q)
+
+-- dy rows of a part are copied
+module _ (show : ℕ → ℕ) (g : ImageGrid) (p : Part) (buf old : List ℕ) where
+  pub record Placing (new : List ℕ) (dy : ℕ) : Type 0 where
+    pub most : dy ≤ p .rows
+    pub same : length new ≡ length old
+    pub placed : PlacedRows show g p dy buf old new
+
+  pub placing-none : Placing old 0
+  placing-none = record { most = omega arith; same = refl; placed = placed-none show (g .width) (p .x) (p .columns) (g .columns) _ _ buf old }
+
+  pub placing-more : (r : Run) {l new : List ℕ} {dy : ℕ} → Fits g p → dy < p .rows → RunOf g p dy r → length new ≡ length l → Placing l dy
+      → Pasted show buf (r .from) (r .n) l (r .at) new → Placing new (dy + 1)
+  placing-more r {l = l} {new = new} {dy = dy} f h o e t q =
+      record { most = omega arith; same = e ∙ t .same; placed = placed-row show g p dy r buf old l new f o (t .placed) q }
+
+  pub placing-all : {new : List ℕ} {dy : ℕ} → p .rows ≤ dy → Placing new dy → PlacedRows show g p (p .rows) buf old new
+  placing-all {new} {dy} h t = let e : dy ≡ p .rows = omega (arith, t .most) in rw e at (t .placed)
 
 module _ (kind : Kind) (g : ImageGrid) (reading : Reading) (sound : Sound g) (s : List ℕ) where
   abbrev number : ℕ → ℕ → ℕ → ℕ

@@ -7,7 +7,7 @@ use Prim.Native.Nat.{ℕ, _+_, _*_, _≤_, _<_}
 use native.Mathlib.Nat.{not-suc-le-zero}
 use native.Mathlib.Decide.{decLt, ℕ-discrete}
 use native.Mathlib.Omega.{arith}
-use lib.ListN.{length, getD, set}
+use lib.ListN.{length, getD, set, length-set}
 use lib.Seq.{getD-set-same, getD-set-other}
 use Rattle.picture_regions.specs.Picture.{place}
 use Rattle.picture_regions.proofs.Covering.{below-row}
@@ -34,6 +34,21 @@ module _ (show : ℕ → ℕ) (src : List ℕ) (from : ℕ) (old : List ℕ) (at
     outside = λ k f.
         getD-set-other l (at + n) k v 0 (λ r. f (omega (arith, r)) (omega (arith, r))) ∙ p .outside k (λ a b. f a (omega arith));
   }
+
+  -- i of n numbers are copied
+  pub record Pasting (n : ℕ) (l : List ℕ) (i : ℕ) : Type 0 where
+    pub most : i ≤ n
+    pub same : length l ≡ length old
+    pub pasted : Pasted show src from i old at l
+
+  pub pasting-none : (n : ℕ) → Pasting n old 0
+  pasting-none n = record { most = omega arith; same = refl; pasted = pasted-none }
+
+  pub pasting-more : {n i : ℕ} {l : List ℕ} (v : ℕ) → i < n → at + i < length l → v ≡ show (getD src (from + i) 0) → Pasting n l i → Pasting n (set l (at + i) v) (i + 1)
+  pasting-more {i = i} {l = l} v h k e p = record { most = omega arith; same = simp length-set (p .same); pasted = pasted-more i l v k e (p .pasted) }
+
+  pub pasting-all : {n i : ℕ} {l : List ℕ} → n ≤ i → Pasting n l i → Pasted show src from n old at l
+  pasting-all {n} {i} {l} h p = let q : i ≡ n = omega (arith, p .most) in rw q at (p .pasted)
 
 -- ---- rows of a block
 

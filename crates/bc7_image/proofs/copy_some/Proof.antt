@@ -1,29 +1,15 @@
-use mathlib.Core.Path.{_≡_, refl}
-use Prim.Native.Nat.{_-_, _≤_}
+use Prim.Native.Nat.{_-_}
+use mathlib.Core.Path.{refl}
 use native.Mathlib.Omega.{arith}
-use lib.ListN.{length, length-set}
-use Rattle.picture_regions.proofs.Regions.{Pasted, pasted-none, pasted-more}
+use Rattle.picture_regions.proofs.Regions.{Pasting, pasting-none, pasting-more, pasting-all}
 use Rattle.bc7_image.proofs.copy_some.Statement.{statement}
 use Rattle.bc7_image.proofs.copy_some.Tie as tie
 
 abbrev Inv-loop : tie.InvT-loop
-Inv-loop src out₀ from at i₀ i-end out i = (i ≤ i-end) × (length out ≡ length out₀) × Pasted (λ n. n) src from i out₀ at out
+Inv-loop src out₀ from at i₀ i-end out i = Pasting (λ n. n) src from out₀ at i-end out i
 
 abbrev μ-loop : tie.MeasureT-loop
 μ-loop src out₀ from at i₀ i-end out i = i-end - i
-
-loop-holds : tie.Need-loop-holds Inv-loop μ-loop
-loop-holds c = (omega arith, refl, pasted-none _ _ _ _ _)
-
-loop-again : tie.Need-loop-again Inv-loop μ-loop
-loop-again c = let l = c .before .before .loop in
-    (omega arith, simp length-set (l .inv .1), pasted-more _ _ _ _ _ (l .i) (l .out) _ (omega arith) refl (l .inv .2))
-
-same-length : tie.Need-same-length Inv-loop μ-loop
-same-length c = c .before .loop .inv .1
-
-returns : tie.Need-returns Inv-loop μ-loop
-returns c = let q : c .before .loop .i ≡ c .before .before .args .r .n = omega arith in rw q at (c .before .loop .inv .2)
 
 pub copy-some-spec : {M : Type 1} → statement M
 copy-some-spec =
@@ -31,13 +17,13 @@ copy-some-spec =
     (tie.spec
     Inv-loop
     μ-loop
-    loop-holds
+    (λ c. pasting-none _ _ _ _ _ _)
     (λ c. omega arith)
     (λ c. omega arith)
     (λ c. omega arith)
     (λ c. omega arith)
     (λ c. omega arith)
     (λ c. omega arith)
-    loop-again
-    same-length
-    returns)
+    (λ c. pasting-more (λ n. n) _ _ _ _ _ (omega arith) (omega arith) refl (c .before .before .loop .inv))
+    (λ c. c .before .loop .inv .same)
+    (λ c. pasting-all (λ n. n) _ _ _ _ (omega arith) (c .before .loop .inv)))

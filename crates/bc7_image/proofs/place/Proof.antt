@@ -1,44 +1,16 @@
-use mathlib.Core.Path.{_≡_, refl, _∙_}
-use Prim.Native.Nat.{_-_, _≤_}
+use mathlib.Core.Path.{_∙_}
+use Prim.Native.Nat.{_-_}
 use native.Mathlib.Omega.{arith}
-use lib.ListN.{length}
-use Rattle.image_layout.proofs.Parts.{PlacedRows, placed-row}
+use Rattle.image_layout.proofs.Parts.{Placing, placing-none, placing-more, placing-all}
 use Rattle.bc7_image.proofs.Tiles.{run-fits-64}
-use Rattle.picture_regions.proofs.Regions.{placed-none}
 use Rattle.bc7_image.proofs.place.Statement.{statement}
 use Rattle.bc7_image.proofs.place.Tie as tie
 
 abbrev Inv-loop : tie.InvT-loop
-Inv-loop buf g p out₀ dy₀ dy-end out dy = (dy ≤ dy-end) × (length out ≡ length out₀) × PlacedRows (λ n. n) g p dy buf out₀ out
+Inv-loop buf g p out₀ dy₀ dy-end out dy = Placing (λ n. n) g p buf out₀ out dy
 
 abbrev μ-loop : tie.MeasureT-loop
 μ-loop buf g p out₀ dy₀ dy-end out dy = dy-end - dy
-
-loop-holds : tie.Need-loop-holds Inv-loop μ-loop
-loop-holds c = (omega arith, refl, placed-none _ _ _ _ _ _ _ _ _)
-
-run-of-requires : tie.Need-run-of-requires Inv-loop μ-loop
-run-of-requires c κs = let p = c .before .before .before .pre in (p .0, (p .1 .0, c .loop-test .taken))
-
-copy-run-requires : tie.Need-copy-run-requires Inv-loop μ-loop
-copy-run-requires c κs = let l = c .before .before .before .loop in
-    let p = c .before .before .before .before .before .pre in
-    run-fits-64 _ _ (l .dy) _ _ (p .0) (p .1 .1 .1) (p .1 .0) (c .before .before .loop-test .taken) (c .before .run-of .ensures) (l .inv .1 ∙ p .1 .1 .0)
-
-loop-again : tie.Need-loop-again Inv-loop μ-loop
-loop-again c = let k = c .before .before in
-    let l = c .before .before .before .before .before .before .loop in
-    let p = c .before .before .before .before .before .before .before .before .pre in (
-      omega arith,
-      k .copy-run .kept .1 .1 .0 ∙ l .inv .1,
-      placed-row (λ n. n) _ _ (l .dy) _ _ _ (l .out) _ (p .1 .0) (k .before .before .run-of .ensures) (l .inv .2) (k .copy-run .ensures),
-    )
-
-same-length : tie.Need-same-length Inv-loop μ-loop
-same-length c = c .before .loop .inv .1
-
-returns : tie.Need-returns Inv-loop μ-loop
-returns c = let q : c .before .loop .dy ≡ c .before .before .before .args .p .rows = omega arith in rw q at (c .before .loop .inv .2)
 
 pub place-spec : {M : Type 1} → statement M
 place-spec =
@@ -46,11 +18,11 @@ place-spec =
     (tie.spec
     Inv-loop
     μ-loop
-    loop-holds
-    run-of-requires
-    copy-run-requires
+    (λ c. placing-none _ _ _ _ _)
+    (λ c κs. let p = c .before .before .before .pre in (p .0, (p .1 .0, c .loop-test .taken)))
+    (λ c κs. let t = c .before .before in let p = t .before .before .before .pre in run-fits-64 _ _ _ _ _ (p .0) (p .1 .1 .1) (p .1 .0) (t .loop-test .taken) (c .before .run-of .ensures) (t .before .loop .inv .same ∙ p .1 .1 .0))
     (λ c. omega arith)
     (λ c. omega arith)
-    loop-again
-    same-length
-    returns)
+    (λ c. let k = c .before .before in let t = k .before .before .before in placing-more (λ n. n) _ _ _ _ _ (t .before .before .before .pre .1 .0) (t .loop-test .taken) (k .before .before .run-of .ensures) (k .copy-run .kept .1 .1 .0) (t .before .loop .inv) (k .copy-run .ensures))
+    (λ c. c .before .loop .inv .same)
+    (λ c. placing-all (λ n. n) _ _ _ _ (omega arith) (c .before .loop .inv)))

@@ -1,31 +1,17 @@
-use mathlib.Core.Path.{_≡_, refl}
-use Prim.Native.Nat.{_-_, _≤_}
+use Prim.Native.Nat.{_-_}
+use mathlib.Core.Path.{refl}
 use native.Mathlib.Omega.{arith}
-use lib.ListN.{length, length-set}
 use Rattle.interpolation.specs.declared.Kind.the-variants.{Unorm16}
 use Rattle.interpolation.specs.Expansion.{shownOf}
-use Rattle.picture_regions.proofs.Regions.{Pasted, pasted-none, pasted-more}
+use Rattle.picture_regions.proofs.Regions.{Pasting, pasting-none, pasting-more, pasting-all}
 use Rattle.image_parts.proofs.copy_numbers.Statement.{statement}
 use Rattle.image_parts.proofs.copy_numbers.Tie as tie
 
 abbrev Inv-loop : tie.InvT-loop
-Inv-loop src out₀ from at i₀ i-end out i = (i ≤ i-end) × (length out ≡ length out₀) × Pasted (shownOf Unorm16) src from i out₀ at out
+Inv-loop src out₀ from at i₀ i-end out i = Pasting (shownOf Unorm16) src from out₀ at i-end out i
 
 abbrev μ-loop : tie.MeasureT-loop
 μ-loop src out₀ from at i₀ i-end out i = i-end - i
-
-loop-holds : tie.Need-loop-holds Inv-loop μ-loop
-loop-holds c = (omega arith, refl, pasted-none _ _ _ _ _)
-
-loop-again : tie.Need-loop-again Inv-loop μ-loop
-loop-again c = let l = c .before .before .loop in
-    (omega arith, simp length-set (l .inv .1), pasted-more _ _ _ _ _ (l .i) (l .out) _ (omega arith) refl (l .inv .2))
-
-same-length : tie.Need-same-length Inv-loop μ-loop
-same-length c = c .before .loop .inv .1
-
-returns : tie.Need-returns Inv-loop μ-loop
-returns c = let q : c .before .loop .i ≡ c .before .before .args .r .n = omega arith in rw q at (c .before .loop .inv .2)
 
 pub copy-numbers-spec : {M : Type 1} → statement M
 copy-numbers-spec =
@@ -33,7 +19,7 @@ copy-numbers-spec =
     (tie.spec
     Inv-loop
     μ-loop
-    loop-holds
+    (λ c. pasting-none _ _ _ _ _ _)
     (λ c. omega arith)
     (λ c. omega arith)
     (λ c. omega arith)
@@ -42,6 +28,6 @@ copy-numbers-spec =
     (λ c. omega arith)
     (λ c. omega arith)
     (λ c. omega arith)
-    loop-again
-    same-length
-    returns)
+    (λ c. pasting-more (shownOf Unorm16) _ _ _ _ _ (omega arith) (omega arith) refl (c .before .before .loop .inv))
+    (λ c. c .before .loop .inv .same)
+    (λ c. pasting-all (shownOf Unorm16) _ _ _ _ (omega arith) (c .before .loop .inv)))
