@@ -6,7 +6,7 @@ use Prim.Native.Nat.{ℕ, _+_, _-_, _*_, _/_, _≤_, _<_}
 use native.Mathlib.Nat.{mul-le-mul, mul-le-mul-right, mul-le-mul-left, div-lt-iff-lt-mul, add-mul, lt-div-mul-add, div-mul-le-self}
 use native.Mathlib.Decide.{decLe, ℕ-discrete}
 use native.Mathlib.Omega.{arith}
-use lib.Dec.{ltb}
+use lib.Dec.{eqb, ltb}
 use borrow.Author.Tests.{eq-eqb, ne-eqb, lt-ltb, le-ltb}
 use Rattle.laws.specs.Choice.{pick, either}
 use Rattle.footprint.specs.Footprint.{widthOf, heightOf}
@@ -18,19 +18,22 @@ pub limit-le : sideLimit ≤ 16384
 unfolding sideLimit
 limit-le = omega arith
 
-side-zero : (n : ℕ) → n ≡ 0 → badSide n ≡ true
-unfolding badSide
-side-zero n e = rw (eq-eqb n 0 e)
+-- neither 0 nor above a limit
+pub within-limit : (limit n : ℕ) → either (eqb n 0) (ltb limit n) ≡ false → (0 < n) × (n ≤ limit)
+within-limit limit n h = (
+  elim (ℕ-discrete n 0) [ yes e ↦ absurd (true≢false (sym (zero e) ∙ h)) | no e ↦ omega (arith, e) ],
+  elim (decLe n limit) [ yes k ↦ k | no k ↦ absurd (true≢false (sym (long (omega arith)) ∙ h)) ],
+)
+  where
+    zero : n ≡ 0 → either (eqb n 0) (ltb limit n) ≡ true
+    zero e = rw (eq-eqb n 0 e)
 
-side-long : (n : ℕ) → sideLimit < n → badSide n ≡ true
-unfolding badSide
-side-long n k = rw (ne-eqb n 0 (λ e. omega (arith, e)), lt-ltb sideLimit n k)
+    long : limit < n → either (eqb n 0) (ltb limit n) ≡ true
+    long k = rw (ne-eqb n 0 (λ e. omega (arith, e)), lt-ltb limit n k)
 
 pub side-fine : (n : ℕ) → badSide n ≡ false → (0 < n) × (n ≤ sideLimit)
-side-fine n h = (
-  elim (ℕ-discrete n 0) [ yes e ↦ absurd (true≢false (sym (side-zero n e) ∙ h)) | no e ↦ omega (arith, e) ],
-  elim (decLe n sideLimit) [ yes k ↦ k | no k ↦ absurd (true≢false (sym (side-long n (omega arith)) ∙ h)) ],
-)
+unfolding badSide
+side-fine n = within-limit sideLimit n
 
 pub record Sized (fp w h : ℕ) : Type 0 where
   pub footprint : fp ≤ 13

@@ -13,3 +13,4 @@ pub mod ReadsAs
 pub mod Smallest
 pub mod Types
 pub mod Demand
+pub mod Same

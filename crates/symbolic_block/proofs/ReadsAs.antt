@@ -19,6 +19,7 @@ use Rattle.void_extent.specs.Layout.{extentAt, colourAt}
 use Rattle.symbolic_block.specs.declared.SymbolicBlock.{SymbolicBlock}
 use Rattle.symbolic_block.specs.Fields.{storedIn, Sized}
 use Rattle.symbolic_block.specs.Reading.{modeBlock, voidBlock, readBlock, selectorIn, modesCodeIn, ReadsAs}
+use Rattle.symbolic_block.proofs.Same.{by-fields}
 use Rattle.symbolic_block.proofs.Lists.{zero-at, stored-at}
 use Rattle.symbolic_block.proofs.Opened.{read-void, read-mode}
 
@@ -107,21 +108,4 @@ module _ (fp B : ℕ) where
         let e11 = list (s .modes) (t .modes) 4 (z .modes-4) (w .modes-4) (λ i h. p .modes i h ∙ sym (q .modes i h)) in
         let e12 = stored-list (s .endpoints) (t .endpoints) 18 (z .endpoints-18) (w .endpoints-18) (λ i h. p .endpoints i h ∙ sym (q .endpoints i h)) in
         let e13 = stored-list (s .weights) (t .weights) 64 (z .weights-64) (w .weights-64) (λ i h. p .weights i h ∙ sym (q .weights i h)) in
-        λ i. record {
-          mark = e0 i;
-          hdr = k i;
-          colours = e1 i;
-          extents = e2 i;
-          width = e3 i;
-          height = e4 i;
-          depth = d i;
-          range = e5 i;
-          planes = e6 i;
-          component = e7 i;
-          partitions = e8 i;
-          index = e9 i;
-          selector = e10 i;
-          modes = e11 i;
-          endpoints = e12 i;
-          weights = e13 i;
-        }
+        by-fields e0 k e1 e2 e3 e4 d e5 e6 e7 e8 e9 e10 e11 e12 e13

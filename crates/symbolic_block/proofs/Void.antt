@@ -33,6 +33,7 @@ use Rattle.bits.proofs.Laid.{Apart}
 use Rattle.symbolic_block.specs.Reading.{voidBlock, readBlock}
 use Rattle.laws.proofs.Reasons.{None, _also_, none-at, either-none}
 use Rattle.laws.specs.Reasons.{reasonAt}
+use Rattle.symbolic_block.proofs.Same.{by-fields}
 use Rattle.symbolic_block.proofs.Lists.{not-not, is-within, within-used, within-unused, all-within, tab-back, zeros-back, stored-zeros-back, zeros-unused, stored-zeros-unused}
 use Rattle.symbolic_block.proofs.Opened.{void-no-fault, no-void-fault, read-void}
 
@@ -122,24 +123,7 @@ module _ (fp : ℕ) (s : SymbolicBlock) (m : s .mark ≡ 1) (n : None (voidRefus
       let e11 = zeros-back (s .modes) 4 (z .modes-4) (not-not (within 4 0 0 (modeIn s)) (r 13)) in
       let e12 = stored-zeros-back (s .endpoints) 18 (z .endpoints-18) (not-not (within 18 0 0 (endpointIn s)) (r 14)) in
       let e13 = stored-zeros-back (s .weights) 64 (z .weights-64) (not-not (within 64 0 0 (weightIn s)) (r 15)) in
-      λ i. record {
-        mark = e0 i;
-        hdr = hdr-is i;
-        colours = e1 i;
-        extents = e2 i;
-        width = e3 i;
-        height = e4 i;
-        depth = d i;
-        range = e5 i;
-        planes = e6 i;
-        component = e7 i;
-        partitions = e8 i;
-        index = e9 i;
-        selector = e10 i;
-        modes = e11 i;
-        endpoints = e12 i;
-        weights = e13 i;
-      }
+      by-fields e0 hdr-is e1 e2 e3 e4 d e5 e6 e7 e8 e9 e10 e11 e12 e13
 
   pub void-back : readBlock fp b ≡ s
   void-back = read-void fp b is-void ∙ with-fields

@@ -31,6 +31,7 @@ use Rattle.bits.specs.Cells.{cell, laid}
 use Rattle.symbolic_block.specs.Writing.{modeNumber, modesCode, endpointStream, weightStream, endpointsEnd, componentFrom, modeCells}
 use Rattle.symbolic_block.specs.Reading.{modeBlock, readBlock}
 use Rattle.laws.proofs.Reasons.{None, none-at}
+use Rattle.symbolic_block.proofs.Same.{by-fields}
 use Rattle.symbolic_block.proofs.Lists.{within-used, padded-back, stored-back, zeros-back}
 use Rattle.bits.proofs.Laid.{Apart, _below_, laid-at, laid-lt}
 use Rattle.symbolic_block.proofs.Classes.{code-lt, code-back, all-fit}
@@ -213,24 +214,7 @@ module _ (fp : ℕ) (s : SymbolicBlock) (f : Fine fp s) (z : Sized s) where
       let x = zeros-back (s .extents) 6 (z .extents-6) (f .extents-0) in
       let e = stored-back (s .endpoints) (endpointAt b h) 18 (z .endpoints-18) endpoints-are in
       let w = stored-back (s .weights) (weightAt b h) 64 (z .weights-64) weights-are in
-      λ i. record {
-        mark = m i;
-        hdr = k i;
-        colours = c i;
-        extents = x i;
-        width = s .width;
-        height = s .height;
-        depth = s .depth;
-        range = s .range;
-        planes = s .planes;
-        component = s .component;
-        partitions = s .partitions;
-        index = s .index;
-        selector = s .selector;
-        modes = s .modes;
-        endpoints = e i;
-        weights = w i;
-      }
+      by-fields m k c x refl refl refl refl refl refl refl refl refl refl e w
 
   pub mode-back : readBlock fp b ≡ s
   mode-back = read-mode fp b not-void ∙ rw settings-are with-numbers

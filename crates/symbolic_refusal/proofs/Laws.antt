@@ -5,6 +5,7 @@ use mathlib.Core.Bool.{Bool, true, false}
 use mathlib.Core.List.{List, [], _∷_, _++_}
 use Prim.Native.Nat.{ℕ}
 use native.Mathlib.Omega.{arith}
+use lib.ListN.{take}
 use lib.Dec.{T, ltb, ltb→lt, eqb}
 use borrow.Author.Tests.{ne-eqb}
 use Rattle.laws.specs.Choice.{pick, both, either}
@@ -13,8 +14,8 @@ use Rattle.block_header.specs.declared.BlockHeader.{BlockHeader}
 use Rattle.block_header.specs.Reasons.{gridFault, endpointFault, gridReasons, endpointReasons, gridTooLarge, tooManyWeights, weightBitsOutside, fourWithTwoPlanes}
 use Rattle.laws.specs.Reasons.{Reason, when, firstOf}
 use Rattle.symbolic_block.specs.declared.SymbolicBlock.{SymbolicBlock}
-use Rattle.symbolic_block.specs.Fields.{sheetGrid, headerOf, isMarked, colourIn, extentIn}
-use Rattle.symbolic_block.specs.Refusals.{unknownFootprint, badMark, badHdr, badWidth, badHeight, badDepth, badRange, badPlanes, badComponent, badPartitions, badIndex, badSelector, badModes, someInUse, noBlockMode, modesMisfit, badEndpoints, badWeights, markedWithout, modeRefusals, voidRefusals}
+use Rattle.symbolic_block.specs.Fields.{headerOf, isMarked}
+use Rattle.symbolic_block.specs.Refusals.{modesMisfit, badEndpoints, badWeights, markedWithout, modeRefusals, voidRefusals}
 use Rattle.laws.proofs.Reasons.{numbered}
 use Rattle.symbolic_refusal.specs.inner.Stages.{orElse, badGrid, badPartitioning, badLists, badFields, badShown, gridInUse, partitioningInUse, numbersInUse, badVoidFields, fieldReasons, numberReasons, voidStages}
 
@@ -51,28 +52,11 @@ five : (A B C D E : List Reason) → T (numbered A) → T (numbered B) → T (nu
 five A B C D E a b c d = rw (← first-append D E d, ← first-append C (D ++ E) c, ← first-append B (C ++ (D ++ E)) b, ← first-append A (B ++ (C ++ (D ++ E))) a)
 
 -- 1, 31 and 32 of a mode sheet, each field by itself
-abbrev eachField : ℕ → SymbolicBlock → List Reason
-eachField fp s =
-    when (unknownFootprint fp) 1
-    ∷ when (badMark s) 31
-    ∷ when (badHdr s) 31
-    ∷ when (badWidth s) 31
-    ∷ when (badHeight s) 31
-    ∷ when (badDepth fp s) 31
-    ∷ when (badRange s) 31
-    ∷ when (badPlanes s) 31
-    ∷ when (badComponent s) 31
-    ∷ when (badPartitions s) 31
-    ∷ when (badIndex s) 31
-    ∷ when (badSelector s) 31
-    ∷ when (badModes s) 31
-    ∷ when (someInUse 4 (colourIn s)) 31
-    ∷ when (someInUse 6 (extentIn s)) 31
-    ∷ when (noBlockMode (sheetGrid s)) 32
-    ∷ []
+unfoldable eachField : ℕ → SymbolicBlock → List Reason
+eachField fp s = take 16 (modeRefusals fp s)
 
 field-stage : (fp : ℕ) (s : SymbolicBlock) → firstOf (fieldReasons fp s) ≡ firstOf (eachField fp s)
-unfolding fieldReasons badFields badGrid badPartitioning badLists
+unfolding fieldReasons badFields badGrid badPartitioning badLists eachField modeRefusals
 field-stage fp s = simp joined
 
 number-stage : (s : SymbolicBlock) → firstOf (numberReasons s) ≡ firstOf (when (badEndpoints s) 34 ∷ when (badWeights s) 34 ∷ when (markedWithout s) 35 ∷ [])
@@ -82,7 +66,7 @@ number-stage s = joined (badEndpoints s) (badWeights s) 34 (pick (markedWithout 
 pub mode-stages : (fp : ℕ) (s : SymbolicBlock) → orElse (firstOf (fieldReasons fp s)) (orElse (firstOf (gridReasons fp (headerOf s) []))
     (orElse (pick (modesMisfit (headerOf s)) 33 0) (orElse (endpointFault (isMarked s) (headerOf s)) (firstOf (numberReasons s)))))
     ≡ firstOf (modeRefusals fp s)
-unfolding modeRefusals endpointFault
+unfolding modeRefusals endpointFault eachField
 mode-stages fp s =
     rw (field-stage fp s, number-stage s)
     (five (eachField fp s) (gridReasons fp (headerOf s) []) (when (modesMisfit (headerOf s)) 33 ∷ []) (endpointReasons (isMarked s) (headerOf s) [])

@@ -12,7 +12,7 @@ use Rattle.footprint.specs.Footprint.{footprints, widthOf, heightOf, depthOf}
 use Rattle.footprint.proofs.Laws.{bounds, flat-bounds, flat-depth, volume-depth, texels-le}
 use Rattle.block_core.proofs.Frames.{texels-by-layers}
 use Rattle.image_size.specs.Sides.{badSide, blocksAcross}
-use Rattle.image_size.proofs.Laws.{limit-le, side-fine, across-le, across-pos}
+use Rattle.image_size.proofs.Laws.{limit-le, within-limit, side-fine, across-le, across-pos}
 use Rattle.volume_layout.specs.declared.VolumeGrid.{VolumeGrid}
 use Rattle.volume_layout.specs.declared.CheckedVolume.{CheckedVolume}
 use Rattle.volume_layout.specs.declared.CheckedVolume.the-variants.{Rejected, Accepted}
@@ -25,19 +25,9 @@ pub depth-le : depthLimit ≤ 2048
 unfolding depthLimit
 depth-le = omega arith
 
-depth-zero : (n : ℕ) → n ≡ 0 → badDepth n ≡ true
-unfolding badDepth
-depth-zero n e = rw (eq-eqb n 0 e)
-
-depth-long : (n : ℕ) → depthLimit < n → badDepth n ≡ true
-unfolding badDepth
-depth-long n k = rw (ne-eqb n 0 (λ e. omega (arith, e)), lt-ltb depthLimit n k)
-
 pub depth-fine : (n : ℕ) → badDepth n ≡ false → (0 < n) × (n ≤ depthLimit)
-depth-fine n h = (
-  elim (ℕ-discrete n 0) [ yes e ↦ absurd (true≢false (sym (depth-zero n e) ∙ h)) | no e ↦ omega (arith, e) ],
-  elim (decLe n depthLimit) [ yes k ↦ k | no k ↦ absurd (true≢false (sym (depth-long n (omega arith)) ∙ h)) ],
-)
+unfolding badDepth
+depth-fine n = within-limit depthLimit n
 
 -- sides and depth of an accepted volume
 pub record Sized (w h d : ℕ) : Type 0 where
