@@ -11,9 +11,6 @@ Inv-loop numbers i₀ t3 i = i ≤ length numbers
 abbrev μ-loop : tie.MeasureT-loop
 μ-loop numbers i₀ t3 i = length numbers - i
 
-returns : tie.Need-returns Inv-loop μ-loop
-returns c = tt
-
 pub list-spec : {M : Type 1} → statement M
 list-spec =
     tie.close
@@ -28,4 +25,4 @@ list-spec =
     (λ c. search needs)
     (λ c. search needs)
     (λ c κs. search needs)
-    returns)
+    (λ c. tt))

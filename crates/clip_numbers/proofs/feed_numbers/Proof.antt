@@ -21,12 +21,6 @@ returns c =
       ),
     )
 
-slice-read-is-whole : tie.Need-slice-read-is-whole
-slice-read-is-whole c = omega (arith, lengths _ _ _ (sym (c .before .before .feed-refusal .ensures) ∙ c .before .if1 .left) .0)
-
-slice-read-is-whole-2 : tie.Need-slice-read-is-whole-2
-slice-read-is-whole-2 c = omega (arith, lengths _ _ _ (sym (c .before .before .before .feed-refusal .ensures) ∙ c .before .before .if1 .left) .0)
-
 whole-block-requires : tie.Need-whole-block-requires
 whole-block-requires c κs = (
   lengths _ _ _ (sym (c .before .before .before .before .before .before .before .before .feed-refusal .ensures) ∙ c .before .before .before .before .before .before .before .if1 .left),
@@ -74,8 +68,8 @@ feed-numbers-spec =
     (tie.spec
     (λ c κs. search needs)
     returns
-    slice-read-is-whole
-    slice-read-is-whole-2
+    (λ c. omega (arith, lengths _ _ _ (sym (c .before .before .feed-refusal .ensures) ∙ c .before .if1 .left) .0))
+    (λ c. omega (arith, lengths _ _ _ (sym (c .before .before .before .feed-refusal .ensures) ∙ c .before .before .if1 .left) .0))
     (λ c κs. search needs)
     whole-block-requires
     (λ c. search needs)

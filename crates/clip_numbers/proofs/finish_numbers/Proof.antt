@@ -10,10 +10,6 @@ use Rattle.clip_numbers.specs.Numbers.{numbersOf, finishNumbered, finish
 use Rattle.clip_numbers.proofs.finish_numbers.Statement.{statement}
 use Rattle.clip_numbers.proofs.finish_numbers.Tie as tie
 
-returns : tie.Need-returns
-unfolding finishNumbered finishState
-returns c = let s = now (c .before .before .args .state) in (rw (ne-eqb (length s) 26 (c .if1 .taken)), rw (ne-eqb (length s) 26 (c .if1 .taken)))
-
 returns-2 : tie.Need-returns-2
 unfolding finishNumbered finishState
 returns-2 c =
@@ -25,10 +21,11 @@ returns-2 c =
     )
 
 pub finish-numbers-spec : {M : Type 1} → statement M
+unfolding finishNumbered finishState
 finish-numbers-spec =
     tie.close
     (tie.spec
-    returns
+    (λ c. let s = now (c .before .before .args .state) in (rw (ne-eqb (length s) 26 (c .if1 .taken)), rw (ne-eqb (length s) 26 (c .if1 .taken))))
     (λ c κs. search needs)
     (λ c κs. search needs)
     (λ c κs. search needs)

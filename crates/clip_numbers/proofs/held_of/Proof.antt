@@ -15,23 +15,14 @@ Inv-loop state held₀ k₀ held k = (k ≤ 16) × Filling (λ i. getD state (10
 abbrev μ-loop : tie.MeasureT-loop
 μ-loop state held₀ k₀ held k = 16 - k
 
-loop-holds : tie.Need-loop-holds Inv-loop μ-loop
-loop-holds c = (omega arith, filling-start _ 0 16 _ refl)
-
-loop-again : tie.Need-loop-again Inv-loop μ-loop
-loop-again c = (omega arith, filling-more _ 0 16 _ _ _ (omega arith) (c .before .before .before .loop .inv .1) (c .low .ensures))
-
-returns : tie.Need-returns Inv-loop μ-loop
-unfolding heldOf
-returns c = filling-done _ 0 16 _ _ (omega arith) (c .before .loop .inv .1)
-
 pub held-of-spec : {M : Type 1} → statement M
+unfolding heldOf
 held-of-spec =
     tie.close
     (tie.spec
     Inv-loop
     μ-loop
-    loop-holds
+    (λ c. (omega arith, filling-start _ 0 16 _ refl))
     (λ c. omega arith)
     (λ c. search needs)
     (λ c. search needs)
@@ -39,5 +30,5 @@ held-of-spec =
     (λ c. omega arith)
     (λ c. omega arith)
     (λ c. omega arith)
-    loop-again
-    returns)
+    (λ c. (omega arith, filling-more _ 0 16 _ _ _ (omega arith) (c .before .before .before .loop .inv .1) (c .low .ensures)))
+    (λ c. filling-done _ 0 16 _ _ (omega arith) (c .before .loop .inv .1)))

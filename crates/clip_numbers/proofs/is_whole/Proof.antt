@@ -4,13 +4,10 @@ use borrow.Author.Tests.{leb-true}
 use Rattle.clip_numbers.proofs.is_whole.Statement.{statement}
 use Rattle.clip_numbers.proofs.is_whole.Tie as tie
 
-returns-3 : tie.Need-returns-3
-returns-3 c = λ h. (c .before .if1 .left, c .if2 .left, leb-true 16 _ h)
-
 pub is-whole-spec : {M : Type 1} → statement M
 is-whole-spec =
     tie.close
     (tie.spec
     (λ c h. absurd (true≢false (sym h)))
     (λ c h. absurd (true≢false (sym h)))
-    returns-3)
+    (λ c. λ h. (c .before .if1 .left, c .if2 .left, leb-true 16 _ h)))

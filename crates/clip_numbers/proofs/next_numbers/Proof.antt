@@ -6,15 +6,8 @@ use Rattle.clip_numbers.specs.Numbers.{numbersOf}
 use Rattle.clip_numbers.proofs.next_numbers.Statement.{statement}
 use Rattle.clip_numbers.proofs.next_numbers.Tie as tie
 
-returns : tie.Need-returns
-unfolding numbersOf past
-returns c = rw (lt-ltb _ _ (c .before .before .if1 .taken), c .before .wide .ensures, c .wide2 .ensures)
-
-returns-2 : tie.Need-returns-2
-unfolding numbersOf past
-returns-2 c = rw (le-ltb _ _ (c .before .before .before .if1 .left), c .before .before .wrapping-add-u32 .ensures, c .before .wide3 .ensures, c .wide4 .ensures)
-
 pub next-numbers-spec : {M : Type 1} → statement M
+unfolding numbersOf past
 next-numbers-spec =
     tie.close
     (tie.spec
@@ -24,5 +17,5 @@ next-numbers-spec =
     (λ c κs. search needs)
     (λ c κs. search needs)
     (λ c κs. search needs)
-    returns
-    returns-2)
+    (λ c. rw (lt-ltb _ _ (c .before .before .if1 .taken), c .before .wide .ensures, c .wide2 .ensures))
+    (λ c. rw (le-ltb _ _ (c .before .before .before .if1 .left), c .before .before .wrapping-add-u32 .ensures, c .before .wide3 .ensures, c .wide4 .ensures)))

@@ -7,10 +7,6 @@ use Rattle.clip_numbers.specs.Numbers.{numbersOf, startNumber, startStat
 use Rattle.clip_numbers.proofs.start_numbers.Statement.{statement}
 use Rattle.clip_numbers.proofs.start_numbers.Tie as tie
 
-returns : tie.Need-returns
-unfolding startNumber startState
-returns c = let s = now (c .before .before .args .state) in (rw (ne-eqb (length s) 26 (c .if1 .taken)), rw (ne-eqb (length s) 26 (c .if1 .taken)))
-
 returns-2 : tie.Need-returns-2
 unfolding startNumber startState
 returns-2 c =
@@ -21,10 +17,11 @@ returns-2 c =
     )
 
 pub start-numbers-spec : {M : Type 1} → statement M
+unfolding startNumber startState
 start-numbers-spec =
     tie.close
     (tie.spec
-    returns
+    (λ c. let s = now (c .before .before .args .state) in (rw (ne-eqb (length s) 26 (c .if1 .taken)), rw (ne-eqb (length s) 26 (c .if1 .taken))))
     (λ c κs. search needs)
     (λ c κs. search needs)
     (λ c κs. search needs)

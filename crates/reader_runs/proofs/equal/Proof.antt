@@ -10,12 +10,6 @@ Inv-loop a b i₀ i = i ≤ 864
 abbrev μ-loop : tie.MeasureT-loop
 μ-loop a b i₀ i = 864 - i
 
-returns : tie.Need-returns Inv-loop μ-loop
-returns c = tt
-
-returns-2 : tie.Need-returns-2 Inv-loop μ-loop
-returns-2 c = tt
-
 pub equal-spec : {M : Type 1} → statement M
 equal-spec =
     tie.close
@@ -27,8 +21,8 @@ equal-spec =
     (λ c. omega arith)
     (λ c. omega arith)
     (λ c. omega arith)
-    returns
+    (λ c. tt)
     (λ c. omega arith)
     (λ c. omega arith)
     (λ c. omega arith)
-    returns-2)
+    (λ c. tt))

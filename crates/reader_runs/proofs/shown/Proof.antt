@@ -6,12 +6,6 @@ use borrow.Author.Needs.{needs}
 use Rattle.reader_runs.proofs.shown.Statement.{statement}
 use Rattle.reader_runs.proofs.shown.Tie as tie
 
-array-borrow-prefix-numbers : tie.Need-array-borrow-prefix-numbers
-array-borrow-prefix-numbers c = omega (arith, c .texels .ensures, texels-le (c .before .before .args .fp))
-
-slice-aggregate-decode-float16 : tie.Need-slice-aggregate-decode-float16
-slice-aggregate-decode-float16 c = sym (length-take-le _ _ (omega (arith, c .before .texels .ensures, texels-le (c .before .before .before .args .fp))))
-
 pub shown-spec : {M : Type 1} → statement M
 shown-spec =
     tie.close
@@ -19,7 +13,7 @@ shown-spec =
     (λ c κs. search needs)
     (λ c. search needs)
     (λ c. search needs)
-    array-borrow-prefix-numbers
-    slice-aggregate-decode-float16
+    (λ c. omega (arith, c .texels .ensures, texels-le (c .before .before .args .fp)))
+    (λ c. sym (length-take-le _ _ (omega (arith, c .before .texels .ensures, texels-le (c .before .before .before .args .fp)))))
     (λ c κs. search needs)
     (λ c. search needs))

@@ -10,9 +10,6 @@ Inv-loop xs i₀ i = i ≤ 64
 abbrev μ-loop : tie.MeasureT-loop
 μ-loop xs i₀ i = 64 - i
 
-returns : tie.Need-returns Inv-loop μ-loop
-returns c = tt
-
 pub weights-spec : {M : Type 1} → statement M
 weights-spec =
     tie.close
@@ -25,4 +22,4 @@ weights-spec =
     (λ c. omega arith)
     (λ c. omega arith)
     (λ c. omega arith)
-    returns)
+    (λ c. tt))

@@ -14,31 +14,19 @@ Inv-loop numbers out₀ i₀ out i = (i ≤ 107) × (length numbers ≡ 107) × 
 abbrev μ-loop : tie.MeasureT-loop
 μ-loop numbers out₀ i₀ out i = 107 - i
 
-loop-holds : tie.Need-loop-holds Inv-loop μ-loop
-loop-holds c = (omega arith, c .before .pre, filling-start _ 0 107 _ refl)
-
-array-write-out : tie.Need-array-write-out Inv-loop μ-loop
-array-write-out c = omega (arith, c .before .before .before .loop .inv .2 .size)
-
-loop-again : tie.Need-loop-again Inv-loop μ-loop
-loop-again c = (omega arith, omega arith, filling-more _ 0 107 _ _ _ (omega arith) (c .before .before .before .loop .inv .2) (c .clipped .ensures))
-
-returns : tie.Need-returns Inv-loop μ-loop
-unfolding clippedNumbers
-returns c = filling-done _ 0 107 _ _ (omega arith) (c .before .loop .inv .2)
-
 pub clipped-numbers-spec : {M : Type 1} → statement M
+unfolding clippedNumbers
 clipped-numbers-spec =
     tie.close
     (tie.spec
     Inv-loop
     μ-loop
-    loop-holds
+    (λ c. (omega arith, c .before .pre, filling-start _ 0 107 _ refl))
     (λ c. omega arith)
     (λ c. omega arith)
     (λ c κs. search needs)
-    array-write-out
+    (λ c. omega (arith, c .before .before .before .loop .inv .2 .size))
     (λ c. omega arith)
     (λ c. omega arith)
-    loop-again
-    returns)
+    (λ c. (omega arith, omega arith, filling-more _ 0 107 _ _ _ (omega arith) (c .before .before .before .loop .inv .2) (c .clipped .ensures)))
+    (λ c. filling-done _ 0 107 _ _ (omega arith) (c .before .loop .inv .2)))

@@ -16,28 +16,19 @@ Inv-loop numbers ok₀ i₀ ok i = (i ≤ 18) × (length numbers ≡ 107) × (ok
 abbrev μ-loop : tie.MeasureT-loop
 μ-loop numbers ok₀ i₀ ok i = 18 - i
 
-loop-holds : tie.Need-loop-holds Inv-loop μ-loop
-loop-holds c = (omega arith, c .before .pre, refl)
-
-loop-again : tie.Need-loop-again Inv-loop μ-loop
-loop-again c = (omega arith, omega arith, rw (c .fits2 .ensures, c .before .before .before .loop .inv .2, add-one))
-
-returns : tie.Need-returns Inv-loop μ-loop
-unfolding endpointsFit
-returns c = let z : c .before .loop .i ≡ 18 = omega arith in rw z at (c .before .loop .inv .2)
-
 pub endpoints-fit-spec : {M : Type 1} → statement M
+unfolding endpointsFit
 endpoints-fit-spec =
     tie.close
     (tie.spec
     Inv-loop
     μ-loop
-    loop-holds
+    (λ c. (omega arith, c .before .pre, refl))
     (λ c. omega arith)
     (λ c. omega arith)
     (λ c. omega arith)
     (λ c κs. search needs)
     (λ c. omega arith)
     (λ c. omega arith)
-    loop-again
-    returns)
+    (λ c. (omega arith, omega arith, rw (c .fits2 .ensures, c .before .before .before .loop .inv .2, add-one)))
+    (λ c. let z : c .before .loop .i ≡ 18 = omega arith in rw z at (c .before .loop .inv .2)))

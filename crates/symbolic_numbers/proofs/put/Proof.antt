@@ -34,9 +34,6 @@ settings-of-requires :
     tie.Need-settings-of-requires Inv-loop μ-loop Inv-loop2 μ-loop2 Inv-loop3 μ-loop3
 settings-of-requires c κs = search needs
 
-loop-holds : tie.Need-loop-holds Inv-loop μ-loop Inv-loop2 μ-loop2 Inv-loop3 μ-loop3
-loop-holds c = (omega arith, laid-none 0 _ _, c .before .before .before .before .before .pre)
-
 array-read-numbers :
     tie.Need-array-read-numbers Inv-loop μ-loop Inv-loop2 μ-loop2 Inv-loop3 μ-loop3
 array-read-numbers c = omega arith
@@ -48,18 +45,12 @@ slice-write-numbers c = omega (arith, c .before .loop .inv .2)
 loop-again : tie.Need-loop-again Inv-loop μ-loop Inv-loop2 μ-loop2 Inv-loop3 μ-loop3
 loop-again c = let l = c .before .loop in (omega arith, laid-more 0 (l .i) (l .i) _ _ (l .numbers) (omega arith) (omega (arith, l .inv .2)) (l .inv .1) refl, length-set (l .numbers) (l .i) _ ∙ l .inv .2)
 
-loop2-holds : tie.Need-loop2-holds Inv-loop μ-loop Inv-loop2 μ-loop2 Inv-loop3 μ-loop3
-loop2-holds c = (omega arith, laid-none 21 _ _, c .before .loop .inv .2)
-
 slice-write-numbers-2 :
     tie.Need-slice-write-numbers-2 Inv-loop μ-loop Inv-loop2 μ-loop2 Inv-loop3 μ-loop3
 slice-write-numbers-2 c = omega (arith, c .before .before .before .loop2 .inv .2)
 
 loop2-again : tie.Need-loop2-again Inv-loop μ-loop Inv-loop2 μ-loop2 Inv-loop3 μ-loop3
 loop2-again c = let l = c .before .before .before .loop2 in (omega arith, laid-more 21 (l .j) (21 + l .j) _ _ (l .numbers) refl (omega (arith, l .inv .2)) (l .inv .1) (c .wide .ensures), length-set (l .numbers) (21 + l .j) _ ∙ l .inv .2)
-
-loop3-holds : tie.Need-loop3-holds Inv-loop μ-loop Inv-loop2 μ-loop2 Inv-loop3 μ-loop3
-loop3-holds c = (omega arith, laid-none 39 _ _, c .before .loop2 .inv .2)
 
 slice-write-numbers-3 :
     tie.Need-slice-write-numbers-3 Inv-loop μ-loop Inv-loop2 μ-loop2 Inv-loop3 μ-loop3
@@ -125,7 +116,7 @@ put-spec =
     Inv-loop3
     μ-loop3
     settings-of-requires
-    loop-holds
+    (λ c. (omega arith, laid-none 0 _ _, c .before .before .before .before .before .pre))
     (λ c. omega arith)
     array-read-numbers
     (λ c. omega arith)
@@ -133,7 +124,7 @@ put-spec =
     (λ c. omega arith)
     (λ c. omega arith)
     loop-again
-    loop2-holds
+    (λ c. (omega arith, laid-none 21 _ _, c .before .loop .inv .2))
     (λ c. omega arith)
     (λ c κs. search needs)
     (λ c. omega arith)
@@ -142,7 +133,7 @@ put-spec =
     (λ c. omega arith)
     (λ c. omega arith)
     loop2-again
-    loop3-holds
+    (λ c. (omega arith, laid-none 39 _ _, c .before .loop2 .inv .2))
     (λ c. omega arith)
     (λ c κs. search needs)
     (λ c. omega arith)

@@ -13,32 +13,17 @@ Inv-loop block₀ from i₀ block i = (i ≤ 16) × Filling (λ k. getD from k 0
 abbrev μ-loop : tie.MeasureT-loop
 μ-loop block₀ from i₀ block i = 16 - i
 
-loop-holds : tie.Need-loop-holds Inv-loop μ-loop
-loop-holds c = (omega arith, filling-start _ 0 16 _ (c .pre))
-
-slice-write-block : tie.Need-slice-write-block Inv-loop μ-loop
-slice-write-block c = omega (arith, c .before .loop .inv .1 .size)
-
-loop-again : tie.Need-loop-again Inv-loop μ-loop
-loop-again c = (omega arith, filling-more _ 0 16 _ _ _ (omega arith) (c .before .loop .inv .1) refl)
-
-same-length : tie.Need-same-length Inv-loop μ-loop
-same-length c = c .before .loop .inv .1 .size ∙ sym (c .before .before .pre)
-
-returns : tie.Need-returns Inv-loop μ-loop
-returns c = filling-done _ 0 16 _ _ (omega arith) (c .before .loop .inv .1)
-
 pub put-block-spec : {M : Type 1} → statement M
 put-block-spec =
     tie.close
     (tie.spec
     Inv-loop
     μ-loop
-    loop-holds
+    (λ c. (omega arith, filling-start _ 0 16 _ (c .pre)))
     (λ c. search needs)
-    slice-write-block
+    (λ c. omega (arith, c .before .loop .inv .1 .size))
     (λ c. omega arith)
     (λ c. omega arith)
-    loop-again
-    same-length
-    returns)
+    (λ c. (omega arith, filling-more _ 0 16 _ _ _ (omega arith) (c .before .loop .inv .1) refl))
+    (λ c. c .before .loop .inv .1 .size ∙ sym (c .before .before .pre))
+    (λ c. filling-done _ 0 16 _ _ (omega arith) (c .before .loop .inv .1)))

@@ -4,12 +4,6 @@ use borrow.Author.Needs.{needs}
 use Rattle.symbolic_numbers.proofs.settings_of.Statement.{statement}
 use Rattle.symbolic_numbers.proofs.settings_of.Tie as tie
 
-cast-t35 : tie.Need-cast-t35
-cast-t35 c = omega (arith, c .struct-known7 .given)
-
-cast-t36 : tie.Need-cast-t36
-cast-t36 c = omega (arith, c .struct-known8 .given)
-
 returns : tie.Need-returns
 returns c =
     let w = c .before .before .before in
@@ -33,8 +27,8 @@ settings-of-spec =
     (λ c. search needs)
     (λ c. search needs)
     (λ c. search needs)
-    cast-t35
-    cast-t36
+    (λ c. omega (arith, c .struct-known7 .given))
+    (λ c. omega (arith, c .struct-known8 .given))
     (λ c. search needs)
     (λ c κs. search needs)
     (λ c. search needs)

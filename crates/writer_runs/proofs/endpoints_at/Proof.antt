@@ -10,9 +10,6 @@ Inv-loop r out₀ i₀ out i = i ≤ 18
 abbrev μ-loop : tie.MeasureT-loop
 μ-loop r out₀ i₀ out i = 18 - i
 
-returns : tie.Need-returns Inv-loop μ-loop
-returns c = tt
-
 pub endpoints-at-spec : {M : Type 1} → statement M
 endpoints-at-spec =
     tie.close
@@ -26,4 +23,4 @@ endpoints-at-spec =
     (λ c. omega arith)
     (λ c. omega arith)
     (λ c. omega arith)
-    returns)
+    (λ c. tt))

@@ -10,9 +10,6 @@ Inv-loop r out₀ i₀ out i = i ≤ 64
 abbrev μ-loop : tie.MeasureT-loop
 μ-loop r out₀ i₀ out i = 64 - i
 
-returns : tie.Need-returns Inv-loop μ-loop
-returns c = tt
-
 pub weights-at-spec : {M : Type 1} → statement M
 weights-at-spec =
     tie.close
@@ -26,4 +23,4 @@ weights-at-spec =
     (λ c. omega arith)
     (λ c. omega arith)
     (λ c. omega arith)
-    returns)
+    (λ c. tt))
