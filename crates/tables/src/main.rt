@@ -85,19 +85,10 @@ fn levels(name: &[u8], range: u8, weight: bool) {
     end_line();
 }
 
-fn endpoints() {
-    let mut range: u8 = 4;
-    while range <= 20 {
-        levels(b"endpoint ", range, false);
-        range += 1;
-    }
-}
-
-fn weights() {
-    let mut range: u8 = 0;
-    while range <= 11 {
-        levels(b"weight ", range, true);
-        range += 1;
+// The ranges from `from` to `to`.
+fn ranges(name: &[u8], from: u8, to: u8, weight: bool) {
+    for range in from..=to {
+        levels(name, range, weight);
     }
 }
 
@@ -247,8 +238,8 @@ fn volumes() {
 fn main() {
     codes(b"trit ", 256, 1, 5);
     codes(b"quint ", 128, 3, 3);
-    endpoints();
-    weights();
+    ranges(b"endpoint ", 4, 20, false);
+    ranges(b"weight ", 0, 11, true);
     modes();
     partitions();
     volumes();
