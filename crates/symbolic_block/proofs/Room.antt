@@ -6,6 +6,7 @@ use mathlib.Core.List.{List}
 use Prim.Native.Nat.{ℕ, zero, suc, _+_, _-_, _*_, _/_, _^_, _≤_, _<_}
 use native.Mathlib.Omega.{arith}
 use lib.Dec.{eqb}
+use lib.Pow.{pow-pos}
 use borrow.Author.Tests.{eqb-true, eqb-false, eq-eqb}
 use Rattle.laws.specs.Choice.{pick}
 use Rattle.quantization.specs.Ranges.{rangeBits}
@@ -29,33 +30,30 @@ head-sum P = go (eqb P 1) where
   go true = refl
   go false = refl
 
+-- a field of w bits, or of none
+field-lt : (w x : ℕ) (none : Bool) → x ≤ pick none 0 (2 ^ w - 1) → x < 2 ^ pick none 0 w
+field-lt w x true h = omega arith
+field-lt w x false h = omega (arith, pow-pos w)
+
+field-le : (w x : ℕ) (none : Bool) → x < 2 ^ pick none 0 w → x ≤ pick none 0 (2 ^ w - 1)
+field-le w x true h = omega arith
+field-le w x false h = omega arith
+
 pub index-lt : (P x : ℕ) → x ≤ pick (eqb P 1) 0 1023 → x < 2 ^ indexBits P
 unfolding indexBits
-index-lt P x = go (eqb P 1) where
-  go : (b : Bool) → x ≤ pick b 0 1023 → x < 2 ^ pick b 0 10
-  go true h = omega arith
-  go false h = omega arith
+index-lt P x = field-lt 10 x (eqb P 1)
 
 pub index-le : (P x : ℕ) → x < 2 ^ indexBits P → x ≤ pick (eqb P 1) 0 1023
 unfolding indexBits
-index-le P x = go (eqb P 1) where
-  go : (b : Bool) → x < 2 ^ pick b 0 10 → x ≤ pick b 0 1023
-  go true h = omega arith
-  go false h = omega arith
+index-le P x = field-le 10 x (eqb P 1)
 
 pub selector-lt : (P x : ℕ) → x ≤ pick (eqb P 1) 0 3 → x < 2 ^ selectorBits P
 unfolding selectorBits
-selector-lt P x = go (eqb P 1) where
-  go : (b : Bool) → x ≤ pick b 0 3 → x < 2 ^ pick b 0 2
-  go true h = omega arith
-  go false h = omega arith
+selector-lt P x = field-lt 2 x (eqb P 1)
 
 pub selector-le : (P x : ℕ) → x < 2 ^ selectorBits P → x ≤ pick (eqb P 1) 0 3
 unfolding selectorBits
-selector-le P x = go (eqb P 1) where
-  go : (b : Bool) → x < 2 ^ pick b 0 2 → x ≤ pick b 0 3
-  go true h = omega arith
-  go false h = omega arith
+selector-le P x = field-le 2 x (eqb P 1)
 
 -- a selector needs several partitions
 pub several : (P x : ℕ) → x ≤ pick (eqb P 1) 0 3 → 1 ≤ P → 1 ≤ x → 2 ≤ P
