@@ -13,30 +13,12 @@ Inv-loop from out₀ k₀ out k = (k ≤ length out₀) × (length out₀ ≡ le
 abbrev μ-loop : tie.MeasureT-loop
 μ-loop from out₀ k₀ out k = length out₀ - k
 
-loop-holds : tie.Need-loop-holds Inv-loop μ-loop
-loop-holds c = (omega arith, c .pre, filling-start _ 0 _ _ refl)
-
-shared-slice-read-out : tie.Need-shared-slice-read-out Inv-loop μ-loop
-shared-slice-read-out c = let i = c .before .before .loop .inv in omega (arith, i .2 .size, i .1)
-
-slice-write-out : tie.Need-slice-write-out Inv-loop μ-loop
-slice-write-out c = omega (arith, c .before .before .loop .inv .2 .size)
-
-add-k : tie.Need-add-k Inv-loop μ-loop
-add-k c = omega (arith, c .before .before .loop .inv .2 .size)
-
-loop-less : tie.Need-loop-less Inv-loop μ-loop
-loop-less c = omega (arith, c .before .before .loop .inv .2 .size)
-
 loop-again : tie.Need-loop-again Inv-loop μ-loop
 loop-again c = (
   omega (arith, c .before .before .loop .inv .2 .size),
   c .before .before .loop .inv .1,
   filling-more _ 0 _ _ _ _ (omega (arith, c .before .before .loop .inv .2 .size)) (c .before .before .loop .inv .2) refl,
 )
-
-same-length : tie.Need-same-length Inv-loop μ-loop
-same-length c = c .before .loop .inv .2 .size
 
 returns : tie.Need-returns Inv-loop μ-loop
 returns c =
@@ -50,11 +32,11 @@ copy-spec =
     (tie.spec
     Inv-loop
     μ-loop
-    loop-holds
-    shared-slice-read-out
-    slice-write-out
-    add-k
-    loop-less
+    (λ c. (omega arith, c .pre, filling-start _ 0 _ _ refl))
+    (λ c. let i = c .before .before .loop .inv in omega (arith, i .2 .size, i .1))
+    (λ c. omega (arith, c .before .before .loop .inv .2 .size))
+    (λ c. omega (arith, c .before .before .loop .inv .2 .size))
+    (λ c. omega (arith, c .before .before .loop .inv .2 .size))
     loop-again
-    same-length
+    (λ c. c .before .loop .inv .2 .size)
     returns)

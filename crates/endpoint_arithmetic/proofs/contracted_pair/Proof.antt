@@ -4,11 +4,8 @@ use borrow.Author.Needs.{needs}
 use Rattle.endpoint_arithmetic.proofs.contracted_pair.Statement.{statement}
 use Rattle.endpoint_arithmetic.proofs.contracted_pair.Tie as tie
 
-returns : tie.Need-returns
-unfolding contractedPair
-returns c = cc
-
 pub contracted-pair-spec : {M : Type 1} → statement M
+unfolding contractedPair
 contracted-pair-spec =
     tie.close
     (tie.spec
@@ -22,4 +19,4 @@ contracted-pair-spec =
     (λ c κs. search needs)
     (λ c κs. search needs)
     (λ c κs. search needs)
-    returns)
+    (λ c. cc))

@@ -4,11 +4,8 @@ use borrow.Author.Needs.{needs}
 use Rattle.endpoint_arithmetic.proofs.raised_pair.Statement.{statement}
 use Rattle.endpoint_arithmetic.proofs.raised_pair.Tie as tie
 
-returns : tie.Need-returns
-unfolding raisedPair
-returns c = cc
-
 pub raised-pair-spec : {M : Type 1} → statement M
+unfolding raisedPair
 raised-pair-spec =
     tie.close
     (tie.spec
@@ -22,4 +19,4 @@ raised-pair-spec =
     (λ c κs. search needs)
     (λ c κs. search needs)
     (λ c κs. search needs)
-    returns)
+    (λ c. cc))

@@ -16,27 +16,6 @@ Inv-loop from out₀ i₀ out i = (i ≤ length out₀) × (length out₀ ≤ 86
 abbrev μ-loop : tie.MeasureT-loop
 μ-loop from out₀ i₀ out i = length out₀ - i
 
-loop-holds : tie.Need-loop-holds Inv-loop μ-loop
-loop-holds c = (omega arith, c .before .pre, filling-start _ 0 _ _ refl)
-
-mul-top-byte : tie.Need-mul-top-byte Inv-loop μ-loop
-mul-top-byte c = omega (arith, c .before .loop .inv .2 .size)
-
-element-copy-out-top-byte : tie.Need-element-copy-out-top-byte Inv-loop μ-loop
-element-copy-out-top-byte c = omega (arith, c .before .loop .inv .2 .size)
-
-top-byte-requires : tie.Need-top-byte-requires Inv-loop μ-loop
-top-byte-requires c κs = tt
-
-slice-write-out : tie.Need-slice-write-out Inv-loop μ-loop
-slice-write-out c = omega (arith, c .before .before .before .loop .inv .2 .size)
-
-add-i : tie.Need-add-i Inv-loop μ-loop
-add-i c = omega (arith, c .before .before .before .loop .inv .2 .size)
-
-loop-less : tie.Need-loop-less Inv-loop μ-loop
-loop-less c = omega (arith, c .before .before .before .loop .inv .2 .size)
-
 loop-again : tie.Need-loop-again Inv-loop μ-loop
 loop-again c = (
   omega (arith, c .before .before .before .loop .inv .2 .size),
@@ -44,26 +23,19 @@ loop-again c = (
   filling-more _ 0 _ _ _ _ (omega (arith, c .before .before .before .loop .inv .2 .size)) (c .before .before .before .loop .inv .2) (c .top-byte .ensures),
 )
 
-same-length : tie.Need-same-length Inv-loop μ-loop
-same-length c = c .before .loop .inv .2 .size
-
-returns : tie.Need-returns Inv-loop μ-loop
-returns c =
-    filling-done (told (c .before .before .before .args .from .now)) 0 _ _ _ (omega (arith, c .before .loop .inv .2 .size)) (c .before .loop .inv .2)
-
 pub copy-bytes-spec : {M : Type 1} → statement M
 copy-bytes-spec =
     tie.close
     (tie.spec
     Inv-loop
     μ-loop
-    loop-holds
-    mul-top-byte
-    element-copy-out-top-byte
-    top-byte-requires
-    slice-write-out
-    add-i
-    loop-less
+    (λ c. (omega arith, c .before .pre, filling-start _ 0 _ _ refl))
+    (λ c. omega (arith, c .before .loop .inv .2 .size))
+    (λ c. omega (arith, c .before .loop .inv .2 .size))
+    (λ c κs. tt)
+    (λ c. omega (arith, c .before .before .before .loop .inv .2 .size))
+    (λ c. omega (arith, c .before .before .before .loop .inv .2 .size))
+    (λ c. omega (arith, c .before .before .before .loop .inv .2 .size))
     loop-again
-    same-length
-    returns)
+    (λ c. c .before .loop .inv .2 .size)
+    (λ c. filling-done (told (c .before .before .before .args .from .now)) 0 _ _ _ (omega (arith, c .before .loop .inv .2 .size)) (c .before .loop .inv .2)))

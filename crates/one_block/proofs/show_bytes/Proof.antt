@@ -23,12 +23,6 @@ returns c =
 none : (c : tie.Else1) → blockRefusal (c .before .before .before .args .fp) (length (now (c .before .before .before .args .block))) (length (now (c .before .before .before .args .out))) ≡ 0
 none c = sym (c .before .before .before .pre) ∙ c .if1 .left
 
-decode-in-requires : tie.Need-decode-in-requires
-decode-in-requires c κs = (not-refused _ _ _ (none (c .before .before .before)) .known, c .before .is-volume .ensures)
-
-copy-bytes-requires : tie.Need-copy-bytes-requires
-copy-bytes-requires c κs = fits-in _ _ _ (none (c .before .before .before .before .before .before))
-
 returns-2 : tie.Need-returns-2
 returns-2 c =
     let d = c .before .before .before .before .before .before in
@@ -50,8 +44,8 @@ show-bytes-spec =
     returns
     (λ c κs. search needs)
     (λ c κs. search needs)
-    decode-in-requires
-    copy-bytes-requires
+    (λ c κs. (not-refused _ _ _ (none (c .before .before .before)) .known, c .before .is-volume .ensures))
+    (λ c κs. fits-in _ _ _ (none (c .before .before .before .before .before .before)))
     (λ c κs. search needs)
     (λ c. search needs)
     returns-2)

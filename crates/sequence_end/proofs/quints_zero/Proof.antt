@@ -9,12 +9,6 @@ use borrow.Author.Needs.{needs}
 use Rattle.sequence_end.proofs.quints_zero.Statement.{statement}
 use Rattle.sequence_end.proofs.quints_zero.Tie as tie
 
-returns : tie.Need-returns
-returns c = sym (missing-none Quints _ _ _ (c .if1 .taken))
-
-mul-word-at-2 : tie.Need-mul-word-at-2
-mul-word-at-2 c = let a = c .before .args in let m : a .n / 3 * (3 * a .b + 7) ≤ 255 * 38 = mul-le-mul {n₂ = 255} {m₂ = 38} (omega arith) (omega arith) in omega (arith, m)
-
 returns-2 : tie.Need-returns-2
 unfolding sequenceBits
 returns-2 c =
@@ -26,10 +20,10 @@ pub quints-zero-spec : {M : Type 1} → statement M
 quints-zero-spec =
     tie.close
     (tie.spec
-    returns
+    (λ c. sym (missing-none Quints _ _ _ (c .if1 .taken)))
     (λ c. search needs)
     (λ c. search needs)
-    mul-word-at-2
+    (λ c. let a = c .before .args in let m : a .n / 3 * (3 * a .b + 7) ≤ 255 * 38 = mul-le-mul {n₂ = 255} {m₂ = 38} (omega arith) (omega arith) in omega (arith, m))
     (λ c κs. search needs)
     (λ c κs. search needs)
     (λ c κs. search needs)

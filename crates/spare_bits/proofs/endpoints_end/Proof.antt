@@ -12,25 +12,14 @@ small c =
     let a = c .before .before .args in
     rw (c .range-bits .ensures) (range-bits-le (a .range) (a .n) 32640 (omega arith))
 
-cast-result-2 : tie.Need-cast-result-2
-cast-result-2 c = omega (arith, small c)
-
-add-result : tie.Need-add-result
-add-result c = omega (arith, small c)
-
-returns : tie.Need-returns
-unfolding endpointsEnd
-returns c =
-    let p = c .before .before .pre in
-    (ap₂ _+_ (c .before .endpoints-from .ensures) (c .range-bits .ensures ∙ rw (p .1, p .2)), omega (arith, small c))
-
 pub endpoints-end-spec : {M : Type 1} → statement M
+unfolding endpointsEnd
 endpoints-end-spec =
     tie.close
     (tie.spec
     (λ c κs. search needs)
     (λ c. search needs)
     (λ c κs. search needs)
-    cast-result-2
-    add-result
-    returns)
+    (λ c. omega (arith, small c))
+    (λ c. omega (arith, small c))
+    (λ c. let p = c .before .before .pre in (ap₂ _+_ (c .before .endpoints-from .ensures) (c .range-bits .ensures ∙ rw (p .1, p .2)), omega (arith, small c))))
