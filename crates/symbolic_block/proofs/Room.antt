@@ -31,29 +31,29 @@ head-sum P = go (eqb P 1) where
   go false = refl
 
 -- a field of w bits, or of none
-field-lt : (w x : ℕ) (none : Bool) → x ≤ pick none 0 (2 ^ w - 1) → x < 2 ^ pick none 0 w
-field-lt w x true h = omega arith
-field-lt w x false h = omega (arith, pow-pos w)
+bits-or-none-lt : (w x : ℕ) (none : Bool) → x ≤ pick none 0 (2 ^ w - 1) → x < 2 ^ pick none 0 w
+bits-or-none-lt w x true h = omega arith
+bits-or-none-lt w x false h = omega (arith, pow-pos w)
 
-field-le : (w x : ℕ) (none : Bool) → x < 2 ^ pick none 0 w → x ≤ pick none 0 (2 ^ w - 1)
-field-le w x true h = omega arith
-field-le w x false h = omega arith
+bits-or-none-le : (w x : ℕ) (none : Bool) → x < 2 ^ pick none 0 w → x ≤ pick none 0 (2 ^ w - 1)
+bits-or-none-le w x true h = omega arith
+bits-or-none-le w x false h = omega arith
 
 pub index-lt : (P x : ℕ) → x ≤ pick (eqb P 1) 0 1023 → x < 2 ^ indexBits P
 unfolding indexBits
-index-lt P x = field-lt 10 x (eqb P 1)
+index-lt P x = bits-or-none-lt 10 x (eqb P 1)
 
 pub index-le : (P x : ℕ) → x < 2 ^ indexBits P → x ≤ pick (eqb P 1) 0 1023
 unfolding indexBits
-index-le P x = field-le 10 x (eqb P 1)
+index-le P x = bits-or-none-le 10 x (eqb P 1)
 
 pub selector-lt : (P x : ℕ) → x ≤ pick (eqb P 1) 0 3 → x < 2 ^ selectorBits P
 unfolding selectorBits
-selector-lt P x = field-lt 2 x (eqb P 1)
+selector-lt P x = bits-or-none-lt 2 x (eqb P 1)
 
 pub selector-le : (P x : ℕ) → x < 2 ^ selectorBits P → x ≤ pick (eqb P 1) 0 3
 unfolding selectorBits
-selector-le P x = field-le 2 x (eqb P 1)
+selector-le P x = bits-or-none-le 2 x (eqb P 1)
 
 -- a selector needs several partitions
 pub several : (P x : ℕ) → x ≤ pick (eqb P 1) 0 3 → 1 ≤ P → 1 ≤ x → 2 ≤ P
