@@ -12,7 +12,7 @@ use Rattle.image_size.specs.Sides.{sideLimit, badSide, sizeRefusal}
 use Rattle.image_size.proofs.Laws.{limit-le, side-fine, sized}
 use Rattle.astc_header.specs.declared.WrittenHeader.{WrittenHeader}
 use Rattle.astc_header.specs.Header.{startBytes, writtenHeader}
-use Rattle.astc_header.specs.inner.Parts.{headerWith}
+use Rattle.astc_header.specs.inner.Parts.{headerBytesWith}
 
 -- a side that is not refused fits three bytes
 pub side-small : (n : ℕ) → badSide n ≡ false → n < 2 ^ 24
@@ -23,6 +23,6 @@ module _ (fp w h e : ℕ) (q : e ≡ sizeRefusal fp w h) where
   unfolding writtenHeader
   zeros n = rw (sym q, ne-eqb e 0 n)
 
-  pub written : (b : List ℕ) → e ≡ 0 → b ≡ headerWith startBytes (widthOf fp) (heightOf fp) w h → _≡_ {A = WrittenHeader} (record { refusal = e; bytes = b }) (writtenHeader fp w h)
+  pub written : (b : List ℕ) → e ≡ 0 → b ≡ headerBytesWith startBytes (widthOf fp) (heightOf fp) w h → _≡_ {A = WrittenHeader} (record { refusal = e; bytes = b }) (writtenHeader fp w h)
   unfolding writtenHeader
   written b z k = rw (sym q ∙ z) (λ t. record { refusal = z t; bytes = k t })

@@ -4,7 +4,7 @@ ghost use Prim.Native.Nat.{_+_, _^_, _≤_, _<_};
 ghost use lib.ListN.{length};
 ghost use Rattle.laws.specs.Choice.{both};
 ghost use Rattle.astc_header.specs.Header.{sameFour, hasStart, footprintFor, sizeAt, headerIn, knownShape, headerRefusal, headerAnswer, fileBlocks, toldOf, headerTold, writtenHeader};
-ghost use Rattle.astc_header.specs.inner.Parts.{formRefusal, headerWith};
+ghost use Rattle.astc_header.specs.inner.Parts.{formRefusal, headerBytesWith};
 
 // What a header says: the footprint of the blocks, and the image's sides.
 pub struct FileHeader {
@@ -165,7 +165,7 @@ pub fn file_blocks(file: &[u8]) -> &[u8]
 // Sixteen bytes: the start, a block's sides and depth, the image's sides and the third size.
 fn header_with(start: &[u8; 4], columns: u8, rows: u8, width: u32, height: u32) -> [u8; 16]
     requires { ⌜ (width < 2 ^ 24) × (height < 2 ^ 24) ⌝ }
-    ensures { λ r. ⌜ r ≡ headerWith (now (start .entry)) columns rows width height ⌝ }
+    ensures { λ r. ⌜ r ≡ headerBytesWith (now (start .entry)) columns rows width height ⌝ }
 {
     [
         start[0],

@@ -16,10 +16,10 @@ use Rattle.laws.specs.Choice.{pick, both, either, all}
 use Rattle.laws.proofs.Computed.{each, every, entry, both-left, both-right}
 use Rattle.bc7_layout.specs.Modes.{subsets, partitionBits, rotationBits, colourBits, alphaBits, endpointPBits, sharedPBits, pBits, indexBits, secondaryBits, selectionBits}
 use Rattle.bc7_layout.specs.Partitions.{subsetOf}
-use Rattle.bc7_layout.specs.Layout.{endpointWidth, pBitWidth, widthOf}
+use Rattle.bc7_layout.specs.Layout.{endpointWidth, pBitWidth, fieldWidth}
 use Rattle.bc7_layout.proofs.Rows.{width-endpoint, width-pbit}
 use Rattle.bc7_layout.proofs.Tables.{subset-lt}
-use Rattle.bc7_block.specs.Picture.{twoBitFactors, threeBitFactors, fourBitFactors, factorOf, asByte, mixed, rotated, storedEnd, pBitOf, hasPBit, widenedEnd, endOf, primaryFactor, secondaryFactor, colourFactor, alphaFactor, mixedAt, texelOf}
+use Rattle.bc7_block.specs.Picture.{twoBitFactors, threeBitFactors, fourBitFactors, factorOf, asByte, mixed, rotated, storedEnd, pBitOf, hasPBit, widenedEnd, endChannel, primaryFactor, secondaryFactor, colourFactor, alphaFactor, mixedAt, texelOf}
 
 by-test : (t : Bool) (x y z : ℕ) → (t ≡ true → x ≤ z) → (t ≡ false → y ≤ z) → pick t x y ≤ z
 by-test true x y z h l = h refl
@@ -108,11 +108,11 @@ all-two : T (all (λ m. leb (rotationBits m) 2) 8)
 unfolding rotationBits
 all-two = tt
 
-two-bits : (m : ℕ) → m < 8 → widthOf m 0 2 ≤ 2
-unfolding widthOf
+two-bits : (m : ℕ) → m < 8 → fieldWidth m 0 2 ≤ 2
+unfolding fieldWidth
 two-bits m h = leb→le (rotationBits m) 2 (each (λ n. leb (rotationBits n) 2) 8 all-two m h)
 
-module _ (m : ℕ) (v : ℕ → ℕ) (h : m < 8) (fits : (k : ℕ) → k < 60 → v k < 2 ^ widthOf m (v 1) k) where
+module _ (m : ℕ) (v : ℕ → ℕ) (h : m < 8) (fits : (k : ℕ) → k < 60 → v k < 2 ^ fieldWidth m (v 1) k) where
   row : T (sound m)
   row = each sound 8 all-sound m h
 
@@ -133,13 +133,13 @@ module _ (m : ℕ) (v : ℕ → ℕ) (h : m < 8) (fits : (k : ℕ) → k < 60 �
   endpoint-fits : (i : ℕ) → i < 18 → v (4 + i) < 2 ^ endpointWidth m i
   endpoint-fits i l =
       let e : 4 + i - 4 ≡ i = omega arith in
-      let w : endpointWidth m (4 + i - 4) ≡ widthOf m (v 1) (4 + i) = width-endpoint m (v 1) (4 + i) (omega arith) (omega arith) in
+      let w : endpointWidth m (4 + i - 4) ≡ fieldWidth m (v 1) (4 + i) = width-endpoint m (v 1) (4 + i) (omega arith) (omega arith) in
       rw (sym (ap (endpointWidth m) e) ∙ w) (fits (4 + i) (omega arith))
 
   pbit-fits : (i : ℕ) → i < 6 → v (22 + i) < 2
   pbit-fits i l =
       let e : 22 + i - 22 ≡ i = omega arith in
-      let w : pBitWidth m (22 + i - 22) ≡ widthOf m (v 1) (22 + i) = width-pbit m (v 1) (22 + i) (omega arith) (omega arith) in
+      let w : pBitWidth m (22 + i - 22) ≡ fieldWidth m (v 1) (22 + i) = width-pbit m (v 1) (22 + i) (omega arith) (omega arith) in
       lt-of-lt-of-le (fits (22 + i) (omega arith)) (pow-mono {j = 1} (subst (λ (n : ℕ). n ≤ 1) w (one-bit m (22 + i - 22))))
 
   -- a stored number of w bits, with its P bit below where there is one
@@ -172,8 +172,8 @@ module _ (m : ℕ) (v : ℕ → ℕ) (h : m < 8) (fits : (k : ℕ) → k < 60 �
       rw (le-ltb (3 * (2 * subsets m) + 2 * j + e) (6 * subsets m) i, lt-ltb (3 * (2 * subsets m) + 2 * j + e) (8 * subsets m) k)
       at (endpoint-fits (3 * (2 * subsets m) + 2 * j + e) (omega (arith, k)))
 
-  pub end-most : (j e c : ℕ) → j < subsets m → e < 2 → c < 4 → endOf m v j e c ≤ 255
-  unfolding endOf
+  pub end-most : (j e c : ℕ) → j < subsets m → e < 2 → c < 4 → endChannel m v j e c ≤ 255
+  unfolding endChannel
   end-most j e c hj he hc =
       by-test (eqb c 3) _ _ 255
       (λ q. let z : c ≡ 3 = eqb-true c 3 q in rw z
@@ -201,7 +201,7 @@ module _ (m : ℕ) (v : ℕ → ℕ) (h : m < 8) (fits : (k : ℕ) → k < 60 �
   alpha-factor-most i = by-test (both (ltb 0 (secondaryBits m)) (either (eqb (selectionBits m) 0) (eqb (v 3) 0))) _ _ 64 (λ _. secondary-most i) (λ _. primary-most i)
 
   partition-here : v 1 < 2 ^ partitionBits m
-  unfolding widthOf
+  unfolding fieldWidth
   partition-here = fits 1 (omega arith)
 
   mixed-at-most : (i c : ℕ) → i < 16 → c < 4 → mixedAt m v i c ≤ 255
@@ -212,7 +212,7 @@ module _ (m : ℕ) (v : ℕ → ℕ) (h : m < 8) (fits : (k : ℕ) → k < 60 �
       (end-most _ 0 c s (omega arith) hc) (end-most _ 1 c s (omega arith) hc)
 
   pub rotation-here : v 2 < 4
-  unfolding widthOf
+  unfolding fieldWidth
   rotation-here = lt-of-lt-of-le (fits 2 (omega arith)) (pow-mono {j = 2} (two-bits m h))
 
   pub texel-byte : (i c : ℕ) → i < 16 → c < 4 → texelOf m v i c ≤ 255

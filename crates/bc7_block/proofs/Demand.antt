@@ -15,7 +15,7 @@ use Rattle.laws.proofs.Reasons.{None, none-at, at-none, first-told}
 use Rattle.bits.specs.Field.{field, stream}
 use Rattle.bits.proofs.Fields.{field-lt, field-low, field-past, pos-mono, restream, stream-lt, stream-at, stream-ext}
 use Rattle.bc7_layout.specs.Modes.{partitionBits}
-use Rattle.bc7_layout.specs.Layout.{widthOf, placeOf, firstByte, modeAt, isReserved, partitionAt, fieldAt}
+use Rattle.bc7_layout.specs.Layout.{fieldWidth, placeOf, firstByte, modeAt, isReserved, partitionFieldAt, fieldAt}
 use Rattle.bc7_layout.proofs.Tables.{filled-block, mode-lt, mode-mark, mark-mode}
 use Rattle.bc7_block.specs.declared.Bc7Block.{Bc7Block}
 use Rattle.bc7_block.specs.Fields.{valueIn, Sized}
@@ -28,7 +28,7 @@ use Rattle.bc7_block.proofs.Views.{value-past, made-sized, made-at, mad
 use Rattle.bc7_block.proofs.Fits.{Fitting, refusal-is, none, accepted, fitting, acceptable}
 
 -- where fields begin
-next : (m p k : ℕ) → placeOf m p (suc k) ≡ widthOf m p k + placeOf m p k
+next : (m p k : ℕ) → placeOf m p (suc k) ≡ fieldWidth m p k + placeOf m p k
 unfolding placeOf
 next m p k = refl
 
@@ -37,16 +37,16 @@ mark-place : (m p : ℕ) → placeOf m p 0 ≡ 0
 unfolding placeOf
 mark-place m p = refl
 
-mark-width : (m p : ℕ) → widthOf m p 0 ≡ m + 1
-unfolding widthOf
+mark-width : (m p : ℕ) → fieldWidth m p 0 ≡ m + 1
+unfolding fieldWidth
 mark-width m p = refl
 
 -- and the partition behind it, in every partition
 partition-place : (m p : ℕ) → placeOf m p 1 ≡ m + 1
 partition-place m p = next m p 0 ∙ ap₂ _+_ (mark-width m p) (mark-place m p) ∙ add-zero (m + 1)
 
-partition-width : (m p : ℕ) → widthOf m p 1 ≡ partitionBits m
-unfolding widthOf
+partition-width : (m p : ℕ) → fieldWidth m p 1 ≡ partitionBits m
+unfolding fieldWidth
 partition-width m p = refl
 
 -- ---- a block that begins with a mode's mark
@@ -71,11 +71,11 @@ module _ (B m : ℕ) (h : m < 8) (e : field B 0 (m + 1) ≡ 2 ^ m) where
 
 module _ (s : Bc7Block) (z : Sized s) (f : Fitting s) where
   -- every field fits, also past the last
-  small : (k : ℕ) → valueIn s k < 2 ^ widthOf (s .mode) (s .partition) k
+  small : (k : ℕ) → valueIn s k < 2 ^ fieldWidth (s .mode) (s .partition) k
   small k =
       elim (decLt k 60) [
         | yes l ↦ f .fields k l
-        | no l ↦ rw (value-past s z k (omega arith)) (pow-pos (widthOf (s .mode) (s .partition) k))
+        | no l ↦ rw (value-past s z k (omega arith)) (pow-pos (fieldWidth (s .mode) (s .partition) k))
       ]
 
   partition-value : valueIn s 1 ≡ s .partition
@@ -83,7 +83,7 @@ module _ (s : Bc7Block) (z : Sized s) (f : Fitting s) where
   partition-value = refl
 
   partition-fits : s .partition < 2 ^ partitionBits (s .mode)
-  unfolding valueIn widthOf
+  unfolding valueIn fieldWidth
   partition-fits = f .fields 1 (omega arith)
 
   end : placeOf (s .mode) (s .partition) 60 ≡ 128
@@ -93,22 +93,22 @@ module _ (s : Bc7Block) (z : Sized s) (f : Fitting s) where
   unfolding blockOf
   fits-block =
       subst (λ (n : ℕ). blockOf s < 2 ^ n) end
-      (stream-lt (placeOf (s .mode) (s .partition)) (widthOf (s .mode) (s .partition)) (next (s .mode) (s .partition)) (valueIn s) small 60)
+      (stream-lt (placeOf (s .mode) (s .partition)) (fieldWidth (s .mode) (s .partition)) (next (s .mode) (s .partition)) (valueIn s) small 60)
 
   -- what was laid at a place is read there
-  laid : (k : ℕ) → k < 60 → field (blockOf s) (placeOf (s .mode) (s .partition) k) (widthOf (s .mode) (s .partition) k) ≡ valueIn s k
+  laid : (k : ℕ) → k < 60 → field (blockOf s) (placeOf (s .mode) (s .partition) k) (fieldWidth (s .mode) (s .partition) k) ≡ valueIn s k
   unfolding blockOf
-  laid k l = stream-at (placeOf (s .mode) (s .partition)) (widthOf (s .mode) (s .partition)) (next (s .mode) (s .partition)) (valueIn s) small 60 k l
+  laid k l = stream-at (placeOf (s .mode) (s .partition)) (fieldWidth (s .mode) (s .partition)) (next (s .mode) (s .partition)) (valueIn s) small 60 k l
 
   mark : field (blockOf s) 0 (s .mode + 1) ≡ 2 ^ s .mode
-  unfolding valueIn placeOf widthOf
+  unfolding valueIn placeOf fieldWidth
   mark = laid 0 (omega arith)
 
   pub mode-back : modeAt (blockOf s) ≡ s .mode
   mode-back = mode-is (blockOf s) (s .mode) (f .mode) mark
 
-  pub partition-back : partitionAt (blockOf s) ≡ s .partition
-  unfolding partitionAt
+  pub partition-back : partitionFieldAt (blockOf s) ≡ s .partition
+  unfolding partitionFieldAt
   partition-back =
       ap (λ (n : ℕ). field (blockOf s) (n + 1) (partitionBits n)) mode-back
       ∙ ap₂ (field (blockOf s)) (sym (partition-place (s .mode) (s .partition))) (sym (partition-width (s .mode) (s .partition)))
@@ -117,13 +117,13 @@ module _ (s : Bc7Block) (z : Sized s) (f : Fitting s) where
   pub fields-back : (k : ℕ) → fieldAt (blockOf s) k ≡ valueIn s k
   unfolding fieldAt
   fields-back k =
-      ap₂ (λ (n q : ℕ). field (blockOf s) (placeOf n q k) (widthOf n q k)) mode-back partition-back
+      ap₂ (λ (n q : ℕ). field (blockOf s) (placeOf n q k) (fieldWidth n q k)) mode-back partition-back
       ∙ elim (decLt k 60) [
         | yes l ↦ laid k l
         | no l ↦
             let far : 128 ≤ placeOf (s .mode) (s .partition) k =
             subst (λ (n : ℕ). n ≤ placeOf (s .mode) (s .partition) k) end
-            (pos-mono (placeOf (s .mode) (s .partition)) (widthOf (s .mode) (s .partition)) (next (s .mode) (s .partition)) k 60 (omega arith)) in
+            (pos-mono (placeOf (s .mode) (s .partition)) (fieldWidth (s .mode) (s .partition)) (next (s .mode) (s .partition)) k 60 (omega arith)) in
             field-past (blockOf s) _ _ (lt-of-lt-of-le fits-block (pow-mono far)) ∙ sym (value-past s z k (omega arith))
       ]
 
@@ -143,16 +143,16 @@ module _ (s : Bc7Block) (z : Sized s) (f : Fitting s) where
 
 -- ---- reading
 
-pub width-holds : (B k : ℕ) → fieldAt B k < 2 ^ widthOf (modeAt B) (partitionAt B) k
+pub width-holds : (B k : ℕ) → fieldAt B k < 2 ^ fieldWidth (modeAt B) (partitionFieldAt B) k
 unfolding fieldAt
-width-holds B k = field-lt B (placeOf (modeAt B) (partitionAt B) k) (widthOf (modeAt B) (partitionAt B) k)
+width-holds B k = field-lt B (placeOf (modeAt B) (partitionFieldAt B) k) (fieldWidth (modeAt B) (partitionFieldAt B) k)
 
 -- a block is the stream of its fields
-refielded : (B : ℕ) → stream (placeOf (modeAt B) (partitionAt B)) (fieldAt B) 60 ≡ B % 2 ^ placeOf (modeAt B) (partitionAt B) 60
+refielded : (B : ℕ) → stream (placeOf (modeAt B) (partitionFieldAt B)) (fieldAt B) 60 ≡ B % 2 ^ placeOf (modeAt B) (partitionFieldAt B) 60
 unfolding fieldAt
 refielded B =
-    restream (placeOf (modeAt B) (partitionAt B)) (widthOf (modeAt B) (partitionAt B)) (next (modeAt B) (partitionAt B))
-    (mark-place (modeAt B) (partitionAt B)) B 60
+    restream (placeOf (modeAt B) (partitionFieldAt B)) (fieldWidth (modeAt B) (partitionFieldAt B)) (next (modeAt B) (partitionFieldAt B))
+    (mark-place (modeAt B) (partitionFieldAt B)) B 60
 
 module _ (B : ℕ) (sound : faultOf B ≡ 0) where
   pub sound-bit : isReserved B ≡ false
@@ -177,25 +177,25 @@ module _ (B : ℕ) (sound : faultOf B ≡ 0) where
 
   read-mark-at : fieldAt B 0 ≡ 2 ^ modeAt B
   unfolding fieldAt
-  read-mark-at = ap₂ (field B) (mark-place (modeAt B) (partitionAt B)) (mark-width (modeAt B) (partitionAt B)) ∙ read-mark
+  read-mark-at = ap₂ (field B) (mark-place (modeAt B) (partitionFieldAt B)) (mark-width (modeAt B) (partitionFieldAt B)) ∙ read-mark
 
   -- the partition is field 1
-  pub read-partition : fieldAt B 1 ≡ partitionAt B
-  unfolding fieldAt partitionAt
-  read-partition = ap₂ (field B) (partition-place (modeAt B) (partitionAt B)) (partition-width (modeAt B) (partitionAt B))
+  pub read-partition : fieldAt B 1 ≡ partitionFieldAt B
+  unfolding fieldAt partitionFieldAt
+  read-partition = ap₂ (field B) (partition-place (modeAt B) (partitionFieldAt B)) (partition-width (modeAt B) (partitionFieldAt B))
 
-  pub partition-lt : partitionAt B < 2 ^ partitionBits (modeAt B)
-  unfolding partitionAt
+  pub partition-lt : partitionFieldAt B < 2 ^ partitionBits (modeAt B)
+  unfolding partitionFieldAt
   partition-lt = field-lt B (modeAt B + 1) (partitionBits (modeAt B))
 
-  pub read-end : placeOf (modeAt B) (partitionAt B) 60 ≡ 128
-  read-end = filled-block (modeAt B) (partitionAt B) read-mode-lt partition-lt
+  pub read-end : placeOf (modeAt B) (partitionFieldAt B) 60 ≡ 128
+  read-end = filled-block (modeAt B) (partitionFieldAt B) read-mode-lt partition-lt
 
   pub read-mode : readBlock B .mode ≡ modeAt B
   unfolding readBlock bc7Block
   read-mode = refl
 
-  pub read-part : readBlock B .partition ≡ partitionAt B
+  pub read-part : readBlock B .partition ≡ partitionFieldAt B
   unfolding readBlock bc7Block
   read-part = read-partition
 
@@ -226,7 +226,7 @@ module _ (B : ℕ) (sound : faultOf B ≡ 0) where
   unfolding blockOf
   rewritten h =
       ap₂ (λ (n q : ℕ). stream (placeOf n q) (valueIn (readBlock B)) 60) read-mode read-part
-      ∙ stream-ext (placeOf (modeAt B) (partitionAt B)) (valueIn (readBlock B)) (fieldAt B) 60 read-at
+      ∙ stream-ext (placeOf (modeAt B) (partitionFieldAt B)) (valueIn (readBlock B)) (fieldAt B) 60 read-at
       ∙ refielded B ∙ ap (λ (n : ℕ). B % 2 ^ n) read-end ∙ mod-eq-of-lt h
 
 pub demand-3 : Demand3

@@ -10,14 +10,14 @@ use Rattle.laws.specs.Choice.{all, both}
 use Rattle.laws.specs.Reasons.{firstOf, reasonAt}
 use Rattle.laws.proofs.Computed.{each}
 use Rattle.laws.proofs.Reasons.{None, numbered, none-first, first-none}
-use Rattle.bc7_layout.specs.Layout.{widthOf}
+use Rattle.bc7_layout.specs.Layout.{fieldWidth}
 use Rattle.bc7_block.specs.declared.Bc7Block.{Bc7Block}
 use Rattle.bc7_block.specs.Fields.{valueIn}
 use Rattle.bc7_block.specs.Refusals.{unknownMode, fitsAt, someMisfit, refusals, refusalOf, Acceptable}
 
 pub record Fitting (s : Bc7Block) : Type 0 where
   pub mode : s .mode < 8
-  pub fields : (k : ℕ) → k < 60 → valueIn s k < 2 ^ widthOf (s .mode) (s .partition) k
+  pub fields : (k : ℕ) → k < 60 → valueIn s k < 2 ^ fieldWidth (s .mode) (s .partition) k
 
 -- a test that holds at each number below n
 pub all-of : (f : ℕ → Bool) (n : ℕ) → ((k : ℕ) → k < n → T (f k)) → all f n ≡ true

@@ -8,7 +8,7 @@ use borrow.Author.Tests.{eqb-true, eqb-false}
 use Rattle.laws.specs.Choice.{pick}
 use Rattle.bits.specs.Field.{field}
 use Rattle.bits.proofs.Fields.{field-lt}
-use Rattle.bc7_layout.specs.Layout.{widthOf, lowestOne, firstByte, modeAt, isReserved, fieldAt}
+use Rattle.bc7_layout.specs.Layout.{fieldWidth, lowestOne, firstByte, modeAt, isReserved, fieldAt}
 use Rattle.bc7_layout.proofs.Tables.{mode-lt}
 use Rattle.bc7_block.specs.Reading.{faultOf}
 use Rattle.bc7_block.proofs.Demand.{width-holds, read-partition}
@@ -38,5 +38,5 @@ module _ (B : ℕ) where
   unfolding faultOf
   sound h = ap (λ (b : Bool). pick b 71 0) (known-mode (λ e. omega arith) .0)
 
-  pub fits : modeAt B < 8 → (k : ℕ) → k < 60 → fieldAt B k < 2 ^ widthOf (modeAt B) (fieldAt B 1) k
+  pub fits : modeAt B < 8 → (k : ℕ) → k < 60 → fieldAt B k < 2 ^ fieldWidth (modeAt B) (fieldAt B 1) k
   fits h k l = rw (read-partition B (sound h)) (width-holds B k)

@@ -65,9 +65,9 @@ module _ (m : ℕ) (v : ℕ → ℕ) where
 
   -- a channel of an end as a byte: "If a block has non-zero alpha bits, the alpha data follows the color data with the same organization. If not,
   -- alpha is overridden to 1.0."
-  unfoldable pub endOf : ℕ → ℕ → ℕ → ℕ
+  unfoldable pub endChannel : ℕ → ℕ → ℕ → ℕ
   unfolding widenedEnd colourBits alphaBits
-  endOf j e c = pick (eqb c 3) (pick (eqb (alphaBits m) 0) 255 (widenedEnd (alphaBits m) j e c)) (widenedEnd (colourBits m) j e c)
+  endChannel j e c = pick (eqb c 3) (pick (eqb (alphaBits m) 0) 255 (widenedEnd (alphaBits m) j e c)) (widenedEnd (colourBits m) j e c)
 
   -- the factors of texel i by its primary and by its secondary index
   unfoldable pub primaryFactor : ℕ → ℕ
@@ -93,10 +93,10 @@ module _ (m : ℕ) (v : ℕ → ℕ) where
 
   -- channel c of texel i before rotation
   unfoldable pub mixedAt : ℕ → ℕ → ℕ
-  unfolding subsets subsetOf endOf colourFactor alphaFactor mixed
+  unfolding subsets subsetOf endChannel colourFactor alphaFactor mixed
   mixedAt i c =
       let j = subsetOf (subsets m) (v 1) i in
-      mixed (pick (eqb c 3) (alphaFactor i) (colourFactor i)) (endOf j 0 c) (endOf j 1 c)
+      mixed (pick (eqb c 3) (alphaFactor i) (colourFactor i)) (endChannel j 0 c) (endChannel j 1 c)
 
   -- "If rotation bits are present, this color is remapped according to Table 13.2."
   unfoldable pub texelOf : ℕ → ℕ → ℕ

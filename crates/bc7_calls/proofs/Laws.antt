@@ -26,7 +26,7 @@ use Rattle.bc7_block.specs.Writing.{blockOf}
 use Rattle.bc7_block.specs.Picture.{blockTexel}
 use Rattle.bc7_block.proofs.Views.{made-same}
 use Rattle.bc7_block.proofs.Known.{reserved-mode, known-mode, sound}
-use Rattle.bc7_core.specs.Bytes.{texelBytes, blockBytes}
+use Rattle.bc7_core.specs.Bytes.{texelBytes, shownBytes}
 use Rattle.bc7_calls.specs.declared.Reading.{Reading}
 use Rattle.bc7_calls.specs.declared.Writing.{Writing}
 use Rattle.bc7_calls.specs.Calls.{decodeRefusal, decodeAnswer, decodeTold, decodeOut, nothing, readingIn, readingOf, readTold, refusedWith, writingOf}
@@ -106,7 +106,7 @@ module _ (s old : List ℕ) (n : ℕ) (e : n ≡ decodeRefusal (length s) (lengt
 
   pub refused-out : (n ≡ 0 → ⊥) → old ≡ decodeOut s old
   unfolding decodeOut
-  refused-out h = ap (λ (b : Bool). pick b (blockBytes (numberOf s)) old) (sym (ne-eqb (decodeRefusal (length s) (length old)) 0 (λ q. h (e ∙ q))))
+  refused-out h = ap (λ (b : Bool). pick b (shownBytes (numberOf s)) old) (sym (ne-eqb (decodeRefusal (length s) (length old)) 0 (λ q. h (e ∙ q))))
 
   module _ (z : n ≡ 0) where
     pub sizes : (length s ≡ 16) × (length old ≡ 64)
@@ -125,9 +125,9 @@ module _ (s old : List ℕ) (n : ℕ) (e : n ≡ decodeRefusal (length s) (lengt
           ap answerFor (ef ∙ ap faultOf number)
           ∙ ap (λ (t : Bool). pick t (answerFor (faultOf (numberOf s))) (Refused (decodeRefusal (length s) (length old)))) (sym none)
 
-      pub shown-out : blockBytes B ≡ decodeOut s old
+      pub shown-out : shownBytes B ≡ decodeOut s old
       unfolding decodeOut
-      shown-out = ap blockBytes number ∙ ap (λ (t : Bool). pick t (blockBytes (numberOf s)) old) (sym none)
+      shown-out = ap shownBytes number ∙ ap (λ (t : Bool). pick t (shownBytes (numberOf s)) old) (sym none)
 
 -- the number of the answer
 number-of : (n : ℕ) → numberTold (answerFor n) ≡ n
@@ -174,8 +174,8 @@ own : (from : List ℕ) → Filled (λ k. getD from k 0) 0 from 64
 unfolding Filled
 own from k h = refl
 
-pub texels-length : (B : ℕ) (l : List ℕ) → l ≡ blockBytes B → length l ≡ 64
-unfolding blockBytes texelBytes
+pub texels-length : (B : ℕ) (l : List ℕ) → l ≡ shownBytes B → length l ≡ 64
+unfolding shownBytes texelBytes
 texels-length B l e = ap length e ∙ length-tab (λ n. blockTexel B (n / 4) (n % 4)) 64
 
 pub copied : (from : List ℕ) {out : List ℕ} {n : ℕ} → n ≡ 64 → Filling (λ k. getD from k 0) 0 64 out n → length from ≡ 64 → out ≡ from

@@ -16,7 +16,7 @@ use Rattle.bc7_block.specs.declared.Bc7Block.{Bc7Block}
 use Rattle.bc7_block.specs.Refusals.{refusalOf}
 use Rattle.bc7_block.specs.Reading.{faultOf, readBlock, zeroBlock}
 use Rattle.bc7_block.specs.Writing.{blockOf}
-use Rattle.bc7_core.specs.Bytes.{blockBytes}
+use Rattle.bc7_core.specs.Bytes.{shownBytes}
 use Rattle.bc7_calls.specs.declared.Reading.{Reading}
 use Rattle.bc7_calls.specs.declared.Writing.{Writing}
 
@@ -26,7 +26,7 @@ use Rattle.bc7_calls.specs.declared.Writing.{Writing}
 unfoldable pub decodeRefusal : ℕ → ℕ → ℕ
 decodeRefusal bytes places = firstOf (when (not (eqb bytes 16)) 4 ∷ when (not (eqb places 64)) 5 ∷ [])
 
--- "A first byte of 0 gives 0, 0, 0, 0 for all sixteen texels, .. and is told as fault 71." (faultOf, blockBytes)
+-- "A first byte of 0 gives 0, 0, 0, 0 for all sixteen texels, .. and is told as fault 71." (faultOf, shownBytes)
 unfoldable pub decodeAnswer : List ℕ → ℕ → Answer
 unfolding decodeRefusal answerFor faultOf
 decodeAnswer s places =
@@ -39,8 +39,8 @@ decodeTold s places = pick (eqb (decodeRefusal (length s) places) 0) (faultOf (n
 
 -- the result buffer after the call: "nothing is written" on a refusal
 unfoldable pub decodeOut : List ℕ → List ℕ → List ℕ
-unfolding decodeRefusal blockBytes
-decodeOut s old = pick (eqb (decodeRefusal (length s) (length old)) 0) (blockBytes (numberOf s)) old
+unfolding decodeRefusal shownBytes
+decodeOut s old = pick (eqb (decodeRefusal (length s) (length old)) 0) (shownBytes (numberOf s)) old
 
 -- ---- the reader of sheets
 

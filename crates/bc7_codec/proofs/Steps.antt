@@ -14,13 +14,13 @@ use borrow.Author.Tests.{ne-eqb, eq-eqb}
 use Rattle.laws.specs.Choice.{pick}
 use Rattle.bits.specs.Field.{field, stream}
 use Rattle.bits.proofs.Fields.{field-lt, pos-mono, stream-lt}
-use Rattle.bc7_layout.specs.Layout.{widthOf, placeOf, lowestOne, firstByte, modeAt}
+use Rattle.bc7_layout.specs.Layout.{fieldWidth, placeOf, lowestOne, firstByte, modeAt}
 use Rattle.bc7_layout.proofs.Tables.{filled-block, width-most}
 use Rattle.bc7_codec.specs.inner.Pieces.{FieldsFit}
 
 -- ---- places
 
-pub next-place : (m p k w at : ℕ) → at ≡ placeOf m p k → w ≡ widthOf m p k → w + at ≡ placeOf m p (k + 1)
+pub next-place : (m p k w at : ℕ) → at ≡ placeOf m p k → w ≡ fieldWidth m p k → w + at ≡ placeOf m p (k + 1)
 unfolding placeOf
 next-place m p k w at e f = rw (add-one k, e, f)
 
@@ -36,7 +36,7 @@ place-bound m p (suc k) h = omega (arith, place-bound m p k h, width-most m p k 
 
 -- ---- piling
 
-next : (m p k : ℕ) → placeOf m p (suc k) ≡ widthOf m p k + placeOf m p k
+next : (m p k : ℕ) → placeOf m p (suc k) ≡ fieldWidth m p k + placeOf m p k
 unfolding placeOf
 next m p k = refl
 
@@ -47,11 +47,11 @@ below-kept B p h = rw (div-one B) (mod-eq-of-lt h)
 
 module _ (f : List ℕ) (m p : ℕ) (h : FieldsFit f m p) where
   below : (k : ℕ) → stream (placeOf m p) (λ i. getD f i 0) k < 2 ^ placeOf m p k
-  below k = stream-lt (placeOf m p) (widthOf m p) (next m p) (λ i. getD f i 0) (h .fields) k
+  below k = stream-lt (placeOf m p) (fieldWidth m p) (next m p) (λ i. getD f i 0) (h .fields) k
 
   room : (k : ℕ) → k ≤ 60 → placeOf m p k ≤ 128
   room k l =
-      subst (λ (n : ℕ). placeOf m p k ≤ n) (filled-block m p (h .mode) (h .partition)) (pos-mono (placeOf m p) (widthOf m p) (next m p) 60 k l)
+      subst (λ (n : ℕ). placeOf m p k ≤ n) (filled-block m p (h .mode) (h .partition)) (pos-mono (placeOf m p) (fieldWidth m p) (next m p) 60 k l)
 
   stream-next : (k : ℕ) → stream (placeOf m p) (λ i. getD f i 0) (k + 1)
       ≡ getD f k 0 * 2 ^ placeOf m p k + stream (placeOf m p) (λ i. getD f i 0) k

@@ -16,7 +16,7 @@ use Rattle.laws.proofs.Filling.{length-tab, getD-tab, tab-ext}
 use Rattle.bits.specs.Field.{field, stream}
 use Rattle.bits.proofs.Fields.{stream-ext}
 use Rattle.bc7_layout.specs.Modes.{partitionBits}
-use Rattle.bc7_layout.specs.Layout.{widthOf, placeOf, modeAt, partitionAt, fieldAt}
+use Rattle.bc7_layout.specs.Layout.{fieldWidth, placeOf, modeAt, partitionFieldAt, fieldAt}
 use Rattle.bc7_block.specs.declared.Bc7Block.{Bc7Block}
 use Rattle.bc7_block.specs.Fields.{valueIn}
 use Rattle.bc7_block.specs.Refusals.{unknownMode, fitsAt, someMisfit, refusals, refusalOf}
@@ -27,12 +27,12 @@ use Rattle.bc7_codec.specs.inner.Pieces.{FieldsFit}
 
 -- the fields of a block in its own mode and partition
 pub fields-read : (B m p : ℕ) → m ≡ modeAt B → p ≡ field B (m + 1) (partitionBits m)
-    → tab (λ k. field B (placeOf m p k) (widthOf m p k)) 60 ≡ tab (fieldAt B) 60
-unfolding fieldAt partitionAt
+    → tab (λ k. field B (placeOf m p k) (fieldWidth m p k)) 60 ≡ tab (fieldAt B) 60
+unfolding fieldAt partitionFieldAt
 fields-read B m p em ep =
-    let e : p ≡ partitionAt B = ep ∙ ap (λ (n : ℕ). field B (n + 1) (partitionBits n)) em in
-    tab-ext (λ k. field B (placeOf m p k) (widthOf m p k)) (fieldAt B) 0 60
-    (λ k l. ap₂ (λ (n q : ℕ). field B (placeOf n q k) (widthOf n q k)) em e)
+    let e : p ≡ partitionFieldAt B = ep ∙ ap (λ (n : ℕ). field B (n + 1) (partitionBits n)) em in
+    tab-ext (λ k. field B (placeOf m p k) (fieldWidth m p k)) (fieldAt B) 0 60
+    (λ k l. ap₂ (λ (n q : ℕ). field B (placeOf n q k) (fieldWidth n q k)) em e)
 
 all-same : (f g : ℕ → Bool) (n : ℕ) → ((k : ℕ) → k < n → f k ≡ g k) → all f n ≡ all g n
 all-same f g zero h = refl
@@ -45,19 +45,19 @@ module _ (s : Bc7Block) (f : List ℕ) (e : f ≡ tab (valueIn s) 60) where
   field-past : (k : ℕ) → 60 ≤ k → getD f k 0 ≡ 0
   field-past k l = List·getD-eq-default f 0 {n = k} (subst (λ (n : ℕ). n ≤ k) (sym (ap length e ∙ length-tab (valueIn s) 60)) l)
 
-  pub all-fields : all (λ k. ltb (getD f k 0) (2 ^ widthOf (s .mode) (s .partition) k)) 60 ≡ all (fitsAt s) 60
+  pub all-fields : all (λ k. ltb (getD f k 0) (2 ^ fieldWidth (s .mode) (s .partition) k)) 60 ≡ all (fitsAt s) 60
   unfolding fitsAt
-  all-fields = all-same (λ k. ltb (getD f k 0) (2 ^ widthOf (s .mode) (s .partition) k)) (fitsAt s) 60
-      (λ k l. ap (λ (x : ℕ). ltb x (2 ^ widthOf (s .mode) (s .partition) k)) (field-here k l))
+  all-fields = all-same (λ k. ltb (getD f k 0) (2 ^ fieldWidth (s .mode) (s .partition) k)) (fitsAt s) 60
+      (λ k l. ap (λ (x : ℕ). ltb x (2 ^ fieldWidth (s .mode) (s .partition) k)) (field-here k l))
 
   pub fields-fit : refusalOf s ≡ 0 → FieldsFit f (s .mode) (s .partition)
-  unfolding valueIn widthOf
+  unfolding valueIn fieldWidth
   fields-fit a = record {
     mode = fitting s a .mode;
     partition = fitting s a .fields 1 (omega arith);
     fields = λ k. elim (decLt k 60) [
       | yes l ↦ rw (field-here k l) (fitting s a .fields k l)
-      | no l ↦ rw (field-past k (omega arith)) (pow-pos (widthOf (s .mode) (s .partition) k))
+      | no l ↦ rw (field-past k (omega arith)) (pow-pos (fieldWidth (s .mode) (s .partition) k))
     ];
   }
 

@@ -12,7 +12,7 @@ ghost use Rattle.laws.specs.Table.{tab};
 ghost use Rattle.bits.specs.Field.{field, stream};
 ghost use Rattle.bits.specs.Block.{blockNumber};
 ghost use Rattle.bc7_layout.specs.Modes.{subsets};
-ghost use Rattle.bc7_layout.specs.Layout.{widthOf, placeOf, modeAt, fieldAt};
+ghost use Rattle.bc7_layout.specs.Layout.{fieldWidth, placeOf, modeAt, fieldAt};
 ghost use Rattle.bc7_layout.specs.inner.Plan.{planOf};
 ghost use Rattle.bc7_block.specs.Fields.{valueIn};
 ghost use Rattle.bc7_block.specs.Refusals.{refusalOf};
@@ -32,7 +32,7 @@ fn plan_for(m: u8, p: u8) -> u64
 // All fields of a block in mode m and partition p.
 fn fields_in(b: PhysicalBlock, m: u8, p: u8, plan: u64) -> [u8; 60]
     requires { ⌜ (m < 8) × (plan ≡ planOf (subsets m) p) ⌝ }
-    ensures { λ r. ⌜ r ≡ tab (λ k. field (blockNumber b) (placeOf m p k) (widthOf m p k)) 60 ⌝ }
+    ensures { λ r. ⌜ r ≡ tab (λ k. field (blockNumber b) (placeOf m p k) (fieldWidth m p k)) 60 ⌝ }
 {
     let mut f = [0u8; 60];
     let mut at: u32 = 0;
@@ -197,7 +197,7 @@ fn fits_width(x: u8, w: u32) -> bool
 // Whether each field fits its bits; one without bits has to be 0.
 fn all_fit(f: [u8; 60], m: u8, p: u8, plan: u64) -> bool
     requires { ⌜ (m < 8) × (plan ≡ planOf (subsets m) p) ⌝ }
-    ensures { λ r. ⌜ r ≡ all (λ k. ltb (getD f k 0) (2 ^ widthOf m p k)) 60 ⌝ }
+    ensures { λ r. ⌜ r ≡ all (λ k. ltb (getD f k 0) (2 ^ fieldWidth m p k)) 60 ⌝ }
 {
     let mut ok = true;
     let mut k: usize = 0;

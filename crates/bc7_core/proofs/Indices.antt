@@ -15,7 +15,7 @@ use Rattle.bits.proofs.Fields.{field-low, field-high, field-none}
 use Rattle.bc7_layout.specs.declared.Mode.{Mode}
 use Rattle.bc7_layout.specs.Modes.{modeRow, subsets, partitionBits, selectionBits, indexBits, secondaryBits}
 use Rattle.bc7_layout.specs.Partitions.{isAnchor, anchorOf}
-use Rattle.bc7_layout.specs.Layout.{primaryWidth, secondaryWidth, widthOf, placeOf, modeAt, partitionAt, fieldAt}
+use Rattle.bc7_layout.specs.Layout.{primaryWidth, secondaryWidth, fieldWidth, placeOf, modeAt, partitionFieldAt, fieldAt}
 use Rattle.bc7_layout.specs.inner.Plan.{planOf}
 use Rattle.bc7_layout.proofs.Rows.{width-primary, width-secondary}
 use Rattle.bc7_layout.proofs.Packing.{plan-anchor}
@@ -126,7 +126,7 @@ alone : (n p i : ℕ) → n ≡ 1 → isAnchor n p i ≡ eqb i 0
 unfolding isAnchor anchorOf
 alone n p i e = rw e (same-either (eqb i 0))
 
-pub set-width : (m p plan k i : ℕ) → m < 8 → SetIn m k → plan ≡ planOf (subsets m) p → i < 16 → setBits m k - plan / 2 ^ (32 + i) % 2 ≡ widthOf m p (k + i)
+pub set-width : (m p plan k i : ℕ) → m < 8 → SetIn m k → plan ≡ planOf (subsets m) p → i < 16 → setBits m k - plan / 2 ^ (32 + i) % 2 ≡ fieldWidth m p (k + i)
 unfolding setBits primaryWidth secondaryWidth
 set-width m p plan k i h primary e l =
     let q : 28 + i - 28 ≡ i = omega arith in
@@ -139,19 +139,19 @@ set-width m p plan k i h (secondary z) e l =
 
 -- ---- one index after the other
 
-module _ (B k plan : ℕ) (h : modeAt B < 8) (s : SetIn (modeAt B) k) (e : plan ≡ planOf (subsets (modeAt B)) (partitionAt B)) where
+module _ (B k plan : ℕ) (h : modeAt B < 8) (s : SetIn (modeAt B) k) (e : plan ≡ planOf (subsets (modeAt B)) (partitionFieldAt B)) where
   abbrev at : ℕ → ℕ
-  at i = placeOf (modeAt B) (partitionAt B) (k + i)
+  at i = placeOf (modeAt B) (partitionFieldAt B) (k + i)
 
   abbrev w : ℕ → ℕ
-  w i = widthOf (modeAt B) (partitionAt B) (k + i)
+  w i = fieldWidth (modeAt B) (partitionFieldAt B) (k + i)
 
   width-four : (i : ℕ) → i < 16 → w i ≤ 4
-  width-four i l = let q = set-width (modeAt B) (partitionAt B) plan k i h s e l in let m = set-most (modeAt B) h k s in omega arith
+  width-four i l = let q = set-width (modeAt B) (partitionFieldAt B) plan k i h s e l in let m = set-most (modeAt B) h k s in omega arith
 
   next-at : (i : ℕ) → at (suc i) ≡ w i + at i
   unfolding placeOf
-  next-at i = ap (placeOf (modeAt B) (partitionAt B)) (add-suc k i)
+  next-at i = ap (placeOf (modeAt B) (partitionFieldAt B)) (add-suc k i)
 
   span : (i : ℕ) → i ≤ 16 → (at 0 ≤ at i) × (at i ≤ at 0 + 4 * i)
   span zero l = (omega arith, omega arith)
@@ -161,12 +161,12 @@ module _ (B k plan : ℕ) (h : modeAt B < 8) (s : SetIn (modeAt B) k) (e : plan 
       let n = next-at i in
       (omega arith, omega arith)
 
-  start : at 0 ≡ placeOf (modeAt B) (partitionAt B) k
-  start = ap (placeOf (modeAt B) (partitionAt B)) (add-zero k)
+  start : at 0 ≡ placeOf (modeAt B) (partitionFieldAt B) k
+  start = ap (placeOf (modeAt B) (partitionFieldAt B)) (add-zero k)
 
   module _ (i : ℕ) (l : i < 16) where
     left : ℕ
-    left = 64 - (at i - placeOf (modeAt B) (partitionAt B) k)
+    left = 64 - (at i - placeOf (modeAt B) (partitionFieldAt B) k)
 
     enough : w i ≤ left
     unfolding left
@@ -187,29 +187,29 @@ module _ (B k plan : ℕ) (h : modeAt B < 8) (s : SetIn (modeAt B) k) (e : plan 
         let n = next-at i in
         let q = enough in
         let t : at (i + 1) ≡ at i + w i = ap at (add-one i) ∙ n ∙ add-comm (w i) (at i) in
-        let d : left - w i ≡ 64 - (at (i + 1) - placeOf (modeAt B) (partitionAt B) k) = omega arith in
+        let d : left - w i ≡ 64 - (at (i + 1) - placeOf (modeAt B) (partitionFieldAt B) k) = omega arith in
         ap (λ (n : ℕ). field B (at i) n / 2 ^ w i) cut ∙ field-high B (at i) (left - w i) (w i) ∙ ap₂ (field B) (sym t) d
 
 -- what is left of a set before its first index
-rest-start : (B k : ℕ) → field B (placeOf (modeAt B) (partitionAt B) k) 64 ≡ restOf B k 0
+rest-start : (B k : ℕ) → field B (placeOf (modeAt B) (partitionFieldAt B) k) 64 ≡ restOf B k 0
 unfolding restOf
 rest-start B k =
-    let p = placeOf (modeAt B) (partitionAt B) k in
+    let p = placeOf (modeAt B) (partitionFieldAt B) k in
     let z : 64 - (p - p) ≡ 64 = omega arith in
-    ap (λ (n : ℕ). field B p n) (sym z) ∙ ap (λ (j : ℕ). field B (placeOf (modeAt B) (partitionAt B) j) (64 - (placeOf (modeAt B) (partitionAt B) j - p))) (sym (add-zero k))
+    ap (λ (n : ℕ). field B p n) (sym z) ∙ ap (λ (j : ℕ). field B (placeOf (modeAt B) (partitionFieldAt B) j) (64 - (placeOf (modeAt B) (partitionFieldAt B) j - p))) (sym (add-zero k))
 
 pub primary-start : (B at r : ℕ) → at ≡ placeOf (modeAt B) 0 28 → r ≡ field B at 64 → r ≡ restOf B 28 0
 primary-start B at r ea er =
-    er ∙ ap (λ (n : ℕ). field B n 64) (ea ∙ sym (place-any (modeAt B) (partitionAt B) 28 (omega arith))) ∙ rest-start B 28
+    er ∙ ap (λ (n : ℕ). field B n 64) (ea ∙ sym (place-any (modeAt B) (partitionFieldAt B) 28 (omega arith))) ∙ rest-start B 28
 
-partition-zero : (B : ℕ) → partitionBits (modeAt B) ≡ 0 → partitionAt B ≡ 0
-unfolding partitionAt
+partition-zero : (B : ℕ) → partitionBits (modeAt B) ≡ 0 → partitionFieldAt B ≡ 0
+unfolding partitionFieldAt
 partition-zero B e = ap (λ (n : ℕ). field B (modeAt B + 1) n) e ∙ field-none B (modeAt B + 1)
 
 pub secondary-start : (B at n r : ℕ) → modeAt B < 8 → 0 < secondaryBits (modeAt B) → at ≡ placeOf (modeAt B) 0 28 → n ≡ indexBits (modeAt B)
     → r ≡ field B (at + 16 * n - 1) 64 → r ≡ restOf B 44 0
 secondary-start B at n r h z ea en er =
-    let p : partitionAt B ≡ 0 = partition-zero B (no-partition (modeAt B) h z) in
+    let p : partitionFieldAt B ≡ 0 = partition-zero B (no-partition (modeAt B) h z) in
     er ∙ ap (λ (x : ℕ). field B x 64) ((λ t. ea t + 16 * en t - 1) ∙ second-place (modeAt B) h z ∙ ap (λ (q : ℕ). placeOf (modeAt B) q 44) (sym p)) ∙ rest-start B 44
 
 -- ---- which set is whose

@@ -15,24 +15,24 @@ use Rattle.laws.specs.Table.{tab, putFour}
 use Rattle.laws.proofs.Filling.{Filled, filled-four, filled-all, length-four, tab-ext}
 use Rattle.bc7_layout.specs.Modes.{subsets, secondaryBits}
 use Rattle.bc7_layout.specs.Partitions.{subsetOf}
-use Rattle.bc7_layout.specs.Layout.{widthOf, modeAt, partitionAt, isReserved, fieldAt}
+use Rattle.bc7_layout.specs.Layout.{fieldWidth, modeAt, partitionFieldAt, isReserved, fieldAt}
 use Rattle.bc7_layout.specs.inner.Plan.{planOf}
 use Rattle.bc7_layout.proofs.Packing.{plan-subset}
 use Rattle.bc7_layout.proofs.Tables.{subset-lt, subsets-most}
 use Rattle.bc7_block.specs.Reading.{faultOf}
-use Rattle.bc7_block.specs.Picture.{mixed, rotated, factorOf, endOf, colourFactor, alphaFactor, mixedAt, texelOf, blockTexel}
+use Rattle.bc7_block.specs.Picture.{mixed, rotated, factorOf, endChannel, colourFactor, alphaFactor, mixedAt, texelOf, blockTexel}
 use Rattle.bc7_block.proofs.Bounds.{factor-most}
 use Rattle.bc7_block.proofs.Demand.{read-partition, partition-lt}
 use Rattle.bc7_block.proofs.Known.{reserved-mode, known-mode, sound}
-use Rattle.bc7_ends.specs.inner.Lanes.{lineOf, Line255, sumOn, laneByte}
+use Rattle.bc7_ends.specs.inner.Lanes.{subsetLine, Line255, sumOn, laneByte}
 use Rattle.bc7_ends.proofs.Places.{end-byte, turned-lt}
 use Rattle.bc7_ends.proofs.Mixing.{mixed-byte, line-most}
 use Rattle.bc7_core.specs.declared.IndexSet.{IndexSet}
-use Rattle.bc7_core.specs.Bytes.{texelBytes, blockBytes}
-use Rattle.bc7_core.specs.inner.Sets.{setBits, colourSet, alphaSet, restOf, setOf, SetIn, behindOf, setFactor, Factors, Shows}
+use Rattle.bc7_core.specs.Bytes.{texelBytes, shownBytes}
+use Rattle.bc7_core.specs.inner.Sets.{setBits, colourSet, alphaSet, restOf, setOf, SetIn, behindOf, setFactor, Factors, SumShows}
 use Rattle.bc7_core.proofs.Indices.{set-width, rest-index, rest-next, set-least, set-most, colour-by-set, alpha-by-set, same-set}
 
-module _ (B plan : ℕ) (h : modeAt B < 8) (ep : plan ≡ planOf (subsets (modeAt B)) (partitionAt B)) (i : ℕ) (l : i < 16) where
+module _ (B plan : ℕ) (h : modeAt B < 8) (ep : plan ≡ planOf (subsets (modeAt B)) (partitionFieldAt B)) (i : ℕ) (l : i < 16) where
   module _ (k : ℕ) (s : SetIn (modeAt B) k) (held : IndexSet) (es : held ≡ setOf B k i) where
     pub bits-least : 2 ≤ held .bits
     unfolding setOf
@@ -47,35 +47,35 @@ module _ (B plan : ℕ) (h : modeAt B < 8) (ep : plan ≡ planOf (subsets (modeA
       unfolding setOf setFactor
       factor-at r er =
           er ∙ (λ t. factorOf (es t .bits) (es t .rest % 2 ^ (es t .bits - esh t)))
-          ∙ ap (λ (w : ℕ). factorOf (setBits (modeAt B) k) (restOf B k i % 2 ^ w)) (set-width (modeAt B) (partitionAt B) plan k i h s ep l)
+          ∙ ap (λ (w : ℕ). factorOf (setBits (modeAt B) k) (restOf B k i % 2 ^ w)) (set-width (modeAt B) (partitionFieldAt B) plan k i h s ep l)
           ∙ ap (factorOf (setBits (modeAt B) k)) (rest-index B k plan h s ep i l)
 
       pub behind-is : behindOf held short ≡ setOf B k (i + 1)
       unfolding behindOf setOf
       behind-is =
           let q : restOf B k i / 2 ^ (setBits (modeAt B) k - plan / 2 ^ (32 + i) % 2) ≡ restOf B k (i + 1) =
-          ap (λ (w : ℕ). restOf B k i / 2 ^ w) (set-width (modeAt B) (partitionAt B) plan k i h s ep l) ∙ rest-next B k plan h s ep i l in
+          ap (λ (w : ℕ). restOf B k i / 2 ^ w) (set-width (modeAt B) (partitionFieldAt B) plan k i h s ep l) ∙ rest-next B k plan h s ep i l in
           (λ t. behindOf (es t) (esh t)) ∙ (λ t. record { first = k; bits = setBits (modeAt B) k; rest = q t })
 
   module _ (j : ℕ) (ej : j ≡ plan / 2 ^ (2 * i) % 4) where
-    subset-is : j ≡ subsetOf (subsets (modeAt B)) (partitionAt B) i
-    subset-is = ej ∙ plan-subset (subsets (modeAt B)) (partitionAt B) plan i ep l
+    subset-is : j ≡ subsetOf (subsets (modeAt B)) (partitionFieldAt B) i
+    subset-is = ej ∙ plan-subset (subsets (modeAt B)) (partitionFieldAt B) plan i ep l
 
     subset-by : j ≡ subsetOf (subsets (modeAt B)) (fieldAt B 1) i
     subset-by = subset-is ∙ ap (λ (p : ℕ). subsetOf (subsets (modeAt B)) p i) (sym (read-partition B (sound B h)))
 
     pub subset-here : j < subsets (modeAt B)
-    subset-here = rw subset-is (subset-lt (modeAt B) (partitionAt B) i h (partition-lt B (sound B h)) l)
+    subset-here = rw subset-is (subset-lt (modeAt B) (partitionFieldAt B) i h (partition-lt B (sound B h)) l)
 
     pub subset-small : j < 3
     subset-small = let a = subset-here in let b = subsets-most (modeAt B) h in omega arith
 
-    module _ (q : List ℕ) (eq : q ≡ lineOf (modeAt B) (fieldAt B) j) where
+    module _ (q : List ℕ) (eq : q ≡ subsetLine (modeAt B) (fieldAt B) j) where
       pub line-small : Line255 q
       line-small = subst Line255 (sym eq) (line-most (modeAt B) (fieldAt B) j 0 0 (λ e c. end-byte B h j e c subset-here) (turned-lt B h))
 
       pub shows : (f g s : ℕ) → f ≡ colourFactor (modeAt B) (fieldAt B) i → g ≡ alphaFactor (modeAt B) (fieldAt B) i → f ≤ 64 → g ≤ 64 → s ≡ sumOn q f g
-          → Shows s (modeAt B) (fieldAt B) i
+          → SumShows s (modeAt B) (fieldAt B) i
       unfolding texelOf mixedAt
       shows f g s ef eg hf hg e c hc =
           let m = modeAt B in
@@ -83,7 +83,7 @@ module _ (B plan : ℕ) (h : modeAt B < 8) (ep : plan ≡ planOf (subsets (modeA
           let k = rotated (v 2) c in
           ap (λ (x : ℕ). laneByte x c) (e ∙ ap (λ (x : List ℕ). sumOn x f g) eq)
           ∙ mixed-byte m v j f g hf hg (λ n d. end-byte B h j n d subset-here) (turned-lt B h) c hc
-          ∙ (λ t. mixed (pick (eqb k 3) (eg t) (ef t)) (endOf m v (subset-by t) 0 k) (endOf m v (subset-by t) 1 k))
+          ∙ (λ t. mixed (pick (eqb k 3) (eg t) (ef t)) (endChannel m v (subset-by t) 0 k) (endChannel m v (subset-by t) 1 k))
 
 -- a set's own first index
 pub first-is : (B k i : ℕ) (held : IndexSet) → held ≡ setOf B k i → held .first ≡ k
@@ -121,7 +121,7 @@ one-set m v h z i = sym (colour-by-set m v i) ∙ ap (λ (k : ℕ). factorOf (se
 -- ---- the buffer
 
 module _ (m : ℕ) (v : ℕ → ℕ) (i s : ℕ) (out : List ℕ) (h : i < 16) (n : length out ≡ 64) where
-  pub put-more : Shows s m v i → Filled (λ k. texelOf m v (k / 4) (k % 4)) 0 out (4 * i)
+  pub put-more : SumShows s m v i → Filled (λ k. texelOf m v (k / 4) (k % 4)) 0 out (4 * i)
       → Filled (λ k. texelOf m v (k / 4) (k % 4)) 0 (putFour out (4 * i) (laneByte s 0) (laneByte s 1) (laneByte s 2) (laneByte s 3)) (4 * (i + 1))
   put-more b w =
       let z : 4 * i + 4 ≡ 4 * (i + 1) = omega arith in
@@ -150,14 +150,14 @@ module _ (B : ℕ) where
   pub no-fault-told : (modeAt B ≡ 8 → ⊥) → 0 ≡ faultOf B
   no-fault-told h = sym (sound B (known-mode B h .1))
 
-  pub bytes-reserved : modeAt B ≡ 8 → tab (λ n. 0) 64 ≡ blockBytes B
-  unfolding blockBytes texelBytes blockTexel
+  pub bytes-reserved : modeAt B ≡ 8 → tab (λ n. 0) 64 ≡ shownBytes B
+  unfolding shownBytes texelBytes blockTexel
   bytes-reserved h =
       tab-ext (λ n. 0) (λ n. blockTexel B (n / 4) (n % 4)) 0 64
       (λ n l. ap (λ (b : Bool). pick b 0 (texelOf (modeAt B) (fieldAt B) (n / 4) (n % 4))) (sym (reserved-mode B h)))
 
-  pub bytes-shown : (modeAt B ≡ 8 → ⊥) → texelBytes (texelOf (modeAt B) (fieldAt B)) ≡ blockBytes B
-  unfolding blockBytes texelBytes blockTexel
+  pub bytes-shown : (modeAt B ≡ 8 → ⊥) → texelBytes (texelOf (modeAt B) (fieldAt B)) ≡ shownBytes B
+  unfolding shownBytes texelBytes blockTexel
   bytes-shown h =
       tab-ext (λ n. texelOf (modeAt B) (fieldAt B) (n / 4) (n % 4)) (λ n. blockTexel B (n / 4) (n % 4)) 0 64
       (λ n l. ap (λ (b : Bool). pick b 0 (texelOf (modeAt B) (fieldAt B) (n / 4) (n % 4))) (sym (known-mode B h .0)))

@@ -11,6 +11,6 @@ unfolding tab
 texelBytes f = tab (λ n. f (n / 4) (n % 4)) 64
 
 -- of the 128 bits of a block
-unfoldable pub blockBytes : ℕ → List ℕ
+unfoldable pub shownBytes : ℕ → List ℕ
 unfolding texelBytes blockTexel
-blockBytes B = texelBytes (blockTexel B)
+shownBytes B = texelBytes (blockTexel B)

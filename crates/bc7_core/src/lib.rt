@@ -16,9 +16,9 @@ ghost use Rattle.bc7_layout.specs.Layout.{modeAt, fieldAt};
 ghost use Rattle.bc7_block.specs.Reading.{faultOf};
 ghost use Rattle.bc7_block.specs.Picture.{factorOf, colourFactor, alphaFactor, texelOf};
 ghost use Rattle.bc7_ends.specs.inner.Frame.{Framed};
-ghost use Rattle.bc7_ends.specs.inner.Lanes.{lineOf, Line255, sumOn, laneByte};
-ghost use Rattle.bc7_core.specs.Bytes.{texelBytes, blockBytes};
-ghost use Rattle.bc7_core.specs.inner.Sets.{colourSet, alphaSet, setOf, SetIn, behindOf, setFactor, Factors, Shows};
+ghost use Rattle.bc7_ends.specs.inner.Lanes.{subsetLine, Line255, sumOn, laneByte};
+ghost use Rattle.bc7_core.specs.Bytes.{texelBytes, shownBytes};
+ghost use Rattle.bc7_core.specs.inner.Sets.{colourSet, alphaSet, setOf, SetIn, behindOf, setFactor, Factors, SumShows};
 
 // A set of indices: the number of its first field, the bits of an index that is no anchor, and the bits that are still to be read.
 struct IndexSet {
@@ -202,10 +202,10 @@ fn put(out: &mut [u8; 64], i: usize, s: u64)
 // The sum of texel i.
 fn sum_at(b: PhysicalBlock, f: Frame, lines: &[[u64; 4]; 3], colour: u64, alpha: u64, i: u32) -> u64
     requires { ⌜ Framed (blockNumber b) f × (i < 16) ⌝ }
-    requires { ⌜ Filled (lineOf (modeAt (blockNumber b)) (fieldAt (blockNumber b))) [] (now lines) (subsets (modeAt (blockNumber b))) ⌝ }
+    requires { ⌜ Filled (subsetLine (modeAt (blockNumber b)) (fieldAt (blockNumber b))) [] (now lines) (subsets (modeAt (blockNumber b))) ⌝ }
     requires { ⌜ (colour ≡ colourFactor (modeAt (blockNumber b)) (fieldAt (blockNumber b)) i) × (colour ≤ 64) ⌝ }
     requires { ⌜ (alpha ≡ alphaFactor (modeAt (blockNumber b)) (fieldAt (blockNumber b)) i) × (alpha ≤ 64) ⌝ }
-    ensures { λ s. ⌜ Shows s (modeAt (blockNumber b)) (fieldAt (blockNumber b)) i ⌝ }
+    ensures { λ s. ⌜ SumShows s (modeAt (blockNumber b)) (fieldAt (blockNumber b)) i ⌝ }
 {
     let q = lines[bc7_layout::subset_in(f.plan, i)];
     sum_on(q, colour, alpha)
@@ -221,7 +221,7 @@ fn paint(
     out: &mut [u8; 64],
 )
     requires { ⌜ Framed (blockNumber b) f × (length (now out) ≡ 64) ⌝ }
-    requires { ⌜ Filled (lineOf (modeAt (blockNumber b)) (fieldAt (blockNumber b))) [] (now lines) (subsets (modeAt (blockNumber b))) ⌝ }
+    requires { ⌜ Filled (subsetLine (modeAt (blockNumber b)) (fieldAt (blockNumber b))) [] (now lines) (subsets (modeAt (blockNumber b))) ⌝ }
     requires { ⌜ Factors (colourFactor (modeAt (blockNumber b)) (fieldAt (blockNumber b))) (now colours) 16 ⌝ }
     requires { ⌜ Factors (alphaFactor (modeAt (blockNumber b)) (fieldAt (blockNumber b))) (now alphas) 16 ⌝ }
     ensures { λ _. ⌜ now (out .exit) ≡ texelBytes (texelOf (modeAt (blockNumber b)) (fieldAt (blockNumber b))) ⌝ }
@@ -252,7 +252,7 @@ fn clear(out: &mut [u8; 64])
 pub fn decode_into(b: PhysicalBlock, out: &mut [u8; 64]) -> u8
     requires { ⌜ length (now out) ≡ 64 ⌝ }
     ensures { λ r. ⌜ r ≡ faultOf (blockNumber b) ⌝ }
-    ensures { λ _. ⌜ now (out .exit) ≡ blockBytes (blockNumber b) ⌝ }
+    ensures { λ _. ⌜ now (out .exit) ≡ shownBytes (blockNumber b) ⌝ }
 {
     let m = bc7_layout::mode_at(b);
     if m == 8 {

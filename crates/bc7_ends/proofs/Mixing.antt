@@ -11,28 +11,28 @@ use lib.Dec.{eqb}
 use lib.ListN.{getD}
 use borrow.Author.Tests.{eqb-true, eqb-false, eq-eqb, ne-eqb}
 use Rattle.laws.specs.Choice.{pick}
-use Rattle.bc7_block.specs.Picture.{mixed, rotated, endOf, mixedAt}
-use Rattle.bc7_ends.specs.inner.Lanes.{lanes, byLane, colourLane, alphaLane, threeOf, lineOf, Line255, sumOn, laneByte}
+use Rattle.bc7_block.specs.Picture.{mixed, rotated, endChannel, mixedAt}
+use Rattle.bc7_ends.specs.inner.Lanes.{fourLanes, byLane, colourLane, alphaLane, threeOf, subsetLine, Line255, sumOn, laneByte}
 
 -- ---- lanes
 
-pub lanes-most : (a b c d : ℕ) → a ≤ 255 → b ≤ 255 → c ≤ 255 → d ≤ 255 → lanes a b c d ≤ 71777214294589695
-unfolding lanes
+pub lanes-most : (a b c d : ℕ) → a ≤ 255 → b ≤ 255 → c ≤ 255 → d ≤ 255 → fourLanes a b c d ≤ 71777214294589695
+unfolding fourLanes
 lanes-most a b c d ha hb hc hd = omega arith
 
-lanes-times : (a b c d g : ℕ) → lanes a b c d * g ≡ lanes (a * g) (b * g) (c * g) (d * g)
-unfolding lanes
+lanes-times : (a b c d g : ℕ) → fourLanes a b c d * g ≡ fourLanes (a * g) (b * g) (c * g) (d * g)
+unfolding fourLanes
 lanes-times a b c d g =
     add-mul (a + b * 65536 + c * 4294967296) (d * 281474976710656) g
     ∙ ap₂ _+_ (add-mul (a + b * 65536) (c * 4294967296) g ∙ ap₂ _+_ (add-mul a (b * 65536) g ∙ ap (λ (n : ℕ). a * g + n) (mul-right-comm b 65536 g)) (mul-right-comm c 4294967296 g))
     (mul-right-comm d 281474976710656 g)
 
-lanes-plus : (a b c d e f g h : ℕ) → lanes a b c d + lanes e f g h ≡ lanes (a + e) (b + f) (c + g) (d + h)
-unfolding lanes
+lanes-plus : (a b c d e f g h : ℕ) → fourLanes a b c d + fourLanes e f g h ≡ fourLanes (a + e) (b + f) (c + g) (d + h)
+unfolding fourLanes
 lanes-plus a b c d e f g h = omega arith
 
-rounded : (p q r s : ℕ) → lanes p q r s + 9007336695791648 ≡ lanes (p + 32) (q + 32) (r + 32) (s + 32)
-unfolding lanes
+rounded : (p q r s : ℕ) → fourLanes p q r s + 9007336695791648 ≡ fourLanes (p + 32) (q + 32) (r + 32) (s + 32)
+unfolding fourLanes
 rounded p q r s = omega arith
 
 -- a channel's products and its rounding
@@ -76,8 +76,8 @@ next-lane p k d h =
     sym (div-div-eq-div-mul (p + k * 65536) 65536 d) ∙ ap (λ (n : ℕ). n / d) e
 
 byte-of : (p q r s : ℕ) → p < 16384 → q < 16384 → r < 16384 → s < 16384 → (c : ℕ) → c < 4
-    → laneByte (lanes p q r s) c ≡ pick (eqb c 0) (p / 64) (pick (eqb c 1) (q / 64) (pick (eqb c 2) (r / 64) (s / 64)))
-unfolding laneByte lanes
+    → laneByte (fourLanes p q r s) c ≡ pick (eqb c 0) (p / 64) (pick (eqb c 1) (q / 64) (pick (eqb c 2) (r / 64) (s / 64)))
+unfolding laneByte fourLanes
 byte-of p q r s hp hq hr hs c hc =
     let e1 : p + q * 65536 + r * 4294967296 + s * 281474976710656 ≡ p + (q + (r + s * 65536) * 65536) * 65536 = omega arith in
     let k = q + (r + s * 65536) * 65536 in
@@ -124,33 +124,33 @@ each-of a b c d ha hb hc hd (suc (suc (suc (suc k)))) = omega arith
 module _ (m : ℕ) (v : ℕ → ℕ) (j f g : ℕ) where
   -- the products of the channel that comes out as channel c
   abbrev channel : ℕ → ℕ
-  channel c = sum (pick (eqb (rotated (v 2) c) 3) g f) (endOf m v j 0 (rotated (v 2) c)) (endOf m v j 1 (rotated (v 2) c))
+  channel c = sum (pick (eqb (rotated (v 2) c) 3) g f) (endChannel m v j 0 (rotated (v 2) c)) (endChannel m v j 1 (rotated (v 2) c))
 
   -- where alpha comes out, alpha
-  alpha-here : (e k : ℕ) → pick (eqb k 3) (endOf m v j e 3) (endOf m v j e k) ≡ endOf m v j e k
+  alpha-here : (e k : ℕ) → pick (eqb k 3) (endChannel m v j e 3) (endChannel m v j e k) ≡ endChannel m v j e k
   alpha-here e k = go (eqb k 3) refl where
-    go : (t : Bool) → eqb k 3 ≡ t → pick t (endOf m v j e 3) (endOf m v j e k) ≡ endOf m v j e k
-    go true q = ap (endOf m v j e) (sym (eqb-true k 3 q))
+    go : (t : Bool) → eqb k 3 ≡ t → pick t (endChannel m v j e 3) (endChannel m v j e k) ≡ endChannel m v j e k
+    go true q = ap (endChannel m v j e) (sym (eqb-true k 3 q))
     go false q = refl
 
   lane-is : (c : ℕ)
-      → lane f g (colourLane (v 2) (endOf m v j 0) c) (colourLane (v 2) (endOf m v j 1) c) (alphaLane (v 2) (endOf m v j 0 3) c) (alphaLane (v 2) (endOf m v j 1 3) c)
+      → lane f g (colourLane (v 2) (endChannel m v j 0) c) (colourLane (v 2) (endChannel m v j 1) c) (alphaLane (v 2) (endChannel m v j 0 3) c) (alphaLane (v 2) (endChannel m v j 1 3) c)
       ≡ channel c
   unfolding colourLane alphaLane
   lane-is c =
       let k = rotated (v 2) c in
-      lane-one (eqb k 3) f g (endOf m v j 0 k) (endOf m v j 1 k) (endOf m v j 0 3) (endOf m v j 1 3)
+      lane-one (eqb k 3) f g (endChannel m v j 0 k) (endChannel m v j 1 k) (endChannel m v j 0 3) (endChannel m v j 1 3)
       ∙ ap₂ (sum (pick (eqb k 3) g f)) (alpha-here 0 k) (alpha-here 1 k)
 
-  line-sum : sumOn (lineOf m v j) f g ≡ byLane channel
-  unfolding sumOn lineOf
+  line-sum : sumOn (subsetLine m v j) f g ≡ byLane channel
+  unfolding sumOn subsetLine
   line-sum =
-      sum-lanes f g (colourLane (v 2) (endOf m v j 0)) (colourLane (v 2) (endOf m v j 1)) (alphaLane (v 2) (endOf m v j 0 3)) (alphaLane (v 2) (endOf m v j 1 3))
-      ∙ (λ t. lanes (lane-is 0 t) (lane-is 1 t) (lane-is 2 t) (lane-is 3 t))
+      sum-lanes f g (colourLane (v 2) (endChannel m v j 0)) (colourLane (v 2) (endChannel m v j 1)) (alphaLane (v 2) (endChannel m v j 0 3)) (alphaLane (v 2) (endChannel m v j 1 3))
+      ∙ (λ t. fourLanes (lane-is 0 t) (lane-is 1 t) (lane-is 2 t) (lane-is 3 t))
 
   -- the bytes of a line's sum are its channels mixed
-  pub mixed-byte : f ≤ 64 → g ≤ 64 → ((e c : ℕ) → e < 2 → c < 4 → endOf m v j e c ≤ 255) → ((c : ℕ) → c < 4 → rotated (v 2) c < 4) → (c : ℕ) → c < 4
-      → laneByte (sumOn (lineOf m v j) f g) c ≡ mixed (pick (eqb (rotated (v 2) c) 3) g f) (endOf m v j 0 (rotated (v 2) c)) (endOf m v j 1 (rotated (v 2) c))
+  pub mixed-byte : f ≤ 64 → g ≤ 64 → ((e c : ℕ) → e < 2 → c < 4 → endChannel m v j e c ≤ 255) → ((c : ℕ) → c < 4 → rotated (v 2) c < 4) → (c : ℕ) → c < 4
+      → laneByte (sumOn (subsetLine m v j) f g) c ≡ mixed (pick (eqb (rotated (v 2) c) 3) g f) (endChannel m v j 0 (rotated (v 2) c)) (endChannel m v j 1 (rotated (v 2) c))
   unfolding mixed sum
   mixed-byte hf hg most turn c hc =
       let small : (d : ℕ) → d < 4 → channel d < 16384 =
@@ -160,13 +160,13 @@ module _ (m : ℕ) (v : ℕ → ℕ) (j f g : ℕ) where
       ∙ by-lane (λ d. channel d / 64) c hc
 
   -- no lane of a line is above 255
-  pub line-most : ((e c : ℕ) → e < 2 → c < 4 → endOf m v j e c ≤ 255) → ((c : ℕ) → c < 4 → rotated (v 2) c < 4) → Line255 (lineOf m v j)
-  unfolding lineOf colourLane alphaLane
+  pub line-most : ((e c : ℕ) → e < 2 → c < 4 → endChannel m v j e c ≤ 255) → ((c : ℕ) → c < 4 → rotated (v 2) c < 4) → Line255 (subsetLine m v j)
+  unfolding subsetLine colourLane alphaLane
   line-most most turn k =
-      let colour : (e c : ℕ) → e < 2 → c < 4 → pick (eqb (rotated (v 2) c) 3) 0 (endOf m v j e (rotated (v 2) c)) ≤ 255 =
-      λ e c h l. pick-le (eqb (rotated (v 2) c) 3) 0 (endOf m v j e (rotated (v 2) c)) 255 (omega arith) (most e _ h (turn c l)) in
-      let alpha : (e c : ℕ) → e < 2 → pick (eqb (rotated (v 2) c) 3) (endOf m v j e 3) 0 ≤ 255 =
-      λ e c h. pick-le (eqb (rotated (v 2) c) 3) (endOf m v j e 3) 0 255 (most e 3 h (omega arith)) (omega arith) in
+      let colour : (e c : ℕ) → e < 2 → c < 4 → pick (eqb (rotated (v 2) c) 3) 0 (endChannel m v j e (rotated (v 2) c)) ≤ 255 =
+      λ e c h l. pick-le (eqb (rotated (v 2) c) 3) 0 (endChannel m v j e (rotated (v 2) c)) 255 (omega arith) (most e _ h (turn c l)) in
+      let alpha : (e c : ℕ) → e < 2 → pick (eqb (rotated (v 2) c) 3) (endChannel m v j e 3) 0 ≤ 255 =
+      λ e c h. pick-le (eqb (rotated (v 2) c) 3) (endChannel m v j e 3) 0 255 (most e 3 h (omega arith)) (omega arith) in
       each-of _ _ _ _
       (lanes-most _ _ _ _ (colour 0 0 (omega arith) (omega arith)) (colour 0 1 (omega arith) (omega arith)) (colour 0 2 (omega arith) (omega arith)) (colour 0 3 (omega arith) (omega arith)))
       (lanes-most _ _ _ _ (colour 1 0 (omega arith) (omega arith)) (colour 1 1 (omega arith) (omega arith)) (colour 1 2 (omega arith) (omega arith)) (colour 1 3 (omega arith) (omega arith)))
@@ -176,36 +176,36 @@ module _ (m : ℕ) (v : ℕ → ℕ) (j f g : ℕ) where
 -- ---- the lanes of a rotation, from three colours and alpha
 
 module _ (r x y z : ℕ) where
-  pub lanes-still : r ≡ 0 → lanes x y z 0 ≡ byLane (colourLane r (threeOf x y z))
+  pub lanes-still : r ≡ 0 → fourLanes x y z 0 ≡ byLane (colourLane r (threeOf x y z))
   unfolding colourLane rotated threeOf
   lanes-still e = rw e
 
-  pub lanes-red : r ≡ 1 → lanes 0 y z x ≡ byLane (colourLane r (threeOf x y z))
+  pub lanes-red : r ≡ 1 → fourLanes 0 y z x ≡ byLane (colourLane r (threeOf x y z))
   unfolding colourLane rotated threeOf
   lanes-red e = rw e
 
-  pub lanes-green : r ≡ 2 → lanes x 0 z y ≡ byLane (colourLane r (threeOf x y z))
+  pub lanes-green : r ≡ 2 → fourLanes x 0 z y ≡ byLane (colourLane r (threeOf x y z))
   unfolding colourLane rotated threeOf
   lanes-green e = rw e
 
-  pub lanes-blue : r ≡ 3 → lanes x y 0 z ≡ byLane (colourLane r (threeOf x y z))
+  pub lanes-blue : r ≡ 3 → fourLanes x y 0 z ≡ byLane (colourLane r (threeOf x y z))
   unfolding colourLane rotated threeOf
   lanes-blue e = rw e
 
 module _ (r a : ℕ) where
-  pub alpha-still : r ≡ 0 → lanes 0 0 0 a ≡ byLane (alphaLane r a)
+  pub alpha-still : r ≡ 0 → fourLanes 0 0 0 a ≡ byLane (alphaLane r a)
   unfolding alphaLane rotated
   alpha-still e = rw e
 
-  pub alpha-red : r ≡ 1 → lanes a 0 0 0 ≡ byLane (alphaLane r a)
+  pub alpha-red : r ≡ 1 → fourLanes a 0 0 0 ≡ byLane (alphaLane r a)
   unfolding alphaLane rotated
   alpha-red e = rw e
 
-  pub alpha-green : r ≡ 2 → lanes 0 a 0 0 ≡ byLane (alphaLane r a)
+  pub alpha-green : r ≡ 2 → fourLanes 0 a 0 0 ≡ byLane (alphaLane r a)
   unfolding alphaLane rotated
   alpha-green e = rw e
 
-  pub alpha-blue : r ≡ 3 → lanes 0 0 a 0 ≡ byLane (alphaLane r a)
+  pub alpha-blue : r ≡ 3 → fourLanes 0 0 a 0 ≡ byLane (alphaLane r a)
   unfolding alphaLane rotated
   alpha-blue e = rw e
 
@@ -227,20 +227,20 @@ unfolding colourLane
 colours-are r x y z g turn ex ey ez =
     let one : (c : ℕ) → c < 4 → colourLane r (threeOf x y z) c ≡ colourLane r g c =
     λ c l. lane-are (eqb (rotated r c) 3) (rotated r c) (threeOf x y z) g refl (turn c l) (three-are x y z g ex ey ez) in
-    λ t. lanes (one 0 (omega arith) t) (one 1 (omega arith) t) (one 2 (omega arith) t) (one 3 (omega arith) t)
+    λ t. fourLanes (one 0 (omega arith) t) (one 1 (omega arith) t) (one 2 (omega arith) t) (one 3 (omega arith) t)
 
 -- the ends of subset j, given one by one; end x is end x % 2 of subset x / 2
-pub line-is : (m : ℕ) (v : ℕ → ℕ) (r j a b c d x y : ℕ) → r ≡ v 2 → a ≡ byLane (colourLane r (endOf m v (2 * j / 2) (2 * j % 2)))
-    → b ≡ byLane (colourLane r (endOf m v ((2 * j + 1) / 2) ((2 * j + 1) % 2))) → x ≡ endOf m v (2 * j / 2) (2 * j % 2) 3 → c ≡ byLane (alphaLane r x)
-    → y ≡ endOf m v ((2 * j + 1) / 2) ((2 * j + 1) % 2) 3 → d ≡ byLane (alphaLane r y) → _≡_ {A = List ℕ} (a ∷ b ∷ c ∷ d ∷ []) (lineOf m v j)
-unfolding lineOf
+pub line-is : (m : ℕ) (v : ℕ → ℕ) (r j a b c d x y : ℕ) → r ≡ v 2 → a ≡ byLane (colourLane r (endChannel m v (2 * j / 2) (2 * j % 2)))
+    → b ≡ byLane (colourLane r (endChannel m v ((2 * j + 1) / 2) ((2 * j + 1) % 2))) → x ≡ endChannel m v (2 * j / 2) (2 * j % 2) 3 → c ≡ byLane (alphaLane r x)
+    → y ≡ endChannel m v ((2 * j + 1) / 2) ((2 * j + 1) % 2) 3 → d ≡ byLane (alphaLane r y) → _≡_ {A = List ℕ} (a ∷ b ∷ c ∷ d ∷ []) (subsetLine m v j)
+unfolding subsetLine
 line-is m v r j a b c d x y er ea eb ex ec ey ed =
     let j0 : 2 * j / 2 ≡ j = omega arith in
     let e0 : 2 * j % 2 ≡ 0 = omega arith in
     let j1 : (2 * j + 1) / 2 ≡ j = omega arith in
     let e1 : (2 * j + 1) % 2 ≡ 1 = omega arith in
-    let qa : a ≡ byLane (colourLane (v 2) (endOf m v j 0)) = ea ∙ (λ t. byLane (colourLane (er t) (endOf m v (j0 t) (e0 t)))) in
-    let qb : b ≡ byLane (colourLane (v 2) (endOf m v j 1)) = eb ∙ (λ t. byLane (colourLane (er t) (endOf m v (j1 t) (e1 t)))) in
-    let qc : c ≡ byLane (alphaLane (v 2) (endOf m v j 0 3)) = ec ∙ (λ t. byLane (alphaLane (er t) ((ex ∙ (λ s. endOf m v (j0 s) (e0 s) 3)) t))) in
-    let qd : d ≡ byLane (alphaLane (v 2) (endOf m v j 1 3)) = ed ∙ (λ t. byLane (alphaLane (er t) ((ey ∙ (λ s. endOf m v (j1 s) (e1 s) 3)) t))) in
+    let qa : a ≡ byLane (colourLane (v 2) (endChannel m v j 0)) = ea ∙ (λ t. byLane (colourLane (er t) (endChannel m v (j0 t) (e0 t)))) in
+    let qb : b ≡ byLane (colourLane (v 2) (endChannel m v j 1)) = eb ∙ (λ t. byLane (colourLane (er t) (endChannel m v (j1 t) (e1 t)))) in
+    let qc : c ≡ byLane (alphaLane (v 2) (endChannel m v j 0 3)) = ec ∙ (λ t. byLane (alphaLane (er t) ((ex ∙ (λ s. endChannel m v (j0 s) (e0 s) 3)) t))) in
+    let qd : d ≡ byLane (alphaLane (v 2) (endChannel m v j 1 3)) = ed ∙ (λ t. byLane (alphaLane (er t) ((ey ∙ (λ s. endChannel m v (j1 s) (e1 s) 3)) t))) in
     λ t. qa t ∷ qb t ∷ qc t ∷ qd t ∷ []

@@ -14,11 +14,11 @@ use Rattle.bits.specs.Field.{field}
 use Rattle.bits.proofs.Fields.{field-lt}
 use Rattle.bc7_layout.specs.declared.Mode.{Mode}
 use Rattle.bc7_layout.specs.Modes.{modeRow, subsets, partitionBits, rotationBits, selectionBits, colourBits, alphaBits, endpointPBits, sharedPBits, pBits}
-use Rattle.bc7_layout.specs.Layout.{endpointWidth, pBitWidth, widthOf, placeOf, modeAt, partitionAt, fieldAt}
+use Rattle.bc7_layout.specs.Layout.{endpointWidth, pBitWidth, fieldWidth, placeOf, modeAt, partitionFieldAt, fieldAt}
 use Rattle.bc7_layout.specs.inner.Plan.{planOf}
 use Rattle.bc7_layout.proofs.Rows.{width-header, width-endpoint, width-pbit}
 use Rattle.bc7_layout.proofs.Tables.{subsets-most, colour-most, alpha-most, partition-most, rotation-most, selection-most}
-use Rattle.bc7_block.specs.Picture.{storedEnd, pBitOf, hasPBit, widenedEnd, endOf, rotated}
+use Rattle.bc7_block.specs.Picture.{storedEnd, pBitOf, hasPBit, widenedEnd, endChannel, rotated}
 use Rattle.bc7_block.proofs.Bounds.{end-most, rotation-here, rotated-lt}
 use Rattle.bc7_block.proofs.Known.{fits}
 use Rattle.bc7_ends.specs.inner.Frame.{channelBits}
@@ -84,7 +84,7 @@ module _ (m : ℕ) (w : Mode) (e : w ≡ modeRow m) (h : m < 8) where
 
 -- ---- up to the indices no place depends on the partition
 
-width-any : (m p k : ℕ) → k < 28 → widthOf m p k ≡ widthOf m 0 k
+width-any : (m p k : ℕ) → k < 28 → fieldWidth m p k ≡ fieldWidth m 0 k
 width-any m p k h =
     elim (decLt k 4) [
       | yes a ↦ sym (width-header m p k a)
@@ -99,21 +99,21 @@ unfolding placeOf
 place-any m p zero h = refl
 place-any m p (suc k) h = ap₂ _+_ (width-any m p k h) (place-any m p k (omega arith))
 
-early : (B k : ℕ) → k < 28 → field B (placeOf (modeAt B) 0 k) (widthOf (modeAt B) 0 k) ≡ fieldAt B k
+early : (B k : ℕ) → k < 28 → field B (placeOf (modeAt B) 0 k) (fieldWidth (modeAt B) 0 k) ≡ fieldAt B k
 unfolding fieldAt
-early B k h = ap₂ (field B) (sym (place-any (modeAt B) (partitionAt B) k (omega arith))) (sym (width-any (modeAt B) (partitionAt B) k h))
+early B k h = ap₂ (field B) (sym (place-any (modeAt B) (partitionFieldAt B) k (omega arith))) (sym (width-any (modeAt B) (partitionFieldAt B) k h))
 
 -- a field by a place and a width that are known
-pub field-is : (B k at w r : ℕ) → k < 28 → at ≡ placeOf (modeAt B) 0 k → w ≡ widthOf (modeAt B) 0 k → r ≡ field B at w → r ≡ fieldAt B k
+pub field-is : (B k at w r : ℕ) → k < 28 → at ≡ placeOf (modeAt B) 0 k → w ≡ fieldWidth (modeAt B) 0 k → r ≡ field B at w → r ≡ fieldAt B k
 field-is B k at w r h ea ew er = er ∙ ap₂ (field B) ea ew ∙ early B k h
 
 -- ---- the channels of the ends
 
 in-place : ℕ → ℕ → ℕ → Bool
-unfolding placeOf widthOf subsets colourBits channelBits
+unfolding placeOf fieldWidth subsets colourBits channelBits
 in-place m c x =
     both (eqb (placeOf m 0 4 + c * (2 * subsets m * colourBits m) + x * channelBits m c) (placeOf m 0 (4 + (c * (2 * subsets m) + x))))
-    (both (eqb (channelBits m c) (widthOf m 0 (4 + (c * (2 * subsets m) + x)))) (ltb (c * (2 * subsets m) + x) 18))
+    (both (eqb (channelBits m c) (fieldWidth m 0 (4 + (c * (2 * subsets m) + x)))) (ltb (c * (2 * subsets m) + x) 18))
 
 -- every channel that has bits
 channel-placed : ℕ → Bool
@@ -140,19 +140,19 @@ module _ (m c x : ℕ) (h : m < 8) (hc : c < 4) (hx : x < 2 * subsets m) (z : 0 
   unfolding in-place
   channel-place =
       eqb→eq _ _ (both-left (eqb (placeOf m 0 4 + c * (2 * subsets m * colourBits m) + x * channelBits m c) (placeOf m 0 (4 + (c * (2 * subsets m) + x))))
-      (both (eqb (channelBits m c) (widthOf m 0 (4 + (c * (2 * subsets m) + x)))) (ltb (c * (2 * subsets m) + x) 18)) here)
+      (both (eqb (channelBits m c) (fieldWidth m 0 (4 + (c * (2 * subsets m) + x)))) (ltb (c * (2 * subsets m) + x) 18)) here)
 
-  rest : T (both (eqb (channelBits m c) (widthOf m 0 (4 + (c * (2 * subsets m) + x)))) (ltb (c * (2 * subsets m) + x) 18))
+  rest : T (both (eqb (channelBits m c) (fieldWidth m 0 (4 + (c * (2 * subsets m) + x)))) (ltb (c * (2 * subsets m) + x) 18))
   unfolding in-place
   rest =
       both-right (eqb (placeOf m 0 4 + c * (2 * subsets m * colourBits m) + x * channelBits m c) (placeOf m 0 (4 + (c * (2 * subsets m) + x))))
-      (both (eqb (channelBits m c) (widthOf m 0 (4 + (c * (2 * subsets m) + x)))) (ltb (c * (2 * subsets m) + x) 18)) here
+      (both (eqb (channelBits m c) (fieldWidth m 0 (4 + (c * (2 * subsets m) + x)))) (ltb (c * (2 * subsets m) + x) 18)) here
 
-  pub channel-width : channelBits m c ≡ widthOf m 0 (4 + (c * (2 * subsets m) + x))
-  channel-width = eqb→eq _ _ (both-left (eqb (channelBits m c) (widthOf m 0 (4 + (c * (2 * subsets m) + x)))) (ltb (c * (2 * subsets m) + x) 18) rest)
+  pub channel-width : channelBits m c ≡ fieldWidth m 0 (4 + (c * (2 * subsets m) + x))
+  channel-width = eqb→eq _ _ (both-left (eqb (channelBits m c) (fieldWidth m 0 (4 + (c * (2 * subsets m) + x)))) (ltb (c * (2 * subsets m) + x) 18) rest)
 
   pub channel-number : c * (2 * subsets m) + x < 18
-  channel-number = ltb→lt _ _ (both-right (eqb (channelBits m c) (widthOf m 0 (4 + (c * (2 * subsets m) + x)))) (ltb (c * (2 * subsets m) + x) 18) rest)
+  channel-number = ltb→lt _ _ (both-right (eqb (channelBits m c) (fieldWidth m 0 (4 + (c * (2 * subsets m) + x)))) (ltb (c * (2 * subsets m) + x) 18) rest)
 
 pub channel-most : (m c : ℕ) → m < 8 → channelBits m c ≤ 8
 unfolding channelBits
@@ -178,8 +178,8 @@ module _ (B : ℕ) (h : modeAt B < 8) where
 -- ---- P bits
 
 p-placed : ℕ → Bool
-unfolding placeOf widthOf pBits
-p-placed m = all (λ y. both (eqb (placeOf m 0 22 + y) (placeOf m 0 (22 + y))) (eqb 1 (widthOf m 0 (22 + y)))) (pBits m)
+unfolding placeOf fieldWidth pBits
+p-placed m = all (λ y. both (eqb (placeOf m 0 22 + y) (placeOf m 0 (22 + y))) (eqb 1 (fieldWidth m 0 (22 + y)))) (pBits m)
 
 all-p : T (all p-placed 8)
 unfolding p-placed
@@ -197,15 +197,15 @@ unfolding p-counted
 all-counted = tt
 
 module _ (m y : ℕ) (h : m < 8) (l : y < pBits m) where
-  p-here : T (both (eqb (placeOf m 0 22 + y) (placeOf m 0 (22 + y))) (eqb 1 (widthOf m 0 (22 + y))))
+  p-here : T (both (eqb (placeOf m 0 22 + y) (placeOf m 0 (22 + y))) (eqb 1 (fieldWidth m 0 (22 + y))))
   unfolding p-placed
-  p-here = each (λ i. both (eqb (placeOf m 0 22 + i) (placeOf m 0 (22 + i))) (eqb 1 (widthOf m 0 (22 + i)))) (pBits m) (each p-placed 8 all-p m h) y l
+  p-here = each (λ i. both (eqb (placeOf m 0 22 + i) (placeOf m 0 (22 + i))) (eqb 1 (fieldWidth m 0 (22 + i)))) (pBits m) (each p-placed 8 all-p m h) y l
 
   pub p-place : placeOf m 0 22 + y ≡ placeOf m 0 (22 + y)
-  p-place = eqb→eq _ _ (both-left (eqb (placeOf m 0 22 + y) (placeOf m 0 (22 + y))) (eqb 1 (widthOf m 0 (22 + y))) p-here)
+  p-place = eqb→eq _ _ (both-left (eqb (placeOf m 0 22 + y) (placeOf m 0 (22 + y))) (eqb 1 (fieldWidth m 0 (22 + y))) p-here)
 
-  pub p-width : 1 ≡ widthOf m 0 (22 + y)
-  p-width = eqb→eq _ _ (both-right (eqb (placeOf m 0 22 + y) (placeOf m 0 (22 + y))) (eqb 1 (widthOf m 0 (22 + y))) p-here)
+  pub p-width : 1 ≡ fieldWidth m 0 (22 + y)
+  p-width = eqb→eq _ _ (both-right (eqb (placeOf m 0 22 + y) (placeOf m 0 (22 + y))) (eqb 1 (fieldWidth m 0 (22 + y))) p-here)
 
 module _ (m : ℕ) (h : m < 8) where
   counted : T (both (leb (pBits m) 6) (pick (eqb (endpointPBits m) 1) (eqb (pBits m) (2 * subsets m)) (either (not (eqb (sharedPBits m) 1)) (eqb (pBits m) (subsets m)))))
@@ -261,7 +261,7 @@ module _ (B : ℕ) (h : modeAt B < 8) (w : Mode) (e : w ≡ modeRow (modeAt B)) 
   rotation-bits = rw (eq ∙ ap (λ (v : Mode). v .rotation) e) (rotation-most (modeAt B) h)
 
   pub rotation-is : r ≡ field B (m + 1 + p) q → r ≡ fieldAt B 2
-  unfolding widthOf partitionBits rotationBits
+  unfolding fieldWidth partitionBits rotationBits
   rotation-is er =
       field-is B 2 (m + 1 + p) q r (omega arith) ((λ t. em t + 1 + (ep ∙ ap (λ (v : Mode). v .partition) e) t) ∙ rotation-place (modeAt B) h)
       (eq ∙ ap (λ (v : Mode). v .rotation) e) er
@@ -271,7 +271,7 @@ module _ (B : ℕ) (h : modeAt B < 8) (w : Mode) (e : w ≡ modeRow (modeAt B)) 
   selection-bits es = rw (es ∙ ap (λ (v : Mode). v .selection) e) (selection-most (modeAt B) h)
 
   pub selection-is : s ≡ w .selection → r ≡ field B (m + 1 + p + q) s → r ≡ fieldAt B 3
-  unfolding widthOf partitionBits rotationBits selectionBits
+  unfolding fieldWidth partitionBits rotationBits selectionBits
   selection-is es er =
       field-is B 3 (m + 1 + p + q) s r (omega arith)
       ((λ t. em t + 1 + (ep ∙ ap (λ (v : Mode). v .partition) e) t + (eq ∙ ap (λ (v : Mode). v .rotation) e) t) ∙ selection-place (modeAt B) h)
@@ -280,8 +280,8 @@ module _ (B : ℕ) (h : modeAt B < 8) (w : Mode) (e : w ≡ modeRow (modeAt B)) 
 -- ---- the frame's plan
 
 pub plan-is : (B m p plan : ℕ) (w : Mode) → m ≡ modeAt B → w ≡ modeRow m → p ≡ field B (m + 1) (partitionBits m) → plan ≡ planOf (w .subsets) p
-    → plan ≡ planOf (subsets (modeAt B)) (partitionAt B)
-unfolding subsets partitionAt
+    → plan ≡ planOf (subsets (modeAt B)) (partitionFieldAt B)
+unfolding subsets partitionFieldAt
 plan-is B m p plan w em ew ep e =
     e ∙ ap₂ planOf (ap (λ (v : Mode). v .subsets) (ew ∙ ap modeRow em)) (ep ∙ ap (λ (n : ℕ). field B (n + 1) (partitionBits n)) em)
 
@@ -343,18 +343,18 @@ module _ (m : ℕ) (v : ℕ → ℕ) (w : Mode) (e : w ≡ modeRow m) (h : m < 8
   unfolding channelBits alphaBits
   alpha-bits ex = ex ∙ ap (λ (u : Mode). u .alpha) e
 
-  pub colour-end : (c : ℕ) → c < 3 → x ≡ w .colour → r ≡ widenedEnd m v x j n c → r ≡ endOf m v j n c
-  unfolding endOf colourBits
+  pub colour-end : (c : ℕ) → c < 3 → x ≡ w .colour → r ≡ widenedEnd m v x j n c → r ≡ endChannel m v j n c
+  unfolding endChannel colourBits
   colour-end c l ex er = er ∙ ap (λ (y : ℕ). widenedEnd m v y j n c) (ex ∙ ap (λ (u : Mode). u .colour) e) ∙ rw (ne-eqb c 3 (λ q. omega arith))
 
-  pub alpha-end : (w .alpha ≡ 0 → ⊥) → x ≡ w .alpha → r ≡ widenedEnd m v x j n 3 → r ≡ endOf m v j n 3
-  unfolding endOf alphaBits
+  pub alpha-end : (w .alpha ≡ 0 → ⊥) → x ≡ w .alpha → r ≡ widenedEnd m v x j n 3 → r ≡ endChannel m v j n 3
+  unfolding endChannel alphaBits
   alpha-end z ex er =
       er ∙ ap (λ (y : ℕ). widenedEnd m v y j n 3) (ex ∙ ap (λ (u : Mode). u .alpha) e)
       ∙ rw (ne-eqb (modeRow m .alpha) 0 (λ q. z (ap (λ (u : Mode). u .alpha) e ∙ q)))
 
-  pub opaque : w .alpha ≡ 0 → 255 ≡ endOf m v j n 3
-  unfolding endOf alphaBits
+  pub opaque : w .alpha ≡ 0 → 255 ≡ endChannel m v j n 3
+  unfolding endChannel alphaBits
   opaque z = rw (sym (ap (λ (u : Mode). u .alpha) e) ∙ z)
 
 all-coloured : T (all (λ m. ltb 0 (colourBits m)) 8)
@@ -366,7 +366,7 @@ unfolding colourBits
 coloured m w x e h ex = rw (ex ∙ ap (λ (u : Mode). u .colour) e) (ltb→lt 0 (colourBits m) (each (λ n. ltb 0 (colourBits n)) 8 all-coloured m h))
 
 -- the ends of a block are bytes
-pub end-byte : (B : ℕ) → modeAt B < 8 → (j e c : ℕ) → j < subsets (modeAt B) → e < 2 → c < 4 → endOf (modeAt B) (fieldAt B) j e c ≤ 255
+pub end-byte : (B : ℕ) → modeAt B < 8 → (j e c : ℕ) → j < subsets (modeAt B) → e < 2 → c < 4 → endChannel (modeAt B) (fieldAt B) j e c ≤ 255
 end-byte B h = end-most (modeAt B) (fieldAt B) h (fits B h)
 
 pub turned-lt : (B : ℕ) → modeAt B < 8 → (c : ℕ) → c < 4 → rotated (fieldAt B 2) c < 4
@@ -375,8 +375,8 @@ turned-lt B h c l = rotated-lt (fieldAt B 2) (rotation-here (modeAt B) (fieldAt 
 pub half-lt : (B x : ℕ) → x < 2 * subsets (modeAt B) → x / 2 < subsets (modeAt B)
 half-lt B x h = omega arith
 
-pub end-byte-of : (B : ℕ) → modeAt B < 8 → (x c r : ℕ) → x < 2 * subsets (modeAt B) → c < 4 → r ≡ endOf (modeAt B) (fieldAt B) (x / 2) (x % 2) c
-    → (r ≡ endOf (modeAt B) (fieldAt B) (x / 2) (x % 2) c) × (r ≤ 255)
+pub end-byte-of : (B : ℕ) → modeAt B < 8 → (x c r : ℕ) → x < 2 * subsets (modeAt B) → c < 4 → r ≡ endChannel (modeAt B) (fieldAt B) (x / 2) (x % 2) c
+    → (r ≡ endChannel (modeAt B) (fieldAt B) (x / 2) (x % 2) c) × (r ≤ 255)
 end-byte-of B h x c r l k e = (e, rw e (end-byte B h (x / 2) (x % 2) c (half-lt B x l) (omega arith) k))
 
 -- how many subsets a row has

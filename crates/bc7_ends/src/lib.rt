@@ -11,9 +11,9 @@ ghost use Rattle.laws.proofs.Filling.{Filled};
 ghost use Rattle.bits.specs.Block.{blockNumber};
 ghost use Rattle.bc7_layout.specs.Modes.{modeRow, subsets, colourBits};
 ghost use Rattle.bc7_layout.specs.Layout.{placeOf, modeAt, fieldAt};
-ghost use Rattle.bc7_block.specs.Picture.{asByte, storedEnd, pBitOf, hasPBit, widenedEnd, endOf};
+ghost use Rattle.bc7_block.specs.Picture.{asByte, storedEnd, pBitOf, hasPBit, widenedEnd, endChannel};
 ghost use Rattle.bc7_ends.specs.inner.Frame.{Framed, channelBits};
-ghost use Rattle.bc7_ends.specs.inner.Lanes.{lanes, byLane, colourLane, alphaLane, threeOf, lineOf};
+ghost use Rattle.bc7_ends.specs.inner.Lanes.{fourLanes, byLane, colourLane, alphaLane, threeOf, subsetLine};
 
 // What a block's mode and partition fix: the mode's row and the partition's plan, where endpoints, P bits and indices begin, and the bits that one
 // colour of all ends takes.
@@ -170,7 +170,7 @@ fn widened(b: PhysicalBlock, f: Frame, x: u32, c: u32, w: u32) -> u32
 // Colour c of end x.
 fn colour_of(b: PhysicalBlock, f: Frame, x: u32, c: u32) -> u64
     requires { ⌜ Framed (blockNumber b) f × (x < 2 * subsets (modeAt (blockNumber b))) × (c < 3) ⌝ }
-    ensures { λ r. ⌜ (r ≡ endOf (modeAt (blockNumber b)) (fieldAt (blockNumber b)) (x / 2) (x % 2) c) × (r ≤ 255) ⌝ }
+    ensures { λ r. ⌜ (r ≡ endChannel (modeAt (blockNumber b)) (fieldAt (blockNumber b)) (x / 2) (x % 2) c) × (r ≤ 255) ⌝ }
 {
     let row = f.row;
     widened(b, f, x, c, wide(row.colour)) as u64
@@ -179,7 +179,7 @@ fn colour_of(b: PhysicalBlock, f: Frame, x: u32, c: u32) -> u64
 // Its alpha, opaque where there is none.
 fn alpha_of(b: PhysicalBlock, f: Frame, x: u32) -> u64
     requires { ⌜ Framed (blockNumber b) f × (x < 2 * subsets (modeAt (blockNumber b))) ⌝ }
-    ensures { λ r. ⌜ (r ≡ endOf (modeAt (blockNumber b)) (fieldAt (blockNumber b)) (x / 2) (x % 2) 3) × (r ≤ 255) ⌝ }
+    ensures { λ r. ⌜ (r ≡ endChannel (modeAt (blockNumber b)) (fieldAt (blockNumber b)) (x / 2) (x % 2) 3) × (r ≤ 255) ⌝ }
 {
     let row = f.row;
     if row.alpha == 0 {
@@ -192,7 +192,7 @@ fn alpha_of(b: PhysicalBlock, f: Frame, x: u32) -> u64
 
 fn pack(a: u64, b: u64, c: u64, d: u64) -> u64
     requires { ⌜ (a ≤ 255) × (b ≤ 255) × (c ≤ 255) × (d ≤ 255) ⌝ }
-    ensures { λ r. ⌜ (r ≡ lanes a b c d) × (r ≤ 71777214294589695) ⌝ }
+    ensures { λ r. ⌜ (r ≡ fourLanes a b c d) × (r ≤ 71777214294589695) ⌝ }
 {
     a + b * 65536 + c * 4294967296 + d * 281474976710656
 }
@@ -234,7 +234,7 @@ fn alpha_lanes(r: u8, a: u64) -> u64
 // The colours of end x.
 fn end_colours(b: PhysicalBlock, f: Frame, r: u8, x: u32) -> u64
     requires { ⌜ Framed (blockNumber b) f × (x < 2 * subsets (modeAt (blockNumber b))) × (r < 4) ⌝ }
-    ensures { λ s. ⌜ (s ≡ byLane (colourLane r (endOf (modeAt (blockNumber b)) (fieldAt (blockNumber b)) (x / 2) (x % 2)))) × (s ≤ 71777214294589695) ⌝ }
+    ensures { λ s. ⌜ (s ≡ byLane (colourLane r (endChannel (modeAt (blockNumber b)) (fieldAt (blockNumber b)) (x / 2) (x % 2)))) × (s ≤ 71777214294589695) ⌝ }
 {
     let red = colour_of(b, f, x, 0);
     let green = colour_of(b, f, x, 1);
@@ -245,7 +245,7 @@ fn end_colours(b: PhysicalBlock, f: Frame, r: u8, x: u32) -> u64
 // The ends of subset j: the colours of both, and the alphas of both.
 fn line_of(b: PhysicalBlock, f: Frame, r: u8, j: usize) -> [u64; 4]
     requires { ⌜ Framed (blockNumber b) f × (j < subsets (modeAt (blockNumber b))) × (r ≡ fieldAt (blockNumber b) 2) × (r < 4) ⌝ }
-    ensures { λ q. ⌜ q ≡ lineOf (modeAt (blockNumber b)) (fieldAt (blockNumber b)) j ⌝ }
+    ensures { λ q. ⌜ q ≡ subsetLine (modeAt (blockNumber b)) (fieldAt (blockNumber b)) j ⌝ }
 {
     let x = 2 * (j as u32);
     let colour0 = end_colours(b, f, r, x);
@@ -258,7 +258,7 @@ fn line_of(b: PhysicalBlock, f: Frame, r: u8, j: usize) -> [u64; 4]
 // The ends of all subsets.
 pub fn lines_of(b: PhysicalBlock, f: Frame) -> [[u64; 4]; 3]
     requires { ⌜ Framed (blockNumber b) f ⌝ }
-    ensures { λ q. ⌜ Filled (lineOf (modeAt (blockNumber b)) (fieldAt (blockNumber b))) [] q (subsets (modeAt (blockNumber b))) ⌝ }
+    ensures { λ q. ⌜ Filled (subsetLine (modeAt (blockNumber b)) (fieldAt (blockNumber b))) [] q (subsets (modeAt (blockNumber b))) ⌝ }
 {
     let row = f.row;
     let n = row.subsets as usize;

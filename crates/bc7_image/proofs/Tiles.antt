@@ -22,7 +22,7 @@ use Rattle.image_layout.proofs.Blocks.{row-in, row-of}
 use Rattle.image_layout.proofs.Calls.{Sound, covered}
 use Rattle.image_layout.proofs.Parts.{Fits, PartOf, RunOf, RunFits, PlacedRows, products}
 use Rattle.bc7_block.specs.Picture.{blockTexel}
-use Rattle.bc7_core.specs.Bytes.{texelBytes, blockBytes}
+use Rattle.bc7_core.specs.Bytes.{texelBytes, shownBytes}
 use Rattle.bc7_image.specs.Image.{bc7NumberAt}
 
 four-wide : widthOf 0 ≡ 4
@@ -65,22 +65,22 @@ same-texel a b d = λ t. blockTexel (a t) (b t) (d t)
 
 module _ (w nx bx by : ℕ) (s : List ℕ) (en : nx ≡ blocksAcross w 4) where
   pub at-place : (dx dy c : ℕ) → dx < 4 → dy < 4 → c < 4
-      → getD (blockBytes (blockAt s (by * nx + bx))) (place 4 dx dy c) 0 ≡ bc7NumberAt w s (bx * 4 + dx) (by * 4 + dy) c
-  unfolding bc7NumberAt blockBytes texelBytes
+      → getD (shownBytes (blockAt s (by * nx + bx))) (place 4 dx dy c) 0 ≡ bc7NumberAt w s (bx * 4 + dx) (by * 4 + dy) c
+  unfolding bc7NumberAt shownBytes texelBytes
   at-place dx dy c hx hy hc =
       let B : ℕ = blockAt s (by * nx + bx) in
       getD-tab (λ n. blockTexel B (n / 4) (n % 4)) 64 (4 * (dy * 4 + dx) + c) 0 (omega arith)
       ∙ same-texel (ap (blockAt s) (index-back w nx bx by dx dy en hx hy)) (omega arith) (omega arith)
 
 module _ (g : ImageGrid) (sound : Sound g) (z : g .footprint ≡ 0) (s : List ℕ) where
-  pub tile-bc7 : (b : ℕ) (p : Part) (B : ℕ) (buf old new : List ℕ) → PartOf g b p → B ≡ blockAt s b → buf ≡ blockBytes B
+  pub tile-bc7 : (b : ℕ) (p : Part) (B : ℕ) (buf old new : List ℕ) → PartOf g b p → B ≡ blockAt s b → buf ≡ shownBytes B
       → PlacedRows (λ n. n) g p (p .rows) buf old new → Tile (flatPicture g) b (bc7NumberAt (g .width) s) old new
   tile-bc7 b p B buf old new o e held pl =
       let k = four g sound z in
       let bx : ℕ = b % g .across in
       let by : ℕ = b / g .across in
       let i : by * g .across + bx ≡ b = div-add-mod' b (g .across) in
-      let h : buf ≡ blockBytes (blockAt s (by * g .across + bx)) = held ∙ ap blockBytes (e ∙ ap (blockAt s) (sym i)) in
+      let h : buf ≡ shownBytes (blockAt s (by * g .across + bx)) = held ∙ ap shownBytes (e ∙ ap (blockAt s) (sym i)) in
       let en : g .across ≡ blocksAcross (g .width) 4 = sound .across ∙ ap (blocksAcross (g .width)) (k .columns) in
       let rows = rw (o .y) at (o .fits .rows) in
       subst (λ (n : ℕ). Tile (flatPicture g) n (bc7NumberAt (g .width) s) old new) i
@@ -90,6 +90,6 @@ module _ (g : ImageGrid) (sound : Sound g) (z : g .footprint ≡ 0) (s : List �
       let l = rows .in-block in
       rw (k .columns, k .rows, h) (at-place (g .width) (g .across) bx by s en dx dy c (omega (arith, k .columns)) (omega (arith, k .rows)) hc)))
 
-pub bytes-64 : (B : ℕ) → length (blockBytes B) ≡ 64
-unfolding blockBytes texelBytes
+pub bytes-64 : (B : ℕ) → length (shownBytes B) ≡ 64
+unfolding shownBytes texelBytes
 bytes-64 B = length-tab (λ n. blockTexel B (n / 4) (n % 4)) 64

@@ -10,7 +10,7 @@ use borrow.Author.Tests.{lt-ltb, le-ltb, eq-eqb, ne-eqb}
 use Rattle.laws.specs.Choice.{pick}
 use Rattle.bc7_layout.specs.declared.Mode.{Mode}
 use Rattle.bc7_layout.specs.Modes.{modeRow, subsets, colourBits, alphaBits, endpointPBits, sharedPBits, indexBits, secondaryBits, pBits}
-use Rattle.bc7_layout.specs.Layout.{endpointWidth, pBitWidth, primaryWidth, secondaryWidth, widthOf}
+use Rattle.bc7_layout.specs.Layout.{endpointWidth, pBitWidth, primaryWidth, secondaryWidth, fieldWidth}
 
 module _ (m : ℕ) (w : Mode) (e : w ≡ modeRow m) where
   pub endpoint-colour : (j : ℕ) → j < 6 * w .subsets → w .colour ≡ endpointWidth m j
@@ -50,27 +50,27 @@ p-bits-fit a b n ha hb hn = mul-le-mul {n₂ = 765} {m₂ = 255} (omega arith) h
 
 module _ (m p k : ℕ) where
   -- the first four do not look at the partition
-  pub width-header : k < 4 → widthOf m 0 k ≡ widthOf m p k
-  unfolding widthOf
+  pub width-header : k < 4 → fieldWidth m 0 k ≡ fieldWidth m p k
+  unfolding fieldWidth
   width-header h = rw (lt-ltb k 22 (omega arith))
 
-  pub width-endpoint : 4 ≤ k → k < 22 → endpointWidth m (k - 4) ≡ widthOf m p k
-  unfolding widthOf
+  pub width-endpoint : 4 ≤ k → k < 22 → endpointWidth m (k - 4) ≡ fieldWidth m p k
+  unfolding fieldWidth
   width-endpoint h l =
       rw (ne-eqb k 0 (λ q. omega arith), ne-eqb k 1 (λ q. omega arith), ne-eqb k 2 (λ q. omega arith), ne-eqb k 3 (λ q. omega arith), lt-ltb k 22 l)
 
-  pub width-pbit : 22 ≤ k → k < 28 → pBitWidth m (k - 22) ≡ widthOf m p k
-  unfolding widthOf
+  pub width-pbit : 22 ≤ k → k < 28 → pBitWidth m (k - 22) ≡ fieldWidth m p k
+  unfolding fieldWidth
   width-pbit h l =
       rw (ne-eqb k 0 (λ q. omega arith), ne-eqb k 1 (λ q. omega arith), ne-eqb k 2 (λ q. omega arith), ne-eqb k 3 (λ q. omega arith), le-ltb k 22 h, lt-ltb k 28 l)
 
-  pub width-primary : 28 ≤ k → k < 44 → primaryWidth m p (k - 28) ≡ widthOf m p k
-  unfolding widthOf
+  pub width-primary : 28 ≤ k → k < 44 → primaryWidth m p (k - 28) ≡ fieldWidth m p k
+  unfolding fieldWidth
   width-primary h l =
       rw (ne-eqb k 0 (λ q. omega arith), ne-eqb k 1 (λ q. omega arith), ne-eqb k 2 (λ q. omega arith), ne-eqb k 3 (λ q. omega arith), le-ltb k 22 (omega arith), le-ltb k 28 h, lt-ltb k 44 l)
 
-  pub width-secondary : 44 ≤ k → secondaryWidth m (k - 44) ≡ widthOf m p k
-  unfolding widthOf
+  pub width-secondary : 44 ≤ k → secondaryWidth m (k - 44) ≡ fieldWidth m p k
+  unfolding fieldWidth
   width-secondary h =
       rw (ne-eqb k 0 (λ q. omega arith), ne-eqb k 1 (λ q. omega arith), ne-eqb k 2 (λ q. omega arith), ne-eqb k 3 (λ q. omega arith), le-ltb k 22 (omega arith), le-ltb k 28 (omega arith), le-ltb k 44 h)
 

@@ -13,7 +13,7 @@ use Rattle.laws.proofs.Computed.{each, both-left, both-right}
 use Rattle.bits.specs.Field.{field}
 use Rattle.bc7_layout.specs.Modes.{subsets, partitionBits, rotationBits, selectionBits, colourBits, alphaBits, indexBits, secondaryBits, pBits}
 use Rattle.bc7_layout.specs.Partitions.{subsetOf, anchorOf}
-use Rattle.bc7_layout.specs.Layout.{endpointWidth, pBitWidth, primaryWidth, secondaryWidth, widthOf, placeOf, lowestOne}
+use Rattle.bc7_layout.specs.Layout.{endpointWidth, pBitWidth, primaryWidth, secondaryWidth, fieldWidth, placeOf, lowestOne}
 
 -- ---- the fields of a mode end at bit 128, in each of its partitions
 
@@ -73,8 +73,8 @@ most-of : (t : Bool) (x y z : ℕ) → x ≤ z → y ≤ z → pick t x y ≤ z
 most-of true x y z h l = h
 most-of false x y z h l = l
 
-pub width-most : (m p k : ℕ) → m < 8 → widthOf m p k ≤ 8
-unfolding widthOf endpointWidth pBitWidth primaryWidth secondaryWidth
+pub width-most : (m p k : ℕ) → m < 8 → fieldWidth m p k ≤ 8
+unfolding fieldWidth endpointWidth pBitWidth primaryWidth secondaryWidth
 width-most m p k h =
     most-of (eqb k 0) _ _ 8 (omega arith)
     (most-of (eqb k 1) _ _ 8 (partition-most m h)

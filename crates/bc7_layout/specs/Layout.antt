@@ -33,9 +33,9 @@ unfolding secondaryBits
 secondaryWidth m i = secondaryBits m - pick (eqb i 0) 1 0
 
 -- the bits of field k in mode m and partition p
-unfoldable pub widthOf : ℕ → ℕ → ℕ → ℕ
+unfoldable pub fieldWidth : ℕ → ℕ → ℕ → ℕ
 unfolding endpointWidth pBitWidth primaryWidth secondaryWidth partitionBits rotationBits selectionBits
-widthOf m p k =
+fieldWidth m p k =
     pick (eqb k 0) (m + 1)
     (pick (eqb k 1) (partitionBits m)
     (pick (eqb k 2) (rotationBits m)
@@ -47,9 +47,9 @@ widthOf m p k =
 
 -- the bit where field k begins
 unfoldable pub placeOf : ℕ → ℕ → ℕ → ℕ
-unfolding widthOf
+unfolding fieldWidth
 placeOf m p zero = 0
-placeOf m p (suc k) = widthOf m p k + placeOf m p k
+placeOf m p (suc k) = fieldWidth m p k + placeOf m p k
 
 -- ---- what lies there in a block of 128 bits, given as one number
 
@@ -72,11 +72,11 @@ unfolding firstByte
 isReserved B = eqb (firstByte B) 0
 
 -- the partition lies behind the mode's mark
-unfoldable pub partitionAt : ℕ → ℕ
+unfoldable pub partitionFieldAt : ℕ → ℕ
 unfolding modeAt partitionBits
-partitionAt B = field B (modeAt B + 1) (partitionBits (modeAt B))
+partitionFieldAt B = field B (modeAt B + 1) (partitionBits (modeAt B))
 
 -- field k of a block
 unfoldable pub fieldAt : ℕ → ℕ → ℕ
-unfolding modeAt partitionAt placeOf widthOf
-fieldAt B k = field B (placeOf (modeAt B) (partitionAt B) k) (widthOf (modeAt B) (partitionAt B) k)
+unfolding modeAt partitionFieldAt placeOf fieldWidth
+fieldAt B k = field B (placeOf (modeAt B) (partitionFieldAt B) k) (fieldWidth (modeAt B) (partitionFieldAt B) k)

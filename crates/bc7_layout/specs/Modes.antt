@@ -6,8 +6,8 @@ use lib.ListN.{getD}
 use Rattle.bc7_layout.specs.declared.Mode.{Mode}
 
 -- NS PB RB ISB CB AB EPB SPB IB IB2
-abbrev pub row : ℕ → ℕ → ℕ → ℕ → ℕ → ℕ → ℕ → ℕ → ℕ → ℕ → Mode
-row ns pb rb isb cb ab epb spb ib ib2 = record {
+abbrev pub modeWith : ℕ → ℕ → ℕ → ℕ → ℕ → ℕ → ℕ → ℕ → ℕ → ℕ → Mode
+modeWith ns pb rb isb cb ab epb spb ib ib2 = record {
   subsets = ns;
   partition = pb;
   rotation = rb;
@@ -22,19 +22,19 @@ row ns pb rb isb cb ab epb spb ib ib2 = record {
 
 abbrev pub modes : List Mode
 modes =
-    row 3 4 0 0 4 0 1 0 3 0
-    ∷ row 2 6 0 0 6 0 0 1 3 0
-    ∷ row 3 6 0 0 5 0 0 0 2 0
-    ∷ row 2 6 0 0 7 0 1 0 2 0
-    ∷ row 1 0 2 1 5 6 0 0 2 3
-    ∷ row 1 0 2 0 7 8 0 0 2 2
-    ∷ row 1 0 0 0 7 7 1 0 4 0
-    ∷ row 2 6 0 0 5 5 1 0 2 0
+    modeWith 3 4 0 0 4 0 1 0 3 0
+    ∷ modeWith 2 6 0 0 6 0 0 1 3 0
+    ∷ modeWith 3 6 0 0 5 0 0 0 2 0
+    ∷ modeWith 2 6 0 0 7 0 1 0 2 0
+    ∷ modeWith 1 0 2 1 5 6 0 0 2 3
+    ∷ modeWith 1 0 2 0 7 8 0 0 2 2
+    ∷ modeWith 1 0 0 0 7 7 1 0 4 0
+    ∷ modeWith 2 6 0 0 5 5 1 0 2 0
     ∷ []
 
 -- past the table nothing has bits
 unfoldable pub modeRow : ℕ → Mode
-modeRow m = getD modes m (row 0 0 0 0 0 0 0 0 0 0)
+modeRow m = getD modes m (modeWith 0 0 0 0 0 0 0 0 0 0)
 
 -- NS: "Number of subsets in each partition"
 unfoldable pub subsets : ℕ → ℕ

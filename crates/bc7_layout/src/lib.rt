@@ -4,8 +4,8 @@ ghost use mathlib.Core.Path.{_≡_};
 ghost use Prim.Native.Nat.{_+_, _-_, _*_, _/_, _%_, _^_, _≤_, _<_};
 ghost use Rattle.bits.specs.Field.{field};
 ghost use Rattle.bits.specs.Block.{blockNumber};
-ghost use Rattle.bc7_layout.specs.Modes.{row, modeRow, subsets, partitionBits};
-ghost use Rattle.bc7_layout.specs.Layout.{endpointWidth, pBitWidth, primaryWidth, secondaryWidth, widthOf, modeAt};
+ghost use Rattle.bc7_layout.specs.Modes.{modeWith, modeRow, subsets, partitionBits};
+ghost use Rattle.bc7_layout.specs.Layout.{endpointWidth, pBitWidth, primaryWidth, secondaryWidth, fieldWidth, modeAt};
 ghost use Rattle.bc7_layout.specs.inner.Plan.{planOf, planRun, wholePlan};
 
 // 004, Table 13.3: subsets, and the bits of partition, rotation, index selection, colours, alpha, P bits for each end and shared, and of both sets
@@ -35,7 +35,7 @@ fn made(
     index: u8,
     secondary: u8,
 ) -> Mode
-    ensures { λ r. ⌜ r ≡ row subsets partition rotation selection colour alpha ends shared index secondary ⌝ }
+    ensures { λ r. ⌜ r ≡ modeWith subsets partition rotation selection colour alpha ends shared index secondary ⌝ }
 {
     Mode {
         subsets,
@@ -436,7 +436,7 @@ fn secondary_width(m: u8, i: usize) -> u32
 
 fn header_width(m: u8, k: usize) -> u32
     requires { ⌜ k < 4 ⌝ }
-    ensures { λ r. ⌜ (r ≡ widthOf m 0 k) × (r ≤ 256) ⌝ }
+    ensures { λ r. ⌜ (r ≡ fieldWidth m 0 k) × (r ≤ 256) ⌝ }
 {
     let w = mode_row(m);
     if k == 0 {
@@ -454,7 +454,7 @@ fn header_width(m: u8, k: usize) -> u32
 // The bits of field k in mode m and partition p, of which this is the plan.
 pub fn width_of(m: u8, p: u8, plan: u64, k: usize) -> u32
     requires { ⌜ plan ≡ planOf (subsets m) p ⌝ }
-    ensures { λ r. ⌜ (r ≡ widthOf m p k) × (r ≤ 256) ⌝ }
+    ensures { λ r. ⌜ (r ≡ fieldWidth m p k) × (r ≤ 256) ⌝ }
 {
     if k < 4 {
         return header_width(m, k);

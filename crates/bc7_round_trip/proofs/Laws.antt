@@ -28,7 +28,7 @@ use Rattle.bc7_block.specs.Writing.{blockOf}
 use Rattle.bc7_block.specs.Picture.{pictureOf, blockTexel}
 use Rattle.bc7_block.specs.Demand.{Demand3}
 use Rattle.bc7_block.proofs.Demand.{demand-3}
-use Rattle.bc7_core.specs.Bytes.{texelBytes, blockBytes}
+use Rattle.bc7_core.specs.Bytes.{texelBytes, shownBytes}
 use Rattle.bc7_calls.specs.declared.Reading.{Reading}
 use Rattle.bc7_calls.specs.declared.Writing.{Writing}
 use Rattle.bc7_calls.specs.Calls.{decodeRefusal, decodeAnswer, decodeOut, nothing, readingIn, readingOf, refusedWith, writingOf}
@@ -93,9 +93,9 @@ module _ (block : List ℕ) (h : Sound block) where
     sound-answer =
         ap (λ (n : ℕ). pick (eqb n 0) (answerFor (faultOf (numberOf block))) (Refused n)) none ∙ ap answerFor (h .no-fault)
 
-    sound-out : decodeOut block old ≡ blockBytes (numberOf block)
+    sound-out : decodeOut block old ≡ shownBytes (numberOf block)
     unfolding decodeOut
-    sound-out = ap (λ (n : ℕ). pick (eqb n 0) (blockBytes (numberOf block)) old) none
+    sound-out = ap (λ (n : ℕ). pick (eqb n 0) (shownBytes (numberOf block)) old) none
 
 -- ---- an acceptable sheet
 
@@ -122,13 +122,13 @@ module _ (s : Bc7Block) (z : Sized s) (a : Acceptable s) where
       sound-read (writingOf s .bytes) sound
       ∙ ap (λ (b : Bc7Block). record { answer = Done; block = b }) (ap readBlock number ∙ demand-3 .written-reads-back s z a)
 
-  bytes-shown : blockBytes (blockOf s) ≡ pictureBytes s
-  unfolding blockBytes pictureBytes texelBytes
+  bytes-shown : shownBytes (blockOf s) ≡ pictureBytes s
+  unfolding shownBytes pictureBytes texelBytes
   bytes-shown =
       tab-ext (λ n. blockTexel (blockOf s) (n / 4) (n % 4)) (λ n. pictureOf s (n / 4) (n % 4)) 0 64 (λ n l. demand-3 .written-shows s z a (n / 4) (n % 4))
 
   picture : (old : List ℕ) → length old ≡ 64 → decodeOut (writingOf s .bytes) old ≡ pictureBytes s
-  picture old size = sound-out (writingOf s .bytes) sound old size ∙ ap blockBytes number ∙ bytes-shown
+  picture old size = sound-out (writingOf s .bytes) sound old size ∙ ap shownBytes number ∙ bytes-shown
 
 -- ---- the whole
 

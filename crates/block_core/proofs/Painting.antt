@@ -22,7 +22,7 @@ use Rattle.weight_grid.specs.Place.{gridPlace}
 use Rattle.encoding.specs.declared.LevelPair.{LevelPair}
 use Rattle.encoding.specs.Levels.{firstLevel, secondLevel}
 use Rattle.weight_grid.specs.Bilinear.{w00, w01, w10, w11, blendOf}
-use Rattle.weight_grid.specs.inner.Points.{stepOf, noPoint, readOf}
+use Rattle.weight_grid.specs.inner.Points.{neighbourStep, noPoint, readOf}
 use Rattle.weight_grid.specs.inner.Columns.{columnOf}
 use Rattle.weight_grid.specs.declared.Column.{Column}
 use Rattle.weight_grid.proofs.ByColumns.{read-column}
@@ -32,17 +32,17 @@ use Rattle.interpolation.specs.declared.Texel.{Texel}
 use Rattle.interpolation.specs.declared.Kind.{Kind}
 use Rattle.half_line.specs.inner.Line.{texelOn}
 use Rattle.block_core.specs.declared.Frame.{Frame}
-use Rattle.block_core.specs.inner.Prepared.{frameOf, texelOnGrid, texelIn, pointTexel}
+use Rattle.block_core.specs.inner.Prepared.{frameOf, texelOnGrid, preparedTexel, pointTexel}
 use Rattle.block_buffer.proofs.Painting.{one-of}
 use Rattle.block_core.proofs.Frames.{on-column, on-row}
 
 -- what is read are points of the grid
 pub reach : (g : WeightGrid) (gs gt : ℕ) → Limits g → weightCount g ≤ 64 → gs ≤ 16 * (g .width - 1) → gt ≤ 16 * (g .height - 1)
-    → gt / 16 * g .width + gs / 16 + stepOf gt (g .height) (g .width) + stepOf gs (g .width) 1 < 64
+    → gt / 16 * g .width + gs / 16 + neighbourStep gt (g .height) (g .width) + neighbourStep gs (g .width) 1 < 64
 reach g gs gt l n hs ht =
     omega (arith, layer-le g l n, read-lt (g .width) (g .height) gs gt (omega (arith, l .width-low)) (omega (arith, l .height-low)) hs ht)
 
-module _ (g : WeightGrid) (f : Frame) (x : ℕ) {gt upper lower : ℕ} (col : Column) (ec : col ≡ columnOf (f .across) (g .width) x) (eu : upper ≡ gt / 16 * g .width) (eo : lower ≡ upper + stepOf gt (g .height) (g .width)) where
+module _ (g : WeightGrid) (f : Frame) (x : ℕ) {gt upper lower : ℕ} (col : Column) (ec : col ≡ columnOf (f .across) (g .width) x) (eu : upper ≡ gt / 16 * g .width) (eo : lower ≡ upper + neighbourStep gt (g .height) (g .width)) where
   -- by a column: the last point that is read, and where the others stand before it
   pub reach-column : Limits g → weightCount g ≤ 64 → gridPlace (f .across) x (g .width) ≤ 16 * (g .width - 1) → gt ≤ 16 * (g .height - 1)
       → (lower + col .next < 64) × (col .at ≤ col .next) × (upper ≤ lower)
@@ -57,8 +57,8 @@ module _ (g : WeightGrid) (f : Frame) (x : ℕ) {gt upper lower : ℕ} (col : Co
       (firstLevel (getD points (lower + col .at) noPoint)) (firstLevel (getD points (lower + col .next) noPoint))
       → secondLevel both ≡ blendOf (col .part % 16) (gt % 16) (secondLevel (getD points (upper + col .at) noPoint)) (secondLevel (getD points (upper + col .next) noPoint))
       (secondLevel (getD points (lower + col .at) noPoint)) (secondLevel (getD points (lower + col .next) noPoint))
-      → t ≡ texelOn kind (getD lines p []) (firstLevel both) (secondLevel both) component → t ≡ texelIn kind g component points lines seeds partitions f x y
-  unfolding texelIn texelOnGrid
+      → t ≡ texelOn kind (getD lines p []) (firstLevel both) (secondLevel both) component → t ≡ preparedTexel kind g component points lines seeds partitions f x y
+  unfolding preparedTexel texelOnGrid
   told kind component points lines seeds partitions y both h ew ep et e1 e2 el =
       let r1 = (rw ec at e1) ∙ read-column firstLevel points (f .across) (g .width) (g .height) x gt eu eo in
       let r2 = (rw ec at e2) ∙ read-column secondLevel points (f .across) (g .width) (g .height) x gt eu eo in
@@ -85,8 +85,8 @@ read-point plane points width height x y =
 -- with one partition, and a point of the grid for each texel, a texel is mixed at its point
 pub point-told : (kind : Kind) (g : WeightGrid) (component : ℕ) (points : List LevelPair) (lines : List (List ℕ)) (seeds : Seeds) (fp partitions : ℕ)
     → isVolume fp ≡ false → partitions ≡ 1 → g .width ≡ widthOf fp → g .height ≡ heightOf fp → (t : ℕ) → t < heightOf fp * widthOf fp
-    → pointTexel kind component points lines t ≡ texelIn kind g component points lines seeds partitions (frameOf fp) (t % widthOf fp) (t / widthOf fp)
-unfolding texelIn texelOnGrid pointTexel frameOf
+    → pointTexel kind component points lines t ≡ preparedTexel kind g component points lines seeds partitions (frameOf fp) (t % widthOf fp) (t / widthOf fp)
+unfolding preparedTexel texelOnGrid pointTexel frameOf
 point-told kind g component points lines seeds fp partitions flat one ew eh t h =
     let w = widthOf fp in
     let k : t < w * heightOf fp = omega (arith, h, mul-comm w (heightOf fp)) in

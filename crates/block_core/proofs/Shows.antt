@@ -27,7 +27,7 @@ use Rattle.weight_grid.specs.Bilinear.{infillOf}
 use Rattle.weight_grid.specs.inner.Points.{noPoint, readOf, pointOf, pointsOf}
 use Rattle.weight_grid.proofs.Reading.{first-read, second-read, first-le, second-most}
 use Rattle.volume_infill.specs.Simplex.{volumeInfill}
-use Rattle.volume_infill.specs.inner.Way.{Placed}
+use Rattle.volume_infill.specs.inner.Way.{WithinGrid}
 use Rattle.volume_infill.proofs.Reading.{first-volume, second-volume, first-volume-le, second-volume-le}
 use Rattle.volume_paint.specs.declared.VolumeFrame.{VolumeFrame}
 use Rattle.volume_paint.specs.Volume.{byRows, volumeTexelAt, volumeTexel}
@@ -71,7 +71,7 @@ use Rattle.block_fault.proofs.Verdicts.{settings-verdict, told-fault, coded-lim
 use Rattle.texel.specs.Meaning.{endpointLevels, weightLevels, planeWeight, secondWeight, secondComponent, partitionTexel, mixedTexel, texelFrom, solidTexel, errorTexel, channel}
 use Rattle.texel.specs.BlockTexel.{soundTexel, blockTexel, inRow, blockChannel, blockInto}
 use Rattle.block_core.specs.declared.Frame.{Frame}
-use Rattle.block_core.specs.inner.Prepared.{frameOf, volumeFrameOf, texelOnGrid, texelIn, ByteLevels}
+use Rattle.block_core.specs.inner.Prepared.{frameOf, volumeFrameOf, texelOnGrid, preparedTexel, ByteLevels}
 use Rattle.block_buffer.specs.Painted.{texelNumber, painted}
 use Rattle.block_buffer.proofs.Painting.{painted-ext, one-of}
 use Rattle.block_core.specs.inner.Held.{Held}
@@ -123,20 +123,20 @@ module _ (h : BlockHeader) (stored : ℕ → ℕ) where
   -- the two levels of a point are bytes
   pub byte-levels : ByteLevels points
   unfolding pointsOf pointOf padded
-  byte-levels k = tab-all pairs.Bytes (λ i. pick (ltb i (h .grid .width * h .grid .height * h .grid .depth)) (pointOf weights (h .grid .planes) i) noPoint) noPoint each none 64 k where
-    none : pairs.Bytes noPoint
+  byte-levels k = tab-all pairs.BytePair (λ i. pick (ltb i (h .grid .width * h .grid .height * h .grid .depth)) (pointOf weights (h .grid .planes) i) noPoint) noPoint each none 64 k where
+    none : pairs.BytePair noPoint
     none = record { first = omega arith; second = omega arith }
 
-    two : (a b : ℕ) → a ≤ 64 → b ≤ 64 → pairs.Bytes (levelPair a b)
+    two : (a b : ℕ) → a ≤ 64 → b ≤ 64 → pairs.BytePair (levelPair a b)
     two a b p q = record { first = omega arith; second = omega arith }
 
     second : (i : ℕ) (t : Bool) → pick t (cell.levelIn weights (i * h .grid .planes + 1)) 0 ≤ 64
     second i true = most (i * h .grid .planes + 1)
     second i false = omega arith
 
-    each : (i : ℕ) → pairs.Bytes (pick (ltb i (h .grid .width * h .grid .height * h .grid .depth)) (pointOf weights (h .grid .planes) i) noPoint)
+    each : (i : ℕ) → pairs.BytePair (pick (ltb i (h .grid .width * h .grid .height * h .grid .depth)) (pointOf weights (h .grid .planes) i) noPoint)
     each i = go (ltb i (h .grid .width * h .grid .height * h .grid .depth)) where
-      go : (t : Bool) → pairs.Bytes (pick t (pointOf weights (h .grid .planes) i) noPoint)
+      go : (t : Bool) → pairs.BytePair (pick t (pointOf weights (h .grid .planes) i) noPoint)
       go true = two _ _ (most (i * h .grid .planes)) (second i (eqb (h .grid .planes) 2))
       go false = none
 
@@ -224,9 +224,9 @@ module _ (fp : ℕ) (kind : Kind) (h : BlockHeader) (ends : List Level) (stored 
 
     -- what is left to do for a texel gives the texel
     pub prepared : ((k : ℕ) → modes.levelAt ends k ≤ 255)
-        → texelIn kind (h .grid) (secondComponent fp kind h ends (weights h stored) x y 0) (points h stored) (linesIn kind h ends) (seedsOf (h .index) (h .partitions) (isSmall fp)) (h .partitions) (frameOf fp) x y
+        → preparedTexel kind (h .grid) (secondComponent fp kind h ends (weights h stored) x y 0) (points h stored) (linesIn kind h ends) (seedsOf (h .index) (h .partitions) (isSmall fp)) (h .partitions) (frameOf fp) x y
         ≡ mixedTexel fp kind h ends (weights h stored) x y 0
-    unfolding texelIn texelOnGrid frameOf
+    unfolding preparedTexel texelOnGrid frameOf
     prepared bytes = rw (which-is h (isSmall fp) x y) (by-line fp kind h ends stored x y 0 first-is second-is bytes first-most last-most)
 
   -- ---- of a volume
@@ -241,7 +241,7 @@ module _ (fp : ℕ) (kind : Kind) (h : BlockHeader) (ends : List Level) (stored 
     abbrev vr : ℕ
     vr = gridPlace (scaleOf (depthOf fp)) z (h .grid .depth)
 
-    placed : Placed (h .grid .width) (h .grid .height) (h .grid .depth) vs vt vr
+    placed : WithinGrid (h .grid .width) (h .grid .height) (h .grid .depth) vs vt vr
     unfolding volumeFrameOf
     placed = on-grid _ _ _ (volumeFrameOf fp) (in-volume fp (h .grid) l n) x y z hx hy hz refl refl refl
 
@@ -299,15 +299,15 @@ module _ (fp : ℕ) (kind : Kind) (B : ℕ) (h : BlockHeader) (old : List ℕ) {
     (et : lines ≡ linesIn kind h (endpointLevels (endpointRangeOf h) (endpointAt B h)))
     (em : small ≡ isSmall fp) (ec : component ≡ pick (eqb (h .grid .planes) 2) (h .component) 4) where
   pub flat-told : isVolume fp ≡ false → h .grid .depth ≡ 1 → {seeds : Seeds} {f : Frame} → seeds ≡ seedsOf (h .index) (h .partitions) small → f ≡ frameOf fp
-      → l ≡ painted (f .width) (texelIn kind (h .grid) component points lines seeds (h .partitions) f) (f .height * f .width) old
+      → l ≡ painted (f .width) (preparedTexel kind (h .grid) component points lines seeds (h .partitions) f) (f .height * f .width) old
       → l ≡ painted (widthOf fp) (inRow fp (texelFrom fp kind h (endpointAt B h) (weightAt B h))) (texelsOf fp) old
   unfolding texelFrom secondComponent frameOf
   flat-told flat one {seeds} {f} es ef w =
       let d = one-deep fp flat in
       let count : heightOf fp * widthOf fp ≡ texelsOf fp = sym (texels-by-layers fp ∙ ap (λ (k : ℕ). k * heightOf fp * widthOf fp) d ∙ ap (λ (k : ℕ). k * widthOf fp) (one-mul (heightOf fp))) in
       w
-      ∙ ap (λ (k : Frame). painted (k .width) (texelIn kind (h .grid) component points lines seeds (h .partitions) k) (k .height * k .width) old) ef
-      ∙ ap (λ (k : ℕ). painted (widthOf fp) (texelIn kind (h .grid) component points lines seeds (h .partitions) (frameOf fp)) k old) count
+      ∙ ap (λ (k : Frame). painted (k .width) (preparedTexel kind (h .grid) component points lines seeds (h .partitions) k) (k .height * k .width) old) ef
+      ∙ ap (λ (k : ℕ). painted (widthOf fp) (preparedTexel kind (h .grid) component points lines seeds (h .partitions) (frameOf fp)) k old) count
       ∙ painted-as fp _ _ old (λ x q hx hq.
       let hy : q < heightOf fp = subst (λ (k : ℕ). q < k) (ap (λ (k : ℕ). heightOf fp * k) d ∙ mul-one (heightOf fp)) hq in
       rw (mod-eq-of-lt hy, div-eq-of-lt hy, el, et, es, em, ec) (prepared fp kind h _ (weightAt B h) i n flat one x q hx hy (ends-le (endpointRangeOf h) (endpointAt B h))))

@@ -28,7 +28,7 @@ ghost use Rattle.block_fault.specs.Faults.{faultOf};
 ghost use Rattle.block_buffer.specs.Painted.{painted};
 ghost use mathlib.Core.List.{List};
 ghost use Rattle.block_core.specs.inner.Shows.{Shows};
-ghost use Rattle.block_core.specs.inner.Prepared.{frameOf, volumeFrameOf, texelIn, pointTexel, Inside, ByteLevels, halves};
+ghost use Rattle.block_core.specs.inner.Prepared.{frameOf, volumeFrameOf, preparedTexel, pointTexel, Inside, ByteLevels, halves};
 
 // A footprint's sides and the scale factors of a weight grid along them, once for each block.
 struct Frame {
@@ -103,7 +103,7 @@ fn paint(
 )
     requires { ⌜ Inside g f ⌝ }
     requires { ⌜ ByteLevels points ⌝ }
-    ensures { λ r. ⌜ (length (now (out .entry)) ≡ 864 → now (out .exit) ≡ painted (f .width) (texelIn kind g component points (now (lines .entry)) seeds partitions f) (f .height * f .width) (now (out .entry))) ⌝ }
+    ensures { λ r. ⌜ (length (now (out .entry)) ≡ 864 → now (out .exit) ≡ painted (f .width) (preparedTexel kind g component points (now (lines .entry)) seeds partitions f) (f .height * f .width) (now (out .entry))) ⌝ }
 {
     let row = g.width as usize;
     let columns = weight_grid::columns(f.across, g.width, f.width);

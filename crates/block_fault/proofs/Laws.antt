@@ -13,7 +13,7 @@ use Rattle.laws.specs.Choice.{pick, both}
 use Rattle.laws.specs.Table.{padded}
 use Rattle.bits.specs.Field.{field}
 use Rattle.bits.proofs.Fields.{field-lt}
-use Rattle.block_header.specs.Counts.{extraBits, componentBits, indexBits, selectorBits, weightBits}
+use Rattle.block_header.specs.Counts.{extraBits, componentBits, partitionIndexBits, selectorBits, weightBits}
 use Rattle.block_header.specs.declared.BlockHeader.{BlockHeader}
 use Rattle.block_mode.specs.declared.WeightGrid.{WeightGrid}
 use Rattle.laws.specs.Reasons.{firstOf}
@@ -91,7 +91,7 @@ component-le planes h = omega arith
 -- ---- the header, field by field
 
 pub made : (B : ℕ) (g : WeightGrid) (partitions selector : ℕ) {xw cw iw sw ww extra base component index : ℕ} {modes : List ℕ}
-    → xw ≡ extraBits partitions selector → cw ≡ componentBits (g .planes) → iw ≡ indexBits partitions → sw ≡ selectorBits partitions → ww ≡ weightBits g
+    → xw ≡ extraBits partitions selector → cw ≡ componentBits (g .planes) → iw ≡ partitionIndexBits partitions → sw ≡ selectorBits partitions → ww ≡ weightBits g
     → extra ≡ field B (128 - ww - xw) xw → base ≡ field B (13 + iw + sw) 4 → component ≡ field B (128 - ww - xw - cw) cw → index ≡ field B 13 iw
     → modes ≡ padded 4 partitions (modeOf partitions selector (extra * 16 + base)) 0
     → _≡_ {A = BlockHeader} (record { grid = g; component = component; partitions = partitions; index = index; selector = selector; modes = modes }) (headerWith B g partitions selector)

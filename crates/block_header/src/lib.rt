@@ -7,7 +7,7 @@ ghost use Rattle.laws.specs.Choice.{pick};
 ghost use Rattle.color_endpoint.specs.Table.{numberCount};
 ghost use Rattle.block_header.specs.Reasons.{someHdr, hdrRefused, gridFault, endpointFault};
 ghost use Rattle.block_header.specs.Stages.{stageOf, stageTold};
-ghost use Rattle.block_header.specs.Counts.{weightCount, weightBits, componentBits, indexBits, selectorBits, extraBits, endpointCount, bitsLeft, endpointRangeOf};
+ghost use Rattle.block_header.specs.Counts.{weightCount, weightBits, componentBits, partitionIndexBits, selectorBits, extraBits, endpointCount, bitsLeft, endpointRangeOf};
 
 // The settings of a block that is no void extent: 01's fields of a mode sheet, without its numbers.
 pub struct BlockHeader {
@@ -66,7 +66,7 @@ pub fn component_bits(planes: u8) -> u32
 }
 
 pub fn index_bits(partitions: u8) -> u32
-    ensures { λ r. ⌜ (r ≡ indexBits partitions) × (r ≤ 10) ⌝ }
+    ensures { λ r. ⌜ (r ≡ partitionIndexBits partitions) × (r ≤ 10) ⌝ }
 {
     if partitions == 1 { 0 } else { 10 }
 }

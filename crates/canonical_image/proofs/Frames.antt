@@ -33,16 +33,16 @@ use Rattle.image_layout.specs.Numbers.{blockBytes, blockAt, faultAt, faultAtIn,
 use Rattle.image_layout.specs.Geometry.{blockIndex}
 use Rattle.image_layout.proofs.Blocks.{sixteen, byte-of}
 use Rattle.image_layout.proofs.Independence.{index-in}
-use Rattle.canonical_image.specs.Frames.{byteOf, rewritten, frameRefusal}
+use Rattle.canonical_image.specs.Frames.{canonicalByte, canonicalBytes, canonicalRefusal}
 use Rattle.canonical_image.specs.Agreed.{Agreed, AgreedFrames}
 use Rattle.canonical_image.proofs.Laws.{accepted}
 
-opened-at : (fp : ℕ) (s : List ℕ) → rewritten fp s ≡ tab (byteOf fp s) (length s)
-unfolding rewritten
+opened-at : (fp : ℕ) (s : List ℕ) → canonicalBytes fp s ≡ tab (canonicalByte fp s) (length s)
+unfolding canonicalBytes
 opened-at fp s = refl
 
-length-rewritten : (fp : ℕ) (s : List ℕ) → length (rewritten fp s) ≡ length s
-length-rewritten fp s = ap length (opened-at fp s) ∙ length-tab (byteOf fp s) (length s)
+length-rewritten : (fp : ℕ) (s : List ℕ) → length (canonicalBytes fp s) ≡ length s
+length-rewritten fp s = ap length (opened-at fp s) ∙ length-tab (canonicalByte fp s) (length s)
 
 -- the strict reading of the canonical form shows what the ordinary one shows of the block
 shown : (fp B : ℕ) → fp ≤ 23 → (kind : Kind) (x y z : ℕ) → texelIn Strict fp kind (canonicalIn fp B) x y z ≡ blockTexel fp kind B x y z
@@ -65,45 +65,45 @@ module _ (fp : ℕ) (low : fp ≤ 23) (s : List ℕ) (small : Bytes s) where
     unfolding blockAt
     fits = subst (λ (n : ℕ). numberOf (blockBytes s b) < 2 ^ (8 * n)) (sixteen s b room) (number-lt (blockBytes s b) each)
 
-    still : 16 * b + 16 ≤ length (rewritten fp s)
-    unfolding rewritten
-    still = omega (arith, room, length-tab (byteOf fp s) (length s))
+    still : 16 * b + 16 ≤ length (canonicalBytes fp s)
+    unfolding canonicalBytes
+    still = omega (arith, room, length-tab (canonicalByte fp s) (length s))
 
     -- a block's bytes are those of its canonical form
-    form-bytes : blockBytes (rewritten fp s) b ≡ bytesOf 16 (canonicalIn fp (blockAt s b))
-    unfolding rewritten byteOf bytesOf
+    form-bytes : blockBytes (canonicalBytes fp s) b ≡ bytesOf 16 (canonicalIn fp (blockAt s b))
+    unfolding canonicalBytes canonicalByte bytesOf
     form-bytes =
-        ext-getD 0 (blockBytes (rewritten fp s) b) (bytesOf 16 (canonicalIn fp (blockAt s b))) (sixteen (rewritten fp s) b still ∙ sym (bytes-length 16 (canonicalIn fp (blockAt s b))))
+        ext-getD 0 (blockBytes (canonicalBytes fp s) b) (bytesOf 16 (canonicalIn fp (blockAt s b))) (sixteen (canonicalBytes fp s) b still ∙ sym (bytes-length 16 (canonicalIn fp (blockAt s b))))
         (λ i l.
-        let m : i < 16 = subst (λ (n : ℕ). i < n) (sixteen (rewritten fp s) b still) l in
+        let m : i < 16 = subst (λ (n : ℕ). i < n) (sixteen (canonicalBytes fp s) b still) l in
         let d : (16 * b + i) / 16 ≡ b = omega arith in
         let o : (16 * b + i) % 16 ≡ i = omega arith in
-        byte-of (rewritten fp s) b still i m
-        ∙ getD-tab (byteOf fp s) (length s) (16 * b + i) 0 (omega (arith, room, m))
+        byte-of (canonicalBytes fp s) b still i m
+        ∙ getD-tab (canonicalByte fp s) (length s) (16 * b + i) 0 (omega (arith, room, m))
         ∙ rw (d, o) (sym (getD-tab (λ k. field (canonicalIn fp (blockAt s b)) (8 * k) 8) 16 i 0 m)))
 
-    form-is : blockAt (rewritten fp s) b ≡ canonicalIn fp (blockAt s b)
+    form-is : blockAt (canonicalBytes fp s) b ≡ canonicalIn fp (blockAt s b)
     unfolding blockAt
     form-is = ap numberOf form-bytes ∙ number-bytes 16 (canonicalIn fp (blockAt s b)) ∙ mod-eq-of-lt (canonical-form fp (blockAt s b) low .fits fits)
 
-    kept : (faultOf true fp (blockAt s b) ≡ 0 → ⊥) → blockBytes (rewritten fp s) b ≡ blockBytes s b
+    kept : (faultOf true fp (blockAt s b) ≡ 0 → ⊥) → blockBytes (canonicalBytes fp s) b ≡ blockBytes s b
     unfolding blockAt
     kept n =
         form-bytes ∙ ap (bytesOf 16) (canonical-form fp (blockAt s b) low .faulty-kept n)
         ∙ subst (λ (k : ℕ). bytesOf k (numberOf (blockBytes s b)) ≡ blockBytes s b) (sixteen s b room) (bytes-number (blockBytes s b) each)
 
-  settled : (n : ℕ) → length s ≡ 16 * n → rewritten fp (rewritten fp s) ≡ rewritten fp s
-  unfolding byteOf
+  settled : (n : ℕ) → length s ≡ 16 * n → canonicalBytes fp (canonicalBytes fp s) ≡ canonicalBytes fp s
+  unfolding canonicalByte
   settled n e = again ∙ opened where
-    long : length (rewritten fp s) ≡ length s
+    long : length (canonicalBytes fp s) ≡ length s
     long = length-rewritten fp s
 
-    again : rewritten fp (rewritten fp s) ≡ tab (byteOf fp (rewritten fp s)) (length s)
-    again = opened-at fp (rewritten fp s) ∙ ap (tab (byteOf fp (rewritten fp s))) long
+    again : canonicalBytes fp (canonicalBytes fp s) ≡ tab (canonicalByte fp (canonicalBytes fp s)) (length s)
+    again = opened-at fp (canonicalBytes fp s) ∙ ap (tab (canonicalByte fp (canonicalBytes fp s))) long
 
-    opened : tab (byteOf fp (rewritten fp s)) (length s) ≡ rewritten fp s
+    opened : tab (canonicalByte fp (canonicalBytes fp s)) (length s) ≡ canonicalBytes fp s
     opened =
-        tab-ext (byteOf fp (rewritten fp s)) (byteOf fp s) 0 (length s)
+        tab-ext (canonicalByte fp (canonicalBytes fp s)) (canonicalByte fp s) 0 (length s)
         (λ k h.
         let r : 16 * (k / 16) + 16 ≤ length s = omega (arith, h, e) in
         ap (λ (B : ℕ). field (canonicalIn fp B) (8 * (k % 16)) 8) (form-is (k / 16) r)
@@ -117,11 +117,11 @@ module _ (fp w h : ℕ) (low : fp ≤ 13) (s : List ℕ) (small : Bytes s) (exac
   room : (b : ℕ) → b < blocksOf fp w h → 16 * b + 16 ≤ length s
   room b l = omega (arith, l, exact)
 
-  passes : (kind : Kind) (b : ℕ) → b < blocksOf fp w h → faultAtIn Strict fp kind (rewritten fp s) b ≡ faultAt fp kind s b
+  passes : (kind : Kind) (b : ℕ) → b < blocksOf fp w h → faultAtIn Strict fp kind (canonicalBytes fp s) b ≡ faultAt fp kind s b
   unfolding faultAtIn
   passes kind b l = ap (strictFault (takesHdr kind) fp) (form-is fp known s small b (room b l)) ∙ canonical-form fp (blockAt s b) known .passes (takesHdr kind)
 
-  same-shown : (kind : Kind) (x y c : ℕ) → x < w → y < h → imageNumberAtIn Strict fp kind w (rewritten fp s) x y c ≡ imageNumberAt fp kind w s x y c
+  same-shown : (kind : Kind) (x y c : ℕ) → x < w → y < h → imageNumberAtIn Strict fp kind w (canonicalBytes fp s) x y c ≡ imageNumberAt fp kind w s x y c
   unfolding imageNumberAtIn numberAtIn
   same-shown kind x y c hx hy =
       let i : ℕ = blockIndex fp w x y in

@@ -33,7 +33,7 @@ use Rattle.image_layout.specs.Geometry.{imageGrid}
 use Rattle.image_layout.proofs.Calls.{sound, sizes}
 use Rattle.image_layout.proofs.Independence.{same-bytes}
 use Rattle.image_layout.proofs.Tallies.{tally-start, tally-more}
-use Rattle.canonical_image.specs.Frames.{oneRefusal, oneAnswer, oneOut, byteOf, rewritten, frameRefusal, frameAnswer, frameOut}
+use Rattle.canonical_image.specs.Frames.{oneRefusal, oneAnswer, oneOut, canonicalByte, canonicalBytes, canonicalRefusal, canonicalAnswer, canonicalOut}
 
 -- ---- refusals of one block
 
@@ -83,8 +83,8 @@ module _ (fp : ℕ) (s old : List ℕ) where
 -- ---- refusals of an image
 
 module _ (fp w h bytes places : ℕ) where
-  pub frame-size : (n : ℕ) → n ≡ sizeRefusal fp w h → (n ≡ 0 → ⊥) → n ≡ frameRefusal fp w h bytes places
-  unfolding frameRefusal sizeRefusal
+  pub frame-size : (n : ℕ) → n ≡ sizeRefusal fp w h → (n ≡ 0 → ⊥) → n ≡ canonicalRefusal fp w h bytes places
+  unfolding canonicalRefusal sizeRefusal
   frame-size n e k = go (ltb 13 fp) (either (badSide w) (badSide h)) e where
     go : (a b : Bool) → n ≡ pick a 1 (pick b 3 0) → n ≡ pick a 1 (pick b 3 (pick (not (eqb bytes (16 * blocksOf fp w h))) 4 (pick (not (eqb places bytes)) 5 0)))
     go true b q = q
@@ -95,17 +95,17 @@ module _ (fp w h bytes places : ℕ) where
     sides : either (badSide w) (badSide h) ≡ false
     sides = none-either (badSide w) (badSide h) (sized fp w h z .wide) (sized fp w h z .high)
 
-    pub frame-4 : (bytes ≡ 16 * blocksOf fp w h → ⊥) → 4 ≡ frameRefusal fp w h bytes places
-    unfolding frameRefusal
+    pub frame-4 : (bytes ≡ 16 * blocksOf fp w h → ⊥) → 4 ≡ canonicalRefusal fp w h bytes places
+    unfolding canonicalRefusal
     frame-4 n = rw (le-ltb _ _ (sized fp w h z .footprint), sides, ne-eqb _ _ n)
 
     module _ (b : bytes ≡ 16 * blocksOf fp w h) where
-      pub frame-5 : (places ≡ bytes → ⊥) → 5 ≡ frameRefusal fp w h bytes places
-      unfolding frameRefusal
+      pub frame-5 : (places ≡ bytes → ⊥) → 5 ≡ canonicalRefusal fp w h bytes places
+      unfolding canonicalRefusal
       frame-5 n = rw (le-ltb _ _ (sized fp w h z .footprint), sides, eq-eqb bytes (16 * blocksOf fp w h) b, ne-eqb places bytes n)
 
-      pub frame-none : places ≡ bytes → 0 ≡ frameRefusal fp w h bytes places
-      unfolding frameRefusal
+      pub frame-none : places ≡ bytes → 0 ≡ canonicalRefusal fp w h bytes places
+      unfolding canonicalRefusal
       frame-none p = rw (le-ltb _ _ (sized fp w h z .footprint), sides, eq-eqb bytes (16 * blocksOf fp w h) b, eq-eqb places bytes p)
 
 -- what is known of a call that is not refused
@@ -116,8 +116,8 @@ pub record Accepted (fp w h bytes places : ℕ) : Type 0 where
   pub exact-bytes : bytes ≡ 16 * blocksOf fp w h
   pub room : places ≡ bytes
 
-pub accepted : (fp w h bytes places : ℕ) → frameRefusal fp w h bytes places ≡ 0 → Accepted fp w h bytes places
-unfolding frameRefusal
+pub accepted : (fp w h bytes places : ℕ) → canonicalRefusal fp w h bytes places ≡ 0 → Accepted fp w h bytes places
+unfolding canonicalRefusal
 accepted fp w h bytes places e =
     go (ltb 13 fp) (badSide w) (badSide h) (eqb bytes (16 * blocksOf fp w h)) (eqb places bytes) refl refl refl refl refl e where
       go : (f a b c d : Bool) → ltb 13 fp ≡ f → badSide w ≡ a → badSide h ≡ b → eqb bytes (16 * blocksOf fp w h) ≡ c → eqb places bytes ≡ d
@@ -143,24 +143,24 @@ counted fp w h bytes places a =
     record { sixteens = omega (arith, a .exact-bytes); most = omega (arith, a .exact-bytes, m); count = omega (arith, a .exact-bytes) }
 
 module _ (fp w h : ℕ) (s old : List ℕ) where
-  pub frame-refused : (frameRefusal fp w h (length s) (length old) ≡ 0 → ⊥) → (n : ℕ) → n ≡ frameRefusal fp w h (length s) (length old)
-      → (Rejected n ≡ frameAnswer fp w h s (length old)) × (old ≡ frameOut fp w h s old)
-  unfolding frameAnswer frameOut
+  pub frame-refused : (canonicalRefusal fp w h (length s) (length old) ≡ 0 → ⊥) → (n : ℕ) → n ≡ canonicalRefusal fp w h (length s) (length old)
+      → (Rejected n ≡ canonicalAnswer fp w h s (length old)) × (old ≡ canonicalOut fp w h s old)
+  unfolding canonicalAnswer canonicalOut
   frame-refused k n e =
-      (ap Rejected e ∙ rw (ne-eqb (frameRefusal fp w h (length s) (length old)) 0 k), rw (ne-eqb (frameRefusal fp w h (length s) (length old)) 0 k))
+      (ap Rejected e ∙ rw (ne-eqb (canonicalRefusal fp w h (length s) (length old)) 0 k), rw (ne-eqb (canonicalRefusal fp w h (length s) (length old)) 0 k))
 
-  pub frame-done : frameRefusal fp w h (length s) (length old) ≡ 0 → (t : Tally) (new : List ℕ) → t ≡ tallyOf (faultAt fp Float16 s) (blocksOf fp w h)
-      → new ≡ rewritten fp s → (Decoded t ≡ frameAnswer fp w h s (length old)) × (new ≡ frameOut fp w h s old)
-  unfolding frameAnswer frameOut imageTallyIn
+  pub frame-done : canonicalRefusal fp w h (length s) (length old) ≡ 0 → (t : Tally) (new : List ℕ) → t ≡ tallyOf (faultAt fp Float16 s) (blocksOf fp w h)
+      → new ≡ canonicalBytes fp s → (Decoded t ≡ canonicalAnswer fp w h s (length old)) × (new ≡ canonicalOut fp w h s old)
+  unfolding canonicalAnswer canonicalOut imageTallyIn
   frame-done z t new e p =
-      (ap Decoded e ∙ rw (eq-eqb (frameRefusal fp w h (length s) (length old)) 0 z), p ∙ rw (eq-eqb (frameRefusal fp w h (length s) (length old)) 0 z))
+      (ap Decoded e ∙ rw (eq-eqb (canonicalRefusal fp w h (length s) (length old)) 0 z), p ∙ rw (eq-eqb (canonicalRefusal fp w h (length s) (length old)) 0 z))
 
 -- ---- block by block
 
 -- the first b blocks are rewritten, the others as they were
 pub record Rewriting (fp : ℕ) (s l : List ℕ) (t : Tally) (b : ℕ) : Type 0 where
   pub size : length l ≡ length s
-  pub done : (k : ℕ) → k < 16 * b → getD l k 0 ≡ byteOf fp s k
+  pub done : (k : ℕ) → k < 16 * b → getD l k 0 ≡ canonicalByte fp s k
   pub left : (k : ℕ) → 16 * b ≤ k → getD l k 0 ≡ getD s k 0
   pub tallied : t ≡ tallyOf (faultAt fp Float16 s) b
 
@@ -175,7 +175,7 @@ module _ (fp : ℕ) (s l : List ℕ) (t : Tally) (b : ℕ) (room : 16 * b + 16 �
 
   pub rewriting-more : (C : ℕ) → C ≡ canonicalIn fp (blockAt l b) → (bytes new : List ℕ) → bytes ≡ bytesOf 16 C → Put (16 * b) 16 bytes l new
       → (e : ℕ) → e ≡ faultOf true fp (blockAt l b) → (t′ : Tally) → t′ ≡ noted t b e → Rewriting fp s new t′ (b + 1)
-  unfolding byteOf bytesOf faultAtIn
+  unfolding canonicalByte bytesOf faultAtIn
   rewriting-more C c bytes new q p e f t′ n = record {
     size = p .size ∙ r .size;
     done = λ k h. elim (decLt k (16 * b)) [
@@ -197,7 +197,7 @@ module _ (fp : ℕ) (s l : List ℕ) (t : Tally) (b : ℕ) (room : 16 * b + 16 �
   }
 
 pub rewriting-done : (fp : ℕ) (s l : List ℕ) (t : Tally) (b n : ℕ) → length s ≡ 16 * n → n ≡ b → Rewriting fp s l t b
-    → (t ≡ tallyOf (faultAt fp Float16 s) n) × (l ≡ rewritten fp s)
-unfolding rewritten Filled
+    → (t ≡ tallyOf (faultAt fp Float16 s) n) × (l ≡ canonicalBytes fp s)
+unfolding canonicalBytes Filled
 rewriting-done fp s l t b n e m r =
-    (r .tallied ∙ ap (tallyOf (faultAt fp Float16 s)) (sym m), filled-all (byteOf fp s) 0 l (length s) (r .size) (λ k h. r .done k (omega (arith, h, e, m))))
+    (r .tallied ∙ ap (tallyOf (faultAt fp Float16 s)) (sym m), filled-all (canonicalByte fp s) 0 l (length s) (r .size) (λ k h. r .done k (omega (arith, h, e, m))))

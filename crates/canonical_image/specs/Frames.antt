@@ -40,15 +40,15 @@ oneOut fp s old = pick (eqb (oneRefusal fp (length s) (length old)) 0) (bytesOf 
 -- ---- all blocks of an image
 
 -- byte n of the blocks s rewritten: byte n % 16 of the canonical form of block n / 16
-unfoldable pub byteOf : ℕ → List ℕ → ℕ → ℕ
-byteOf fp s n = field (canonicalIn fp (blockAt s (n / 16))) (8 * (n % 16)) 8
+unfoldable pub canonicalByte : ℕ → List ℕ → ℕ → ℕ
+canonicalByte fp s n = field (canonicalIn fp (blockAt s (n / 16))) (8 * (n % 16)) 8
 
-unfoldable pub rewritten : ℕ → List ℕ → List ℕ
-rewritten fp s = tab (byteOf fp s) (length s)
+unfoldable pub canonicalBytes : ℕ → List ℕ → List ℕ
+canonicalBytes fp s = tab (canonicalByte fp s) (length s)
 
 -- 1, 3 and 4 as an image call, 5 where the result buffer is not of as many bytes as the blocks; 0 for none
-unfoldable pub frameRefusal : ℕ → ℕ → ℕ → ℕ → ℕ → ℕ
-frameRefusal fp w h bytes places =
+unfoldable pub canonicalRefusal : ℕ → ℕ → ℕ → ℕ → ℕ → ℕ
+canonicalRefusal fp w h bytes places =
     firstOf
     (when (ltb 13 fp) 1
     ∷ when (either (badSide w) (badSide h)) 3
@@ -57,11 +57,11 @@ frameRefusal fp w h bytes places =
     ∷ [])
 
 -- the answer tells the count of blocks with a fault, and the first one's raster index and fault
-unfoldable pub frameAnswer : ℕ → ℕ → ℕ → List ℕ → ℕ → ImageAnswer
-frameAnswer fp w h s places =
-    let e = frameRefusal fp w h (length s) places in
+unfoldable pub canonicalAnswer : ℕ → ℕ → ℕ → List ℕ → ℕ → ImageAnswer
+canonicalAnswer fp w h s places =
+    let e = canonicalRefusal fp w h (length s) places in
     pick (eqb e 0) (Decoded (imageTally fp Float16 w h s)) (Rejected e)
 
--- the result buffer, on a refusal what it held; rewriting in place the buffer is the blocks' own: `frameOut fp w h s s`
-unfoldable pub frameOut : ℕ → ℕ → ℕ → List ℕ → List ℕ → List ℕ
-frameOut fp w h s old = pick (eqb (frameRefusal fp w h (length s) (length old)) 0) (rewritten fp s) old
+-- the result buffer, on a refusal what it held; rewriting in place the buffer is the blocks' own: `canonicalOut fp w h s s`
+unfoldable pub canonicalOut : ℕ → ℕ → ℕ → List ℕ → List ℕ → List ℕ
+canonicalOut fp w h s old = pick (eqb (canonicalRefusal fp w h (length s) (length old)) 0) (canonicalBytes fp s) old

@@ -8,7 +8,7 @@ ghost use lib.ListN.{length};
 ghost use Rattle.interpolation.specs.declared.Kind.the-variants.{Float16};
 ghost use Rattle.image_layout.specs.Numbers.{faultAt};
 ghost use Rattle.image_layout.specs.Faulty.{tallyOf};
-ghost use Rattle.canonical_image.specs.Frames.{oneRefusal, oneAnswer, oneOut, rewritten, frameRefusal, frameAnswer, frameOut};
+ghost use Rattle.canonical_image.specs.Frames.{oneRefusal, oneAnswer, oneOut, canonicalBytes, canonicalRefusal, canonicalAnswer, canonicalOut};
 
 // The refusals of one block, 0 for none.
 fn one_refusal(fp: u8, bytes: usize, places: usize) -> u8
@@ -42,7 +42,7 @@ pub fn canonical_block(fp: u8, block: &[u8], out: &mut [u8]) -> Answer
 
 // The refusals of an image, 0 for none.
 pub fn frame_refusal(fp: u8, width: u32, height: u32, bytes: usize, places: usize) -> u8
-    ensures { λ r. ⌜ r ≡ frameRefusal fp width height bytes places ⌝ }
+    ensures { λ r. ⌜ r ≡ canonicalRefusal fp width height bytes places ⌝ }
 {
     let n = image_size::size_refusal(fp, width, height);
     if n != 0 {
@@ -75,7 +75,7 @@ fn rewrite(fp: u8, n: usize, blocks: &mut [u8]) -> Tally
     requires { ⌜ length (now blocks) ≡ 16 * n ⌝ }
     requires { ⌜ n ≤ 268435456 ⌝ }
     ensures { λ r. ⌜ r ≡ tallyOf (faultAt fp Float16 (now (blocks .entry))) n ⌝ }
-    ensures { λ r. ⌜ now (blocks .exit) ≡ rewritten fp (now (blocks .entry)) ⌝ }
+    ensures { λ r. ⌜ now (blocks .exit) ≡ canonicalBytes fp (now (blocks .entry)) ⌝ }
 {
     let mut t = Tally {
         count: 0,
@@ -100,8 +100,8 @@ pub fn canonical_frame(
     blocks: &[u8],
     out: &mut [u8],
 ) -> ImageAnswer
-    ensures { λ r. ⌜ r ≡ frameAnswer fp width height (now (blocks .entry)) (length (now (out .entry))) ⌝ }
-    ensures { λ r. ⌜ now (out .exit) ≡ frameOut fp width height (now (blocks .entry)) (now (out .entry)) ⌝ }
+    ensures { λ r. ⌜ r ≡ canonicalAnswer fp width height (now (blocks .entry)) (length (now (out .entry))) ⌝ }
+    ensures { λ r. ⌜ now (out .exit) ≡ canonicalOut fp width height (now (blocks .entry)) (now (out .entry)) ⌝ }
 {
     let n = frame_refusal(fp, width, height, blocks.len(), out.len());
     if n != 0 {
@@ -113,8 +113,8 @@ pub fn canonical_frame(
 
 // The blocks of an image in place.
 pub fn canonical_in_place(fp: u8, width: u32, height: u32, blocks: &mut [u8]) -> ImageAnswer
-    ensures { λ r. ⌜ r ≡ frameAnswer fp width height (now (blocks .entry)) (length (now (blocks .entry))) ⌝ }
-    ensures { λ r. ⌜ now (blocks .exit) ≡ frameOut fp width height (now (blocks .entry)) (now (blocks .entry)) ⌝ }
+    ensures { λ r. ⌜ r ≡ canonicalAnswer fp width height (now (blocks .entry)) (length (now (blocks .entry))) ⌝ }
+    ensures { λ r. ⌜ now (blocks .exit) ≡ canonicalOut fp width height (now (blocks .entry)) (now (blocks .entry)) ⌝ }
 {
     let n = frame_refusal(fp, width, height, blocks.len(), blocks.len());
     if n != 0 {

@@ -20,15 +20,15 @@ use Rattle.image_size.proofs.Laws.{limit-le, side-fine, sized, across-inside, a
 use Rattle.picture_regions.proofs.Covering.{below-row}
 use Rattle.footprint.specs.Footprint.{footprints, widthOf, heightOf}
 use Rattle.grey_caption.specs.Caption.{footprint, captionOf}
-use Rattle.caption_image.specs.Image.{imageRefusal, wantedAt, wantedOf, imageBlocks, imageOut, blockRefusal, blockOut}
+use Rattle.caption_image.specs.Image.{captionImageRefusal, wantedAt, wantedOf, captionBlocks, captionImageOut, captionBlockRefusal, captionBlockOut}
 use Rattle.caption_image.specs.inner.Places.{Lent}
 use Rattle.block_store.specs.inner.Places.{Put}
 
 -- ---- refusals
 
 module _ (w h bytes greys : ℕ) where
-  pub refused-3 : (sizeRefusal footprint w h ≡ 0 → ⊥) → 3 ≡ imageRefusal w h bytes greys
-  unfolding imageRefusal sizeRefusal
+  pub refused-3 : (sizeRefusal footprint w h ≡ 0 → ⊥) → 3 ≡ captionImageRefusal w h bytes greys
+  unfolding captionImageRefusal sizeRefusal
   refused-3 n = go (either (badSide w) (badSide h)) n where
     go : (b : Bool) → (_≡_ {A = ℕ} (pick b 3 0) 0 → ⊥) → _≡_ {A = ℕ} 3 (pick b 3 (pick (not (eqb bytes (16 * blocksOf footprint w h))) 4 (pick (not (eqb greys (h * w))) 5 0)))
     go true n = refl
@@ -38,17 +38,17 @@ module _ (w h bytes greys : ℕ) where
     sides : either (badSide w) (badSide h) ≡ false
     sides = none-either (badSide w) (badSide h) (sized footprint w h z .wide) (sized footprint w h z .high)
 
-    pub refused-4 : (bytes ≡ 16 * blocksOf footprint w h → ⊥) → 4 ≡ imageRefusal w h bytes greys
-    unfolding imageRefusal
+    pub refused-4 : (bytes ≡ 16 * blocksOf footprint w h → ⊥) → 4 ≡ captionImageRefusal w h bytes greys
+    unfolding captionImageRefusal
     refused-4 n = rw (sides, ne-eqb _ _ n)
 
     module _ (b : bytes ≡ 16 * blocksOf footprint w h) where
-      pub refused-5 : (greys ≡ h * w → ⊥) → 5 ≡ imageRefusal w h bytes greys
-      unfolding imageRefusal
+      pub refused-5 : (greys ≡ h * w → ⊥) → 5 ≡ captionImageRefusal w h bytes greys
+      unfolding captionImageRefusal
       refused-5 n = rw (sides, eq-eqb _ _ b, ne-eqb _ _ n)
 
-      pub refused-none : greys ≡ h * w → 0 ≡ imageRefusal w h bytes greys
-      unfolding imageRefusal
+      pub refused-none : greys ≡ h * w → 0 ≡ captionImageRefusal w h bytes greys
+      unfolding captionImageRefusal
       refused-none g = rw (sides, eq-eqb _ _ b, eq-eqb _ _ g)
 
 -- what is known of a call that is not refused
@@ -58,8 +58,8 @@ pub record Accepted (w h bytes greys : ℕ) : Type 0 where
   pub exact-bytes : bytes ≡ 16 * blocksOf footprint w h
   pub exact-greys : greys ≡ h * w
 
-pub accepted : (w h bytes greys : ℕ) → imageRefusal w h bytes greys ≡ 0 → Accepted w h bytes greys
-unfolding imageRefusal
+pub accepted : (w h bytes greys : ℕ) → captionImageRefusal w h bytes greys ≡ 0 → Accepted w h bytes greys
+unfolding captionImageRefusal
 accepted w h bytes greys e = go (badSide w) (badSide h) (eqb bytes (16 * blocksOf footprint w h)) (eqb greys (h * w)) refl refl refl refl e where
   go : (a b c d : Bool) → badSide w ≡ a → badSide h ≡ b → eqb bytes (16 * blocksOf footprint w h) ≡ c → eqb greys (h * w) ≡ d
       → _≡_ {A = ℕ} (pick (either a b) 3 (pick (not c) 4 (pick (not d) 5 0))) 0 → Accepted w h bytes greys
@@ -80,12 +80,12 @@ lent w h wanted a b e = record {
 
 -- the buffer after a call
 module _ (e0 e1 w h : ℕ) (wanted old : List ℕ) where
-  pub untouched : (imageRefusal w h (length old) (length wanted) ≡ 0 → ⊥) → old ≡ imageOut e0 e1 w h wanted old
-  unfolding imageOut
+  pub untouched : (captionImageRefusal w h (length old) (length wanted) ≡ 0 → ⊥) → old ≡ captionImageOut e0 e1 w h wanted old
+  unfolding captionImageOut
   untouched n = rw (ne-eqb _ _ n)
 
-  pub written : imageRefusal w h (length old) (length wanted) ≡ 0 → imageBlocks e0 e1 w h wanted ≡ imageOut e0 e1 w h wanted old
-  unfolding imageOut
+  pub written : captionImageRefusal w h (length old) (length wanted) ≡ 0 → captionBlocks e0 e1 w h wanted ≡ captionImageOut e0 e1 w h wanted old
+  unfolding captionImageOut
   written e = rw (eq-eqb _ _ e)
 
 -- ---- places
@@ -157,19 +157,19 @@ sixteen-greys wanted greys n e =
     let a : min (0 + k / 4) 3 * 4 + min (0 + k % 4) 3 ≡ k = omega arith in sym (ap (λ (j : ℕ). getD wanted j 0) a)))
 
 module _ (e0 e1 : ℕ) (wanted old : List ℕ) where
-  pub block-4 : (length old ≡ 16 → ⊥) → (4 ≡ blockRefusal (length old) (length wanted)) × (old ≡ blockOut e0 e1 wanted old)
-  unfolding blockRefusal blockOut
+  pub block-4 : (length old ≡ 16 → ⊥) → (4 ≡ captionBlockRefusal (length old) (length wanted)) × (old ≡ captionBlockOut e0 e1 wanted old)
+  unfolding captionBlockRefusal captionBlockOut
   block-4 n = (rw (ne-eqb _ _ n), rw (ne-eqb _ _ n))
 
   module _ (m : length old ≡ 16) where
-    pub block-5 : (length wanted ≡ 16 → ⊥) → (5 ≡ blockRefusal (length old) (length wanted)) × (old ≡ blockOut e0 e1 wanted old)
-    unfolding blockRefusal blockOut
+    pub block-5 : (length wanted ≡ 16 → ⊥) → (5 ≡ captionBlockRefusal (length old) (length wanted)) × (old ≡ captionBlockOut e0 e1 wanted old)
+    unfolding captionBlockRefusal captionBlockOut
     block-5 n = (rw (eq-eqb _ _ m, ne-eqb _ _ n), rw (eq-eqb _ _ m, ne-eqb _ _ n))
 
     pub block-done : {greys bytes new : List ℕ} → length wanted ≡ 16 → greys ≡ tab (λ i. wantedAt 4 4 wanted (0 + i % 4) (0 + i / 4)) 16
         → bytes ≡ captionOf e0 e1 greys → length bytes ≡ 16 → Put 0 16 bytes old new
-        → (0 ≡ blockRefusal (length old) (length wanted)) × (new ≡ blockOut e0 e1 wanted old)
-    unfolding blockRefusal blockOut
+        → (0 ≡ captionBlockRefusal (length old) (length wanted)) × (new ≡ captionBlockOut e0 e1 wanted old)
+    unfolding captionBlockRefusal captionBlockOut
     block-done {greys} {bytes} {new} n g b s p =
         (rw (eq-eqb _ _ m, eq-eqb _ _ n), rw (eq-eqb _ _ m, eq-eqb _ _ n) (whole ∙ b ∙ ap (captionOf e0 e1) (sixteen-greys wanted greys n g)))
       where

@@ -24,23 +24,23 @@ use Rattle.image_layout.proofs.Calls.{refused-none}
 use Rattle.image_layout.proofs.Independence.{index-in, own-block}
 use Rattle.block_reading.specs.declared.Reading.the-variants.{Ordinary}
 use Rattle.grey_caption.specs.Caption.{footprint, weightFor, captionOf}
-use Rattle.grey_caption.specs.Best.{shownBy, Shows}
+use Rattle.grey_caption.specs.Best.{shownBy, GreysShown}
 use Rattle.grey_caption.proofs.Demand.{chosen, shows}
-use Rattle.caption_image.specs.Image.{wantedAt, wantedOf, imageBlocks}
-use Rattle.caption_image.specs.Shown.{bestGrey, Shown}
+use Rattle.caption_image.specs.Image.{wantedAt, wantedOf, captionBlocks}
+use Rattle.caption_image.specs.Shown.{bestGrey, CaptionShown}
 use Rattle.caption_image.proofs.Laws.{byteAt}
 
 module _ (e0 e1 w h : ℕ) (wanted : List ℕ) where
-  blocks-length : length (imageBlocks e0 e1 w h wanted) ≡ 16 * blocksOf footprint w h
-  unfolding imageBlocks
+  blocks-length : length (captionBlocks e0 e1 w h wanted) ≡ 16 * blocksOf footprint w h
+  unfolding captionBlocks
   blocks-length = length-tab _ (16 * blocksOf footprint w h)
 
   -- block b is the caption of its own wanted greys
   block-is : (b : ℕ) → b < blocksOf footprint w h → length (captionOf e0 e1 (wantedOf w h wanted b)) ≡ 16
-      → blockBytes (imageBlocks e0 e1 w h wanted) b ≡ captionOf e0 e1 (wantedOf w h wanted b)
-  unfolding imageBlocks
+      → blockBytes (captionBlocks e0 e1 w h wanted) b ≡ captionOf e0 e1 (wantedOf w h wanted b)
+  unfolding captionBlocks
   block-is b l n =
-      let s = imageBlocks e0 e1 w h wanted in
+      let s = captionBlocks e0 e1 w h wanted in
       let k : 16 * b + 16 ≤ length s = omega (arith, blocks-length) in
       ext-getD 0 (blockBytes s b) (captionOf e0 e1 (wantedOf w h wanted b)) (sixteen s b k ∙ sym n)
       (λ i m. let j : i < 16 = subst (λ (x : ℕ). i < x) (sixteen s b k) m in
@@ -65,7 +65,7 @@ module _ (e0 e1 w h : ℕ) (wanted : List ℕ) where
         ∙ rw (a, b, quotient (y / 4) across (x / 4) l, remainder (y / 4) across (x / 4) l, c, d, e, f)
 
     module _ (h0 : e0 ≤ 255) (h1 : e1 ≤ 255) (wide : badSide w ≡ false) (high : badSide h ≡ false) (old : List ℕ) (size : length old ≡ 4 * (h * w)) where
-      taken : layout.imageRefusal footprint w h (length (imageBlocks e0 e1 w h wanted)) (length old) ≡ 0
+      taken : layout.imageRefusal footprint w h (length (captionBlocks e0 e1 w h wanted)) (length old) ≡ 0
       taken = refused-none footprint w h _ _ (omega arith) wide high blocks-length size
 
       -- 64 bytes for a block
@@ -82,20 +82,20 @@ module _ (e0 e1 w h : ℕ) (wanted : List ℕ) where
       room-size : length room ≡ 64
       room-size = length-tab (λ k. 0) 64
 
-      caption-shows : Shows e0 e1 weights room
+      caption-shows : GreysShown e0 e1 weights room
       caption-shows = shows e0 e1 h0 h1 weights (chosen e0 e1 h0 h1 (wantedOf w h wanted index)) room room-size
 
       texel : (c : ℕ) → c < 4
-          → getD (layout.imageOut footprint Srgb8 w h (imageBlocks e0 e1 w h wanted) old) (place w x y c) 0
+          → getD (layout.imageOut footprint Srgb8 w h (captionBlocks e0 e1 w h wanted) old) (place w x y c) 0
           ≡ getD (bestGrey e0 e1 (getD wanted (y * w + x) 0) ∷ bestGrey e0 e1 (getD wanted (y * w + x) 0) ∷ bestGrey e0 e1 (getD wanted (y * w + x) 0) ∷ 255 ∷ []) c 0
       unfolding texelsOf widthOf heightOf depthOf footprints captionOf weightFor
       texel c l =
           let i = 4 * (y % 4) + x % 4 in
           let a : place 4 (x % 4) (y % 4) c ≡ 4 * i + c = omega arith in
-          own-block Ordinary footprint Srgb8 w h x y c hx hy l .image-texel (imageBlocks e0 e1 w h wanted) old room taken room-size
+          own-block Ordinary footprint Srgb8 w h x y c hx hy l .image-texel (captionBlocks e0 e1 w h wanted) old room taken room-size
           ∙ ap₂ (λ (b : List ℕ) (k : ℕ). getD (shownBy room b) k 0) (block-is index (index-in footprint Srgb8 w h x y c hx hy l (omega arith)) (caption-shows .sixteen)) a
           ∙ caption-shows .texel i c (omega arith) l
           ∙ ap (λ (n : ℕ). getD (bestGrey e0 e1 n ∷ bestGrey e0 e1 n ∷ bestGrey e0 e1 n ∷ 255 ∷ []) c 0) wanted-is
 
-      pub shown : Shown e0 e1 w h wanted old x y
+      pub shown : CaptionShown e0 e1 w h wanted old x y
       shown = record { taken = taken; texel = texel }

@@ -13,8 +13,8 @@ use Rattle.grey_caption.specs.Caption.{footprint, captionOf}
 
 -- 01, "Numbers told to the caller", of a call that is lent so many bytes for blocks and so many wanted greys: 3 "a picture side is 0 or above"
 -- the limit; 4 "block bytes not exactly 16 for each block"; 5 wanted greys not exactly one for each texel. 0 for none.
-unfoldable pub imageRefusal : ℕ → ℕ → ℕ → ℕ → ℕ
-imageRefusal w h bytes greys =
+unfoldable pub captionImageRefusal : ℕ → ℕ → ℕ → ℕ → ℕ
+captionImageRefusal w h bytes greys =
     firstOf
     (when (either (badSide w) (badSide h)) 3
     ∷ when (not (eqb bytes (16 * blocksOf footprint w h))) 4
@@ -37,21 +37,21 @@ wantedOf w h wanted b =
     tab (λ i. wantedAt w h wanted (4 * (b % across) + i % 4) (4 * (b / across) + i / 4)) 16
 
 -- all blocks, sixteen bytes each: each one the caption of its own wanted greys
-unfoldable pub imageBlocks : ℕ → ℕ → ℕ → ℕ → List ℕ → List ℕ
+unfoldable pub captionBlocks : ℕ → ℕ → ℕ → ℕ → List ℕ → List ℕ
 unfolding tab wantedOf captionOf
-imageBlocks e0 e1 w h wanted = tab (λ n. getD (captionOf e0 e1 (wantedOf w h wanted (n / 16))) (n % 16) 0) (16 * blocksOf footprint w h)
+captionBlocks e0 e1 w h wanted = tab (λ n. getD (captionOf e0 e1 (wantedOf w h wanted (n / 16))) (n % 16) 0) (16 * blocksOf footprint w h)
 
 -- the lent blocks after the call: "nothing is written" on a refusal
-unfoldable pub imageOut : ℕ → ℕ → ℕ → ℕ → List ℕ → List ℕ → List ℕ
-unfolding imageBlocks imageRefusal
-imageOut e0 e1 w h wanted old = pick (eqb (imageRefusal w h (length old) (length wanted)) 0) (imageBlocks e0 e1 w h wanted) old
+unfoldable pub captionImageOut : ℕ → ℕ → ℕ → ℕ → List ℕ → List ℕ → List ℕ
+unfolding captionBlocks captionImageRefusal
+captionImageOut e0 e1 w h wanted old = pick (eqb (captionImageRefusal w h (length old) (length wanted)) 0) (captionBlocks e0 e1 w h wanted) old
 
 -- ---- one block over lent lists, for callers whose lists have their lengths at run time only
 
 -- 4 block bytes not exactly 16, 5 wanted greys not exactly 16; 0 for neither
-unfoldable pub blockRefusal : ℕ → ℕ → ℕ
-blockRefusal bytes greys = firstOf (when (not (eqb bytes 16)) 4 ∷ when (not (eqb greys 16)) 5 ∷ [])
+unfoldable pub captionBlockRefusal : ℕ → ℕ → ℕ
+captionBlockRefusal bytes greys = firstOf (when (not (eqb bytes 16)) 4 ∷ when (not (eqb greys 16)) 5 ∷ [])
 
-unfoldable pub blockOut : ℕ → ℕ → List ℕ → List ℕ → List ℕ
-unfolding captionOf blockRefusal
-blockOut e0 e1 wanted old = pick (eqb (blockRefusal (length old) (length wanted)) 0) (captionOf e0 e1 wanted) old
+unfoldable pub captionBlockOut : ℕ → ℕ → List ℕ → List ℕ → List ℕ
+unfolding captionOf captionBlockRefusal
+captionBlockOut e0 e1 wanted old = pick (eqb (captionBlockRefusal (length old) (length wanted)) 0) (captionOf e0 e1 wanted) old

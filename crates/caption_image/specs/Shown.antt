@@ -10,15 +10,15 @@ use Rattle.interpolation.specs.declared.Kind.the-variants.{Srgb8}
 use Rattle.image_layout.specs.Call.{imageRefusal, imageOut}
 use Rattle.picture_regions.specs.Picture.{place}
 use Rattle.grey_caption.specs.Caption.{footprint, greyOf, bestWeight}
-use Rattle.caption_image.specs.Image.{imageBlocks}
+use Rattle.caption_image.specs.Image.{captionBlocks}
 
 -- the best grey between the ends for a wanted one
 abbrev pub bestGrey : ℕ → ℕ → ℕ → ℕ
 bestGrey e0 e1 wanted = greyOf e0 e1 (bestWeight e0 e1 wanted)
 
 -- at column x of row y, both in the image, with sides that are not refused and ends that are bytes, whatever the 4 w h result bytes held
-pub record Shown (e0 e1 w h : ℕ) (wanted old : List ℕ) (x y : ℕ) : Type 0 where
-  pub taken : imageRefusal footprint w h (length (imageBlocks e0 e1 w h wanted)) (length old) ≡ 0
+pub record CaptionShown (e0 e1 w h : ℕ) (wanted old : List ℕ) (x y : ℕ) : Type 0 where
+  pub taken : imageRefusal footprint w h (length (captionBlocks e0 e1 w h wanted)) (length old) ≡ 0
   pub texel : (c : ℕ) → c < 4
-      → getD (imageOut footprint Srgb8 w h (imageBlocks e0 e1 w h wanted) old) (place w x y c) 0
+      → getD (imageOut footprint Srgb8 w h (captionBlocks e0 e1 w h wanted) old) (place w x y c) 0
       ≡ getD (bestGrey e0 e1 (getD wanted (y * w + x) 0) ∷ bestGrey e0 e1 (getD wanted (y * w + x) 0) ∷ bestGrey e0 e1 (getD wanted (y * w + x) 0) ∷ 255 ∷ []) c 0

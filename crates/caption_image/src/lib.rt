@@ -4,12 +4,12 @@ ghost use Prim.Native.Nat.{_+_, _*_, _/_, _%_, _≤_, _<_};
 ghost use lib.ListN.{length};
 ghost use Rattle.laws.specs.Table.{tab};
 ghost use Rattle.image_size.specs.Sides.{blocksAcross, blocksOf};
-ghost use Rattle.caption_image.specs.Image.{imageRefusal, nearest, wantedAt, imageBlocks, imageOut, blockRefusal, blockOut};
+ghost use Rattle.caption_image.specs.Image.{captionImageRefusal, nearest, wantedAt, captionBlocks, captionImageOut, captionBlockRefusal, captionBlockOut};
 ghost use Rattle.caption_image.specs.inner.Places.{Lent};
 
 // The refusals in their order, 0 for none.
 fn refusal(width: u32, height: u32, bytes: usize, greys: usize) -> u8
-    ensures { λ r. ⌜ r ≡ imageRefusal width height bytes greys ⌝ }
+    ensures { λ r. ⌜ r ≡ captionImageRefusal width height bytes greys ⌝ }
 {
     if image_size::size_refusal(0, width, height) != 0 {
         return 3;
@@ -62,7 +62,7 @@ fn fill(e0: u8, e1: u8, width: usize, height: usize, across: usize, wanted: &[u8
     requires { ⌜ Lent width height (now wanted) ⌝ }
     requires { ⌜ across ≡ blocksAcross width 4 ⌝ }
     requires { ⌜ length (now out) ≡ 16 * blocksOf 0 width height ⌝ }
-    ensures { λ _. ⌜ now (out .exit) ≡ imageBlocks e0 e1 width height (now (wanted .entry)) ⌝ }
+    ensures { λ _. ⌜ now (out .exit) ≡ captionBlocks e0 e1 width height (now (wanted .entry)) ⌝ }
 {
     let n = out.len() / 16;
     let mut b: usize = 0;
@@ -82,8 +82,8 @@ pub fn caption_image(
     wanted: &[u8],
     blocks: &mut [u8],
 ) -> u8
-    ensures { λ r. ⌜ r ≡ imageRefusal width height (length (now (blocks .entry))) (length (now (wanted .entry))) ⌝ }
-    ensures { λ r. ⌜ now (blocks .exit) ≡ imageOut e0 e1 width height (now (wanted .entry)) (now (blocks .entry)) ⌝ }
+    ensures { λ r. ⌜ r ≡ captionImageRefusal width height (length (now (blocks .entry))) (length (now (wanted .entry))) ⌝ }
+    ensures { λ r. ⌜ now (blocks .exit) ≡ captionImageOut e0 e1 width height (now (wanted .entry)) (now (blocks .entry)) ⌝ }
 {
     let n = refusal(width, height, blocks.len(), wanted.len());
     if n != 0 {
@@ -104,8 +104,8 @@ pub fn caption_image(
 
 // One block over lent lists. Answers 4 or 5 where a list is not of sixteen, else 0.
 pub fn caption_into(e0: u8, e1: u8, wanted: &[u8], block: &mut [u8]) -> u8
-    ensures { λ r. ⌜ r ≡ blockRefusal (length (now (block .entry))) (length (now (wanted .entry))) ⌝ }
-    ensures { λ r. ⌜ now (block .exit) ≡ blockOut e0 e1 (now (wanted .entry)) (now (block .entry)) ⌝ }
+    ensures { λ r. ⌜ r ≡ captionBlockRefusal (length (now (block .entry))) (length (now (wanted .entry))) ⌝ }
+    ensures { λ r. ⌜ now (block .exit) ≡ captionBlockOut e0 e1 (now (wanted .entry)) (now (block .entry)) ⌝ }
 {
     if block.len() != 16 {
         return 4;

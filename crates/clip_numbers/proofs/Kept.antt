@@ -24,8 +24,8 @@ use Rattle.clip.specs.Step.{zeros, freshOf, isHanded, entered, quiet, over, ver
 use Rattle.clip.specs.Feed.{usedUp, fedBy, oneMore, goOn, feedIn, feedOf, finishNumber, finishOf}
 use Rattle.clip.proofs.Timely.{first}
 use Rattle.clip.proofs.Whole.{spelt-16}
-use Rattle.clip_numbers.specs.Numbers.{phaseNumber, phaseTold, numbersOf, phaseOf, frameOf, heldOf, clipOf}
-use Rattle.clip_numbers.specs.Kept.{Bytes, Kept}
+use Rattle.clip_numbers.specs.Numbers.{phaseNumber, phaseTold, stateNumbers, phaseOf, frameFrom, heldOf, clipOf}
+use Rattle.clip_numbers.specs.Kept.{Bytes, StateKept}
 
 -- ---- lists of bytes
 
@@ -173,7 +173,7 @@ small : (n : ℕ) → n % 256 < 256
 small n = mod-lt n (omega arith)
 
 fine-of : (s : List ℕ) → Fine (clipOf s)
-unfolding clipOf frameOf heldOf phaseOf tab
+unfolding clipOf frameFrom heldOf phaseOf tab
 fine-of s = record {
   have = small (getD s 2 0);
   size = length-tab (λ k. getD s (10 + k) 0 % 256) 16;
@@ -197,15 +197,15 @@ phase-back Header h = refl
 phase-back Blocks h = refl
 phase-back (Over n) h = ap Over (mod-eq-of-lt h)
 
-held-back : (c : Clip) → length (c .held) ≡ 16 → Bytes (c .held) → heldOf (numbersOf c) ≡ c .held
-unfolding heldOf numbersOf tab tabFrom first
+held-back : (c : Clip) → length (c .held) ≡ 16 → Bytes (c .held) → heldOf (stateNumbers c) ≡ c .held
+unfolding heldOf stateNumbers tab tabFrom first
 held-back c e h =
     let m : (k : ℕ) → getD (c .held) k 0 % 256 ≡ getD (c .held) k 0 = λ k. mod-eq-of-lt (byte-at (c .held) k h) in
     (λ t. m 0 t ∷ m 1 t ∷ m 2 t ∷ m 3 t ∷ m 4 t ∷ m 5 t ∷ m 6 t ∷ m 7 t ∷ m 8 t ∷ m 9 t ∷ m 10 t ∷ m 11 t ∷ m 12 t ∷ m 13 t ∷ m 14 t ∷ m 15 t ∷ [])
     ∙ sym (spelt-16 (c .held) e)
 
-back : (c : Clip) → Fine c → clipOf (numbersOf c) ≡ c
-unfolding clipOf frameOf numbersOf
+back : (c : Clip) → Fine c → clipOf (stateNumbers c) ≡ c
+unfolding clipOf frameFrom stateNumbers
 back c w = λ t. record {
   phase = phase-back (c .phase) (w .told) t;
   have = mod-eq-of-lt (w .have) t;
@@ -221,7 +221,7 @@ back c w = λ t. record {
   };
 }
 
-pub kept : Kept
+pub kept : StateKept
 kept = record {
   started = back freshOf (fine-empty Version 0 0 0 (freshOf .frame) (omega arith) (omega arith) (omega arith));
   fed = λ s p h. back (feedOf (clipOf s) p .clip) (fine-feed (clipOf s) p (fine-of s) h);

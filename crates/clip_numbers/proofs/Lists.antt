@@ -23,13 +23,13 @@ use Rattle.clip.specs.Feed.{feedIn, feedOf}
 use Rattle.clip.specs.Frames.{waits}
 use Rattle.clip.proofs.Timely.{first}
 use Rattle.clip.proofs.Whole.{spelt-16, wholeFed, whole-fed}
-use Rattle.clip_numbers.specs.Numbers.{phaseNumber, phaseTold, numbersOf, phaseOf, frameOf, heldOf, clipOf, blockNumbers, feedNumbers, eventNumber, feedRefusal, feedNumber, feedState, feedBlock, feedTold}
+use Rattle.clip_numbers.specs.Numbers.{phaseNumber, phaseTold, stateNumbers, phaseOf, frameFrom, heldOf, clipOf, handedNumbers, feedNumbers, eventNumber, feedRefusal, feedNumber, feedState, feedBlock, feedTold}
 
 pub numbers-spelt : (c : Clip) → length (c .held) ≡ 16
-    → numbersOf c
+    → stateNumbers c
     ≡ phaseNumber (c .phase) ∷ phaseTold (c .phase) ∷ c .have ∷ c .index ∷ c .block ∷ c .last
     ∷ c .frame .footprint ∷ c .frame .kind ∷ c .frame .width ∷ c .frame .height ∷ first 16 (c .held)
-unfolding numbersOf
+unfolding stateNumbers
 numbers-spelt c e = ap (λ (h : List ℕ). phaseNumber (c .phase) ∷ phaseTold (c .phase) ∷ c .have ∷ c .index ∷ c .block ∷ c .last ∷ c .frame .footprint ∷ c .frame .kind ∷ c .frame .width ∷ c .frame .height ∷ h) (spelt-16 (c .held) e)
 
 -- ---- a whole block
@@ -56,17 +56,17 @@ module _ (s p : List ℕ) (e0 : getD s 0 0 ≡ 2) (e2 : getD s 2 0 % 256 ≡ 0) 
   fed =
       ap (λ (q : Phase). feedIn q (clipOf s) p) (at-blocks s e0) ∙ whole-fed (clipOf s) p (at-blocks s e0) e2 (length-held s) l
 
-  pub whole-state : {next : List ℕ} → next ≡ numbersOf (past (waits (getD s 3 0) (getD s 4 0) (getD s 5 0) (frameOf s))) → next ≡ numbersOf (feedOf (clipOf s) p .clip)
+  pub whole-state : {next : List ℕ} → next ≡ stateNumbers (past (waits (getD s 3 0) (getD s 4 0) (getD s 5 0) (frameFrom s))) → next ≡ stateNumbers (feedOf (clipOf s) p .clip)
   unfolding past clipOf
-  whole-state e = e ∙ ap (λ (f : Fed). numbersOf (f .clip)) (sym fed)
+  whole-state e = e ∙ ap (λ (f : Fed). stateNumbers (f .clip)) (sym fed)
 
   pub whole-bytes : {b : List ℕ} → b ≡ take 16 p → b ≡ feedOf (clipOf s) p .block
   whole-bytes e = e ∙ ap (λ (f : Fed). f .block) (sym fed)
 
-  pub whole-told : {t : List ℕ} → t ≡ 16 ∷ blockNumbers (Block (getD s 3 0) (getD s 4 0)) (frameOf s) → t ≡ feedNumbers (feedOf (clipOf s) p)
+  pub whole-told : {t : List ℕ} → t ≡ 16 ∷ handedNumbers (Block (getD s 3 0) (getD s 4 0)) (frameFrom s) → t ≡ feedNumbers (feedOf (clipOf s) p)
   unfolding feedNumbers clipOf
   whole-told e =
-      e ∙ ap (λ (f : Frame). 16 ∷ blockNumbers (Block (getD s 3 0) (getD s 4 0)) f) (sym (past-frame (clipOf s))) ∙ ap feedNumbers (sym fed)
+      e ∙ ap (λ (f : Frame). 16 ∷ handedNumbers (Block (getD s 3 0) (getD s 4 0)) f) (sym (past-frame (clipOf s))) ∙ ap feedNumbers (sym fed)
 
   pub whole-number : 0 ≡ eventNumber (feedOf (clipOf s) p .event)
   whole-number = ap (λ (f : Fed). eventNumber (f .event)) (sym fed)
@@ -108,7 +108,7 @@ module _ (s p block told : List ℕ) {r : ℕ} (er : r ≡ feedRefusal (length s
     unfolding feedNumber
     fed-number e = rw yes-fed e
 
-    pub fed-state : {l : List ℕ} → l ≡ numbersOf (feedOf (clipOf s) p .clip) → l ≡ feedState s p block told
+    pub fed-state : {l : List ℕ} → l ≡ stateNumbers (feedOf (clipOf s) p .clip) → l ≡ feedState s p block told
     unfolding feedState
     fed-state e = rw yes-fed e
 

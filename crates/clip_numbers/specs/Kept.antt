@@ -6,7 +6,7 @@ use mathlib.Core.Path.{_≡_}
 use mathlib.Core.List.{List, [], _∷_}
 use Rattle.clip.specs.Step.{freshOf}
 use Rattle.clip.specs.Feed.{feedOf, finishOf}
-use Rattle.clip_numbers.specs.Numbers.{numbersOf, clipOf}
+use Rattle.clip_numbers.specs.Numbers.{stateNumbers, clipOf}
 
 -- a list of bytes
 abbrev pub Bytes : List ℕ → Type 0
@@ -14,7 +14,7 @@ Bytes [] = Unit {0}
 Bytes (b ∷ s) = (b < 256) × Bytes s
 
 -- Theorem: proofs/Kept.antt, `kept`.
-pub record Kept : Type 0 where
-  pub started : clipOf (numbersOf freshOf) ≡ freshOf
-  pub fed : (s p : List ℕ) → Bytes p → clipOf (numbersOf (feedOf (clipOf s) p .clip)) ≡ feedOf (clipOf s) p .clip
-  pub finished : (s : List ℕ) → clipOf (numbersOf (finishOf (clipOf s) .clip)) ≡ finishOf (clipOf s) .clip
+pub record StateKept : Type 0 where
+  pub started : clipOf (stateNumbers freshOf) ≡ freshOf
+  pub fed : (s p : List ℕ) → Bytes p → clipOf (stateNumbers (feedOf (clipOf s) p .clip)) ≡ feedOf (clipOf s) p .clip
+  pub finished : (s : List ℕ) → clipOf (stateNumbers (finishOf (clipOf s) .clip)) ≡ finishOf (clipOf s) .clip

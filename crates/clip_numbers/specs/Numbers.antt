@@ -33,8 +33,8 @@ phaseTold Header = 0
 phaseTold Blocks = 0
 phaseTold (Over n) = n
 
-unfoldable pub numbersOf : Clip → List ℕ
-numbersOf c =
+unfoldable pub stateNumbers : Clip → List ℕ
+stateNumbers c =
     phaseNumber (c .phase) ∷ phaseTold (c .phase) ∷ c .have ∷ c .index ∷ c .block ∷ c .last
     ∷ c .frame .footprint ∷ c .frame .kind ∷ c .frame .width ∷ c .frame .height ∷ c .held
 
@@ -42,8 +42,8 @@ numbersOf c =
 unfoldable pub phaseOf : ℕ → ℕ → Phase
 phaseOf n told = pick (eqb n 0) Version (pick (eqb n 1) Header (pick (eqb n 2) Blocks (Over (told % 256))))
 
-unfoldable pub frameOf : List ℕ → Frame
-frameOf s = record { footprint = getD s 6 0 % 256; kind = getD s 7 0 % 256; width = getD s 8 0; height = getD s 9 0 }
+unfoldable pub frameFrom : List ℕ → Frame
+frameFrom s = record { footprint = getD s 6 0 % 256; kind = getD s 7 0 % 256; width = getD s 8 0; height = getD s 9 0 }
 
 unfoldable pub heldOf : List ℕ → List ℕ
 heldOf s = tab (λ k. getD s (10 + k) 0 % 256) 16
@@ -56,19 +56,19 @@ clipOf s = record {
   index = getD s 3 0;
   block = getD s 4 0;
   last = getD s 5 0;
-  frame = frameOf s;
+  frame = frameFrom s;
 }
 
 -- ---- what a feed tells as 8 numbers: bytes taken, 1 where a block is handed out, else 0, its frame's index and its own, and the footprint,
 -- kind, width and height of the frame last begun, which is the block's
 
-abbrev pub blockNumbers : Event → Frame → List ℕ
-blockNumbers Nothing f = 0 ∷ 0 ∷ 0 ∷ f .footprint ∷ f .kind ∷ f .width ∷ f .height ∷ []
-blockNumbers (Block i j) f = 1 ∷ i ∷ j ∷ f .footprint ∷ f .kind ∷ f .width ∷ f .height ∷ []
-blockNumbers (Told n) f = 0 ∷ 0 ∷ 0 ∷ f .footprint ∷ f .kind ∷ f .width ∷ f .height ∷ []
+abbrev pub handedNumbers : Event → Frame → List ℕ
+handedNumbers Nothing f = 0 ∷ 0 ∷ 0 ∷ f .footprint ∷ f .kind ∷ f .width ∷ f .height ∷ []
+handedNumbers (Block i j) f = 1 ∷ i ∷ j ∷ f .footprint ∷ f .kind ∷ f .width ∷ f .height ∷ []
+handedNumbers (Told n) f = 0 ∷ 0 ∷ 0 ∷ f .footprint ∷ f .kind ∷ f .width ∷ f .height ∷ []
 
 unfoldable pub feedNumbers : Fed → List ℕ
-feedNumbers f = f .taken ∷ blockNumbers (f .event) (f .clip .frame)
+feedNumbers f = f .taken ∷ handedNumbers (f .event) (f .clip .frame)
 
 -- the number told, 0 for none
 abbrev pub eventNumber : Event → ℕ
@@ -82,7 +82,7 @@ unfoldable pub startNumber : ℕ → ℕ
 startNumber n = firstOf (when (not (eqb n 26)) 5 ∷ [])
 
 unfoldable pub startState : List ℕ → List ℕ
-startState s = pick (eqb (length s) 26) (numbersOf freshOf) s
+startState s = pick (eqb (length s) 26) (stateNumbers freshOf) s
 
 -- of lists of so many numbers
 unfoldable pub feedRefusal : ℕ → ℕ → ℕ → ℕ
@@ -97,7 +97,7 @@ module _ (s p block told : List ℕ) where
   feedNumber = pick (eqb refusedBy 0) (eventNumber (feedOf (clipOf s) p .event)) refusedBy
 
   unfoldable pub feedState : List ℕ
-  feedState = pick (eqb refusedBy 0) (numbersOf (feedOf (clipOf s) p .clip)) s
+  feedState = pick (eqb refusedBy 0) (stateNumbers (feedOf (clipOf s) p .clip)) s
 
   unfoldable pub feedBlock : List ℕ
   feedBlock = pick (eqb refusedBy 0) (feedOf (clipOf s) p .block) block
@@ -109,4 +109,4 @@ unfoldable pub finishNumbered : List ℕ → ℕ
 finishNumbered s = pick (eqb (length s) 26) (finishOf (clipOf s) .number) 5
 
 unfoldable pub finishState : List ℕ → List ℕ
-finishState s = pick (eqb (length s) 26) (numbersOf (finishOf (clipOf s) .clip)) s
+finishState s = pick (eqb (length s) 26) (stateNumbers (finishOf (clipOf s) .clip)) s

@@ -15,7 +15,7 @@ ghost use Rattle.clip.specs.declared.Event.the-variants.{Nothing, Block};
 ghost use Rattle.clip.specs.Step.{past};
 ghost use Rattle.clip.specs.Frames.{waits};
 ghost use Rattle.clip.specs.Feed.{feedOf};
-ghost use Rattle.clip_numbers.specs.Numbers.{phaseNumber, phaseTold, numbersOf, phaseOf, frameOf, heldOf, clipOf, blockNumbers, feedNumbers, eventNumber, startNumber, startState, feedRefusal, feedNumber, feedState, feedBlock, feedTold, finishNumbered, finishState};
+ghost use Rattle.clip_numbers.specs.Numbers.{phaseNumber, phaseTold, stateNumbers, phaseOf, frameFrom, heldOf, clipOf, handedNumbers, feedNumbers, eventNumber, startNumber, startState, feedRefusal, feedNumber, feedState, feedBlock, feedTold, finishNumbered, finishState};
 
 // ---- a state from its numbers
 
@@ -42,7 +42,7 @@ fn phase_of(n: u32, told: u32) -> Phase
 
 fn frame_of(state: &[u32]) -> Frame
     requires { ⌜ length (now state) ≡ 26 ⌝ }
-    ensures { λ r. ⌜ r ≡ frameOf (now (state .entry)) ⌝ }
+    ensures { λ r. ⌜ r ≡ frameFrom (now (state .entry)) ⌝ }
 {
     Frame {
         footprint: low(state[6]),
@@ -111,7 +111,7 @@ fn phase_told(p: Phase) -> u32
 }
 
 fn numbers_of(c: Clip) -> [u32; 26]
-    ensures { λ r. ⌜ r ≡ numbersOf c ⌝ }
+    ensures { λ r. ⌜ r ≡ stateNumbers c ⌝ }
 {
     let p = c.phase;
     let f = c.frame;
@@ -173,7 +173,7 @@ fn put_told(from: [u64; 8], told: &mut [u64])
 // ---- what a feed tells
 
 fn block_told(taken: usize, index: u32, block: u32, f: Frame) -> [u64; 8]
-    ensures { λ r. ⌜ r ≡ taken ∷ blockNumbers (Block index block) f ⌝ }
+    ensures { λ r. ⌜ r ≡ taken ∷ handedNumbers (Block index block) f ⌝ }
 {
     [
         taken as u64,
@@ -188,7 +188,7 @@ fn block_told(taken: usize, index: u32, block: u32, f: Frame) -> [u64; 8]
 }
 
 fn nothing_told(taken: usize, f: Frame) -> [u64; 8]
-    ensures { λ r. ⌜ r ≡ taken ∷ blockNumbers Nothing f ⌝ }
+    ensures { λ r. ⌜ r ≡ taken ∷ handedNumbers Nothing f ⌝ }
 {
     [
         taken as u64,
@@ -203,7 +203,7 @@ fn nothing_told(taken: usize, f: Frame) -> [u64; 8]
 }
 
 fn event_told(taken: usize, e: Event, f: Frame) -> [u64; 8]
-    ensures { λ r. ⌜ r ≡ taken ∷ blockNumbers e f ⌝ }
+    ensures { λ r. ⌜ r ≡ taken ∷ handedNumbers e f ⌝ }
 {
     match e {
         Event::Nothing => nothing_told(taken, f),
@@ -226,7 +226,7 @@ fn number_in(e: Event) -> u8
 
 // The numbers of the state that follows.
 fn next_numbers(index: u32, block: u32, last: u32, f: Frame) -> [u32; 26]
-    ensures { λ r. ⌜ r ≡ numbersOf (past (waits index block last f)) ⌝ }
+    ensures { λ r. ⌜ r ≡ stateNumbers (past (waits index block last f)) ⌝ }
 {
     if block < last {
         [
@@ -292,7 +292,7 @@ fn next_numbers(index: u32, block: u32, last: u32, f: Frame) -> [u32; 26]
 fn whole_block(state: &mut [u32], piece: &[u8], block: &mut [u8], told: &mut [u64])
     requires { ⌜ (length (now state) ≡ 26) × (length (now block) ≡ 16) × (length (now told) ≡ 8) ⌝ }
     requires { ⌜ (getD (now state) 0 0 ≡ 2) × (getD (now state) 2 0 % 256 ≡ 0) × (16 ≤ length (now piece)) ⌝ }
-    ensures { λ r. ⌜ now (state .exit) ≡ numbersOf (feedOf (clipOf (now (state .entry))) (now (piece .entry)) .clip) ⌝ }
+    ensures { λ r. ⌜ now (state .exit) ≡ stateNumbers (feedOf (clipOf (now (state .entry))) (now (piece .entry)) .clip) ⌝ }
     ensures { λ r. ⌜ now (block .exit) ≡ feedOf (clipOf (now (state .entry))) (now (piece .entry)) .block ⌝ }
     ensures { λ r. ⌜ now (told .exit) ≡ feedNumbers (feedOf (clipOf (now (state .entry))) (now (piece .entry))) ⌝ }
     ensures { λ r. ⌜ 0 ≡ eventNumber (feedOf (clipOf (now (state .entry))) (now (piece .entry)) .event) ⌝ }
@@ -312,7 +312,7 @@ fn whole_block(state: &mut [u32], piece: &[u8], block: &mut [u8], told: &mut [u6
 fn feed_state(state: &mut [u32], piece: &[u8], block: &mut [u8], told: &mut [u64]) -> u8
     requires { ⌜ (length (now state) ≡ 26) × (length (now block) ≡ 16) × (length (now told) ≡ 8) ⌝ }
     ensures { λ r. ⌜ r ≡ eventNumber (feedOf (clipOf (now (state .entry))) (now (piece .entry)) .event) ⌝ }
-    ensures { λ r. ⌜ now (state .exit) ≡ numbersOf (feedOf (clipOf (now (state .entry))) (now (piece .entry)) .clip) ⌝ }
+    ensures { λ r. ⌜ now (state .exit) ≡ stateNumbers (feedOf (clipOf (now (state .entry))) (now (piece .entry)) .clip) ⌝ }
     ensures { λ r. ⌜ now (block .exit) ≡ feedOf (clipOf (now (state .entry))) (now (piece .entry)) .block ⌝ }
     ensures { λ r. ⌜ now (told .exit) ≡ feedNumbers (feedOf (clipOf (now (state .entry))) (now (piece .entry))) ⌝ }
 {

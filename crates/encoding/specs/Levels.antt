@@ -15,6 +15,6 @@ abbrev pub levelPair : ℕ → ℕ → LevelPair
 levelPair a b = record { 0 = a + 65536 * b }
 
 -- two bytes and nothing else, as unquantising makes it
-pub record Bytes (p : LevelPair) : Type 0 where
+pub record BytePair (p : LevelPair) : Type 0 where
   pub first : p .0 % 65536 ≤ 255
   pub second : p .0 / 65536 ≤ 255

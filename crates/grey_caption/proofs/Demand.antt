@@ -22,7 +22,7 @@ use Rattle.symbolic_reader.specs.Answers.{readingOf}
 use Rattle.round_trip.specs.Demand.{FineIn, roundTripOf, pictureNumbers, Kept}
 use Rattle.round_trip.proofs.Laws.{demanded}
 use Rattle.grey_caption.specs.Caption.{footprint, most, settings, sheetWith, blockWith, greyOf, squared, bestWeight, weightFor, captionOf}
-use Rattle.grey_caption.specs.Best.{Weights, shownBy, sumOf, differenceOf, Shows, Best, bitOf, Local, Placed}
+use Rattle.grey_caption.specs.Best.{Weights, shownBy, sumOf, differenceOf, GreysShown, Best, blockBit, Local, Placed}
 use Rattle.grey_caption.proofs.Sheets.{sized, weight-at, weight-past, accepted}
 use Rattle.grey_caption.proofs.Picture as picture
 use Rattle.grey_caption.proofs.Choice.{least-within, least-at, least-first, sum-ext, sum-le, sum-same}
@@ -68,7 +68,7 @@ module _ (e0 e1 : ℕ) (h0 : e0 ≤ 255) (h1 : e1 ≤ 255) where
         ∙ picture.number-is e0 e1 w h0 h1 (i % 4) (i / 4) c (omega arith) (omega arith) m
         ∙ ap (λ (n : ℕ). getD (greyOf e0 e1 (w n) ∷ greyOf e0 e1 (w n) ∷ greyOf e0 e1 (w n) ∷ 255 ∷ []) c 0) d
 
-    pub shows : Shows e0 e1 w old
+    pub shows : GreysShown e0 e1 w old
     unfolding roundTripOf blockWith
     shows = record {
       written = kept .written;
@@ -141,14 +141,14 @@ module _ (e0 e1 : ℕ) (h0 : e0 ≤ 255) (h1 : e1 ≤ 255) where
           ]
         ]
 
-    bits-same : (b : ℕ) → (b ≡ 127 - 2 * i → ⊥) → (b ≡ 126 - 2 * i → ⊥) → bitOf (blockWith e0 e1 v) b ≡ bitOf (blockWith e0 e1 w) b
+    bits-same : (b : ℕ) → (b ≡ 127 - 2 * i → ⊥) → (b ≡ 126 - 2 * i → ⊥) → blockBit (blockWith e0 e1 v) b ≡ blockBit (blockWith e0 e1 w) b
     bits-same b p q =
         ap (λ (n : ℕ). field n b 1) (number-is e0 e1 v h0 h1 hv)
         ∙ number-same b (λ j e. other-weight b j i e p q)
         ∙ sym (ap (λ (n : ℕ). field n b 1) (number-is e0 e1 w h0 h1 hw))
 
   -- a weight's bits
-  bit-at : (w : ℕ → ℕ) → Weights w → (i r : ℕ) → i < 16 → r < 2 → bitOf (blockWith e0 e1 w) (127 - (2 * i + r)) ≡ field (w i) r 1
+  bit-at : (w : ℕ → ℕ) → Weights w → (i r : ℕ) → i < 16 → r < 2 → blockBit (blockWith e0 e1 w) (127 - (2 * i + r)) ≡ field (w i) r 1
   bit-at w h i r l m =
       let a : (2 * i + r) / 2 ≡ i = omega arith in
       let b : (2 * i + r) % 2 ≡ r = omega arith in
@@ -162,8 +162,8 @@ module _ (e0 e1 : ℕ) (h0 : e0 ≤ 255) (h1 : e1 ≤ 255) where
       let b : 126 - 2 * i ≡ 127 - (2 * i + 1) = omega arith in
       let m : w i ≤ 3 = h i l in
       record {
-        low = ap (bitOf (blockWith e0 e1 w)) a ∙ bit-at w h i 0 l (omega arith) ∙ omega arith;
-        high = ap (bitOf (blockWith e0 e1 w)) b ∙ bit-at w h i 1 l (omega arith) ∙ omega arith;
+        low = ap (blockBit (blockWith e0 e1 w)) a ∙ bit-at w h i 0 l (omega arith) ∙ omega arith;
+        high = ap (blockBit (blockWith e0 e1 w)) b ∙ bit-at w h i 1 l (omega arith) ∙ omega arith;
       }
 
   module _ (i : ℕ) (wanted other : List ℕ) (same : (k : ℕ) → k < 16 → (k ≡ i → ⊥) → getD wanted k 0 ≡ getD other k 0) where

@@ -23,7 +23,7 @@ use Rattle.block_header.specs.Reasons.{gridTooLarge, tooManyWeights, weightBits
 use Rattle.color_endpoint.specs.Modes.{isHdr}
 use Rattle.block_header.specs.Counts.{weightCount, weightBits, componentBits, extraBits, endpointCount, bitsLeft, endpointRangeOf}
 use Rattle.symbolic_block.specs.Fields.{headerOf, endpointIn, weightIn, Sized}
-use Rattle.symbolic_block.specs.Refusals.{within, unknownFootprint, badMark, badHdr, badWidth, badHeight, badDepth, badRange, badPlanes, badComponent, badPartitions, badIndex, badSelector, badModes, someInUse, noBlockMode, modesMisfit, badEndpoints, badWeights, markedWithout, modeRefusals, Acceptable}
+use Rattle.symbolic_block.specs.Refusals.{within, unknownFootprint, badMark, badHdr, badWidth, badHeight, badGridDepth, badRange, badPlanes, badComponent, badPartitions, badIndex, badSelector, badModes, someInUse, noBlockMode, modesMisfit, badEndpoints, badWeights, markedWithout, modeRefusals, Acceptable}
 use Rattle.symbolic_block.specs.Reading.{modeBlock}
 use Rattle.symbolic_block.proofs.Lists.{is-within, all-within, stored-at}
 use Rattle.symbolic_block.proofs.Opened.{refusal-is, refusals-mode}
@@ -99,7 +99,7 @@ module _ (e0 e1 : ℕ) (w : ℕ → ℕ) where
     weights-fine = is-within (within 64 16 3 (weightIn (sheetWith e0 e1 w))) weights-in
 
     pub none : None (modeRefusals footprint (sheetWith e0 e1 w))
-    unfolding modeRefusals unknownFootprint badMark badHdr badWidth badHeight badDepth badRange badPlanes badComponent badPartitions badIndex badSelector badModes someInUse within noBlockMode blockModeOf isDeep flatModeOf modesMisfit gridTooLarge tooManyWeights weightBitsOutside fourWithTwoPlanes tooManyEndpoints tooFewEndpointBits someHdr hdrRefused isHdr markedWithout sheetWith modeBlock settings tab weightCount weightBits endpointCount startOf numberCount bitsLeft componentBits extraBits rangeBits encodingAt bitsAt sequenceBits widthOf heightOf depthOf isVolume footprints
+    unfolding modeRefusals unknownFootprint badMark badHdr badWidth badHeight badGridDepth badRange badPlanes badComponent badPartitions badIndex badSelector badModes someInUse within noBlockMode blockModeOf isDeep flatModeOf modesMisfit gridTooLarge tooManyWeights weightBitsOutside fourWithTwoPlanes tooManyEndpoints tooFewEndpointBits someHdr hdrRefused isHdr markedWithout sheetWith modeBlock settings tab weightCount weightBits endpointCount startOf numberCount bitsLeft componentBits extraBits rangeBits encodingAt bitsAt sequenceBits widthOf heightOf depthOf isVolume footprints
     none =
         refl
         also refl

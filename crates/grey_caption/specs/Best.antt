@@ -47,13 +47,13 @@ unfoldable pub sumOf : (ℕ → ℕ) → ℕ → ℕ
 sumOf f zero = 0
 sumOf f (suc n) = sumOf f n + f n
 
--- the "summed squared difference" of sixteen texels R, G, B, A from the wanted greys: one square for each texel, since R = G = B (`Shows`)
+-- the "summed squared difference" of sixteen texels R, G, B, A from the wanted greys: one square for each texel, since R = G = B (`GreysShown`)
 unfoldable pub differenceOf : List ℕ → List ℕ → ℕ
 unfolding sumOf squared
 differenceOf wanted texels = sumOf (λ i. squared (getD texels (4 * i) 0) (getD wanted i 0)) 16
 
 -- every choice of weights is written, and shows greys
-pub record Shows (e0 e1 : ℕ) (w : ℕ → ℕ) (old : List ℕ) : Type 0 where
+pub record GreysShown (e0 e1 : ℕ) (w : ℕ → ℕ) (old : List ℕ) : Type 0 where
   pub written : writingOf footprint (sheetWith e0 e1 w) .answer ≡ Done
   pub sixteen : length (blockWith e0 e1 w) ≡ 16
   pub no-fault : blockAnswer Srgb8 footprint (blockWith e0 e1 w) (length old) ≡ Done
@@ -74,8 +74,8 @@ pub record Best (e0 e1 : ℕ) (wanted old block : List ℕ) : Type 0 where
       → (i : ℕ) → i < 16 → weightFor e0 e1 wanted i ≤ v i
 
 -- bit b of a block
-abbrev pub bitOf : List ℕ → ℕ → ℕ
-bitOf block b = field (numberOf block) b 1
+abbrev pub blockBit : List ℕ → ℕ → ℕ
+blockBit block b = field (numberOf block) b 1
 
 -- two lists of sixteen wanted greys that differ at place i alone
 pub record Local (e0 e1 i : ℕ) (wanted other : List ℕ) : Type 0 where
@@ -83,9 +83,9 @@ pub record Local (e0 e1 i : ℕ) (wanted other : List ℕ) : Type 0 where
   pub weights : (k : ℕ) → k < 64 → (k ≡ i → ⊥)
       → weightIn (readingOf footprint (captionOf e0 e1 wanted) .block) k ≡ weightIn (readingOf footprint (captionOf e0 e1 other) .block) k
   -- "the rest of the block's bits staying equal": all but bits 127 - 2i and 126 - 2i,
-  pub bits : (b : ℕ) → (b ≡ 127 - 2 * i → ⊥) → (b ≡ 126 - 2 * i → ⊥) → bitOf (captionOf e0 e1 wanted) b ≡ bitOf (captionOf e0 e1 other) b
+  pub bits : (b : ℕ) → (b ≡ 127 - 2 * i → ⊥) → (b ≡ 126 - 2 * i → ⊥) → blockBit (captionOf e0 e1 wanted) b ≡ blockBit (captionOf e0 e1 other) b
 
 -- which are the weight's two
 pub record Placed (e0 e1 : ℕ) (w : ℕ → ℕ) (i : ℕ) : Type 0 where
-  pub low : bitOf (blockWith e0 e1 w) (127 - 2 * i) ≡ w i % 2
-  pub high : bitOf (blockWith e0 e1 w) (126 - 2 * i) ≡ w i / 2
+  pub low : blockBit (blockWith e0 e1 w) (127 - 2 * i) ≡ w i % 2
+  pub high : blockBit (blockWith e0 e1 w) (126 - 2 * i) ≡ w i / 2

@@ -13,7 +13,7 @@ use Rattle.interpolation.specs.declared.Texel.{Texel}
 use Rattle.interpolation.specs.Texel.{mixOf, weightOf, channelOf}
 use Rattle.half_pair.specs.declared.HalfPair.{HalfPair}
 use Rattle.half_pair.specs.Texel.{endsOf, hdrAt, halfChannel, halfTexel}
-use Rattle.half_line.specs.inner.Line.{flagOf, halfLineOf, lineChannel, halfTexelOn}
+use Rattle.half_line.specs.inner.Line.{flagOf, halfLineOf, halfLineChannel, halfTexelOn}
 
 flag-is : (b : Bool) → eqb (flagOf b) 1 ≡ b
 unfolding flagOf
@@ -29,7 +29,7 @@ module _ (p : HalfPair) (first second : Level) (component : ℕ) where
     go false = refl
 
   pub half-line : halfTexelOn (halfLineOf p) (first .0) (second .0) component ≡ halfTexel p first second component
-  unfolding halfTexelOn lineChannel halfLineOf halfTexel halfChannel hdrAt channelOf
+  unfolding halfTexelOn halfLineChannel halfLineOf halfTexel halfChannel hdrAt channelOf
   half-line = rw (flag-is (p .colour), flag-is (p .alpha), at-is 0, at-is 1, at-is 2, at-is 3)
 
 -- the steps of the functions
@@ -41,5 +41,5 @@ pub line-steps : (line : List ℕ) (first second component : ℕ) {w0 w1 w2 w3 r
     → g ≡ halfOf (eqb (getD line 8 0) 1) (mixOf (getD line 1 0) (getD line 5 0) w1 % 65536) → w2 ≡ pick (eqb 2 component) second first
     → b ≡ halfOf (eqb (getD line 8 0) 1) (mixOf (getD line 2 0) (getD line 6 0) w2 % 65536) → w3 ≡ pick (eqb 3 component) second first
     → a ≡ halfOf (eqb (getD line 9 0) 1) (mixOf (getD line 3 0) (getD line 7 0) w3 % 65536) → texel r g b a ≡ halfTexelOn line first second component
-unfolding halfTexelOn lineChannel
+unfolding halfTexelOn halfLineChannel
 line-steps line first second component e0 er e1 eg e2 eb e3 ea = rw (er, eg, eb, ea, e0, e1, e2, e3)

@@ -29,7 +29,7 @@ use Rattle.one_texel.specs.declared.OneTexel.{OneTexel}
 use Rattle.one_texel.specs.Texel.{oneTexel}
 use Rattle.image_texel.specs.declared.Sides.{Sides}
 use Rattle.image_texel.specs.declared.Asked.{Asked}
-use Rattle.image_texel.specs.Making.{viewRefusal, sidesOf}
+use Rattle.image_texel.specs.Making.{viewRefusal, viewSides}
 use Rattle.image_texel.specs.inner.Fits.{Fits}
 use Rattle.image_texel.specs.Asking.{mayAsk, shownTexel, askedIn, refusedAsking, askedAt}
 
@@ -58,20 +58,20 @@ all-good fp w h bytes e b q z eb k =
     sym (by-size fp w h bytes ∙ rw (eq-eqb (sizeRefusal fp w h) 0 (sym q ∙ z), eq-eqb bytes (16 * blocksOf fp w h) (k ∙ ap (λ (m : ℕ). 16 * m) eb)))
 
 module _ (bytes fp w h : ℕ) where
-  pub sides-taken : viewRefusal fp w h bytes ≡ 0 → sidesOf bytes fp w h ≡ record { width = w; height = h; refusal = 0 }
-  unfolding sidesOf
+  pub sides-taken : viewRefusal fp w h bytes ≡ 0 → viewSides bytes fp w h ≡ record { width = w; height = h; refusal = 0 }
+  unfolding viewSides
   sides-taken e = rw (eq-eqb (viewRefusal fp w h bytes) 0 e)
 
-  pub sides-refused : (viewRefusal fp w h bytes ≡ 0 → ⊥) → sidesOf bytes fp w h ≡ record { width = 0; height = 0; refusal = viewRefusal fp w h bytes }
-  unfolding sidesOf
+  pub sides-refused : (viewRefusal fp w h bytes ≡ 0 → ⊥) → viewSides bytes fp w h ≡ record { width = 0; height = 0; refusal = viewRefusal fp w h bytes }
+  unfolding viewSides
   sides-refused e = rw (ne-eqb (viewRefusal fp w h bytes) 0 e)
 
-  pub refused-sides : (e : ℕ) → e ≡ viewRefusal fp w h bytes → (e ≡ 0 → ⊥) → _≡_ {A = Sides} (record { width = 0; height = 0; refusal = e }) (sidesOf bytes fp w h)
+  pub refused-sides : (e : ℕ) → e ≡ viewRefusal fp w h bytes → (e ≡ 0 → ⊥) → _≡_ {A = Sides} (record { width = 0; height = 0; refusal = e }) (viewSides bytes fp w h)
   refused-sides e q z = ap none q ∙ sym (sides-refused (λ k. z (q ∙ k))) where
     none : ℕ → Sides
     none n = record { width = 0; height = 0; refusal = n }
 
-  pub taken-sides : (e : ℕ) → e ≡ viewRefusal fp w h bytes → e ≡ 0 → _≡_ {A = Sides} (record { width = w; height = h; refusal = 0 }) (sidesOf bytes fp w h)
+  pub taken-sides : (e : ℕ) → e ≡ viewRefusal fp w h bytes → e ≡ 0 → _≡_ {A = Sides} (record { width = w; height = h; refusal = 0 }) (viewSides bytes fp w h)
   taken-sides e q z = sym (sides-taken (sym q ∙ z))
 
 -- what a view that is not refused has

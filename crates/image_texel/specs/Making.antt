@@ -15,7 +15,7 @@ viewRefusal fp w h bytes =
     firstOf (when (ltb 13 fp) 1 ∷ when (either (badSide w) (badSide h)) 3 ∷ when (not (eqb bytes (16 * blocksOf fp w h))) 4 ∷ [])
 
 -- the sides that a view is made with: "a refused view has both sides 0"
-unfoldable pub sidesOf : ℕ → ℕ → ℕ → ℕ → Sides
-sidesOf bytes fp w h =
+unfoldable pub viewSides : ℕ → ℕ → ℕ → ℕ → Sides
+viewSides bytes fp w h =
     let e = viewRefusal fp w h bytes in
     pick (eqb e 0) (record { width = w; height = h; refusal = 0 }) (record { width = 0; height = 0; refusal = e })

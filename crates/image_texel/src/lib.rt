@@ -4,7 +4,7 @@ use interpolation::Texel;
 ghost use mathlib.Core.Path.{_≡_};
 ghost use Prim.Native.Nat.{_<_};
 ghost use lib.ListN.{length};
-ghost use Rattle.image_texel.specs.Making.{viewRefusal, sidesOf};
+ghost use Rattle.image_texel.specs.Making.{viewRefusal, viewSides};
 ghost use Rattle.image_texel.specs.Asking.{shownTexel, askedIn, askedAt, refusedAsking};
 ghost use Rattle.image_texel.specs.inner.Fits.{Fits};
 
@@ -39,7 +39,7 @@ pub fn view_refusal(bytes: usize, footprint: u8, width: u32, height: u32) -> u8
 
 // The sides of a view: those given, or 0 where it is refused.
 pub fn sides_for(blocks: &[u8], footprint: u8, width: u32, height: u32) -> Sides
-    ensures { λ r. ⌜ r ≡ sidesOf (length (now (blocks .entry))) footprint width height ⌝ }
+    ensures { λ r. ⌜ r ≡ viewSides (length (now (blocks .entry))) footprint width height ⌝ }
 {
     let refusal = view_refusal(blocks.len(), footprint, width, height);
     if refusal != 0 {

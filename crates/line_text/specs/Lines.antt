@@ -7,12 +7,12 @@ use lib.ListN.{length, drop}
 use Rattle.laws.specs.Choice.{pick}
 
 -- the digit of n at the power p of ten, in ASCII; none where it would lead with 0
-unfoldable pub digit : ℕ → ℕ → List ℕ
-digit p n = pick (ltb n p) [] ((48 + n / p % 10) ∷ [])
+unfoldable pub decimalDigit : ℕ → ℕ → List ℕ
+decimalDigit p n = pick (ltb n p) [] ((48 + n / p % 10) ∷ [])
 
 -- a number below 100,000 in decimal digits
 unfoldable pub decimal : ℕ → List ℕ
-decimal n = digit 10000 n ++ (digit 1000 n ++ (digit 100 n ++ (digit 10 n ++ ((48 + n % 10) ∷ []))))
+decimal n = decimalDigit 10000 n ++ (decimalDigit 1000 n ++ (decimalDigit 100 n ++ (decimalDigit 10 n ++ ((48 + n % 10) ∷ []))))
 
 -- numbers of at most five digits, each after a space, and the end of the line
 unfoldable pub spaced : List ℕ → List ℕ

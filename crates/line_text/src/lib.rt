@@ -5,7 +5,7 @@ ghost use mathlib.Core.List.{List, [], _∷_, _++_};
 ghost use Prim.Native.Nat.{ℕ, _+_, _*_, _/_, _%_, _≤_, _<_};
 ghost use lib.ListN.{length, getD};
 ghost use Rattle.interpolation.specs.Expansion.{shownOf};
-ghost use Rattle.line_text.specs.Lines.{digit, decimal, spaced, texelLine};
+ghost use Rattle.line_text.specs.Lines.{decimalDigit, decimal, spaced, texelLine};
 ghost use Rattle.line_text.specs.inner.Written.{Puts};
 
 // One byte more; answers where the text ends.
@@ -22,7 +22,7 @@ fn put_byte(out: &mut [u8], at: usize, b: u8) -> usize
 fn put_digit(out: &mut [u8], at: usize, p: u16, n: u16) -> usize
     requires { ⌜ (at < length (now out)) × (0 < p) ⌝ }
     ensures { λ r. ⌜ r ≤ at + 1 ⌝ }
-    ensures { λ r. ⌜ Puts (now (out .entry)) at (digit p n) (now (out .exit)) r ⌝ }
+    ensures { λ r. ⌜ Puts (now (out .entry)) at (decimalDigit p n) (now (out .exit)) r ⌝ }
 {
     if n < p {
         return at;

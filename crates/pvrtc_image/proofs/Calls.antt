@@ -11,9 +11,9 @@ use borrow.Author.Tests.{eq-eqb, ne-eqb, eqb-true}
 use Rattle.laws.specs.Choice.{pick, either}
 use Rattle.laws.specs.Table.{tab}
 use Rattle.laws.proofs.Reasons.{None, first-none, either-none}
-use Rattle.pvrtc_texel.specs.Image.{sideBits, badSide, wordsIn, imageRefusals, imageRefusal, imageTexel, imageBytes, imageOut}
+use Rattle.pvrtc_texel.specs.Image.{sideBits, badPvrtcSide, wordsIn, imageRefusals, imageRefusal, imageTexel, imageBytes, imageOut}
 use Rattle.pvrtc_texel.proofs.Sides.{bits-most, side-is}
-use Rattle.pvrtc_rows.specs.inner.Rows.{Sized}
+use Rattle.pvrtc_rows.specs.inner.Rows.{WordsSized}
 use Rattle.pvrtc_image.specs.inner.Lines.{numberAt}
 
 pub refused : (w h : ℕ) (s old : List ℕ) → (imageRefusal w h (length s) (length old) ≡ 0 → ⊥) → old ≡ imageOut w h s old
@@ -29,9 +29,9 @@ module _ (w h : ℕ) (s old : List ℕ) (e : imageRefusal w h (length s) (length
   unfolding imageRefusal imageRefusals
   none = first-none (imageRefusals w h (length s) (length old)) tt e
 
-  good : (badSide w ≡ false) × (badSide h ≡ false)
+  good : (badPvrtcSide w ≡ false) × (badPvrtcSide h ≡ false)
   unfolding imageRefusals
-  good = either-none (badSide w) (badSide h) (none .0)
+  good = either-none (badPvrtcSide w) (badPvrtcSide h) (none .0)
 
   bytes : length s ≡ 8 * wordsIn w h
   unfolding imageRefusals
@@ -47,7 +47,7 @@ module _ (w h : ℕ) (s old : List ℕ) (e : imageRefusal w h (length s) (length
   high : h ≡ 4 * 2 ^ sideBits h
   high = side-is h (good .1)
 
-  pub sized : Sized (sideBits w) (sideBits h) s
+  pub sized : WordsSized (sideBits w) (sideBits h) s
   unfolding wordsIn
   sized = record {
     wide = bits-most w (good .0);

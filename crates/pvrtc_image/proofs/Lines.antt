@@ -21,8 +21,8 @@ use Rattle.pvrtc_texel.proofs.Bounds.{mostOf, colour-a-most, colour-b-most, int
 use Rattle.pvrtc_texel.proofs.Local.{own-low, own-high}
 use Rattle.pvrtc_word.specs.inner.Lanes.{lanes, lane, byteOf, rgbaOf}
 use Rattle.pvrtc_word.specs.declared.Rgba.{Rgba}
-use Rattle.pvrtc_rows.specs.inner.Rows.{around, Three, Threes, Row}
-use Rattle.pvrtc_image.specs.inner.Lines.{between, Low, Line, sampleA, sampleB, ownWord, shownBy, Paintable, Painted}
+use Rattle.pvrtc_rows.specs.inner.Rows.{around, Three, Threes, WordRow}
+use Rattle.pvrtc_image.specs.inner.Lines.{between, Low, Line, sampleA, sampleB, ownWord, shownOnLine, Paintable, Painted}
 use Rattle.pvrtc_rows.proofs.Rows.{around-low, around-high, around-own}
 
 -- ---- numbers of four channels
@@ -60,7 +60,7 @@ lanes-lt : (f : ℕ → ℕ) → ((c : ℕ) → f c ≤ mostOf c) → lanes f < 
 unfolding lanes
 lanes-lt f h = omega (arith, h 0, h 1, h 2, h 3)
 
-pub row-low : (n : ℕ) (word : ℕ → ℕ) (l : List ℕ) → Row n word l → Low (n + 2) l
+pub row-low : (n : ℕ) (word : ℕ → ℕ) (l : List ℕ) → WordRow n word l → Low (n + 2) l
 unfolding Threes
 row-low n word l r = record {
   size = r .size;
@@ -98,7 +98,7 @@ own-row m y h u =
 -- ---- a texel of a line
 
 module _ (n m : ℕ) (word : ℕ → ℕ → ℕ) (x y : ℕ) (hx : x < 4 * n) (hy : y < 4 * m) (top bottom line : List ℕ)
-    (above : Row n (λ X. word X (lowWord m y)) top) (below : Row n (λ X. word X (highWord m y)) bottom) (l : Line (relative y) top bottom line (n + 2)) where
+    (above : WordRow n (λ X. word X (lowWord m y)) top) (below : WordRow n (λ X. word X (highWord m y)) bottom) (l : Line (relative y) top bottom line (n + 2)) where
   -- a colour of word i, interpolated downwards
   mixed : (ℕ → ℕ → ℕ) → ℕ → ℕ → ℕ
   mixed colour i c = between (relative y) (colour (word (around n i) (lowWord m y)) c) (colour (word (around n i) (highWord m y)) c)
@@ -171,8 +171,8 @@ module _ (n m : ℕ) (word : ℕ → ℕ → ℕ) (x y : ℕ) (hx : x < 4 * n) (
       (l .words i h .third ∙ ap₂ (pick (ltb (relative y) 2)) (above .words i h .third) (below .words i h .third)
       ∙ own-row m y hy (word (around n i)) ∙ ap (λ (X : ℕ). word X (y / 4)) (around-own n x hx))
 
-  pub shown-is : (c : ℕ) → c < 4 → shownBy line y x c ≡ texelAt n m word x y c
-  unfolding shownBy texelAt byteOf
+  pub shown-is : (c : ℕ) → c < 4 → shownOnLine line y x c ≡ texelAt n m word x y c
+  unfolding shownOnLine texelAt byteOf
   shown-is c h = rw (own, upscaled-a c h, upscaled-b c h)
 
   low-a : (i : ℕ) → i < n + 2 → getD line (3 * i) 0 < 2 ^ 58

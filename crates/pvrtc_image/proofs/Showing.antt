@@ -12,8 +12,8 @@ use Rattle.laws.proofs.Filling.{Filled, filled-none, filled-all}
 use Rattle.pvrtc_texel.specs.Texel.{lowWord, highWord, relative}
 use Rattle.pvrtc_texel.specs.Image.{wordAt, imageTexel}
 use Rattle.pvrtc_texel.proofs.Places.{row-place, rows-more}
-use Rattle.pvrtc_rows.specs.inner.Rows.{around, Row, Window}
-use Rattle.pvrtc_image.specs.inner.Lines.{Low, Line, shownBy, Paintable, Painted, numberAt}
+use Rattle.pvrtc_rows.specs.inner.Rows.{around, WordRow, Window}
+use Rattle.pvrtc_image.specs.inner.Lines.{Low, Line, shownOnLine, Paintable, Painted, numberAt}
 use Rattle.pvrtc_rows.proofs.Rows.{around-low, around-high}
 use Rattle.pvrtc_image.proofs.Lines.{row-low, shown-is, paintable}
 
@@ -24,11 +24,11 @@ window-low xb yb s k n top bottom e w = rw e (row-low (2 ^ xb) _ top (w .above),
 
 module _ (xb yb : ℕ) (s : List ℕ) (y n : ℕ) (top bottom line : List ℕ) (e : n ≡ 2 ^ xb) (hy : y < 4 * 2 ^ yb)
     (w : Window xb yb s ((y + 2) / 4) top bottom) (l : Line ((y + 2) % 4) top bottom line (n + 2)) where
-  above : Row (2 ^ xb) (λ X. wordAt xb yb s X (lowWord (2 ^ yb) y)) top
-  above = subst (λ (k : ℕ). Row (2 ^ xb) (λ X. wordAt xb yb s X k) top) (around-low (2 ^ yb) y) (w .above)
+  above : WordRow (2 ^ xb) (λ X. wordAt xb yb s X (lowWord (2 ^ yb) y)) top
+  above = subst (λ (k : ℕ). WordRow (2 ^ xb) (λ X. wordAt xb yb s X k) top) (around-low (2 ^ yb) y) (w .above)
 
-  below : Row (2 ^ xb) (λ X. wordAt xb yb s X (highWord (2 ^ yb) y)) bottom
-  below = subst (λ (k : ℕ). Row (2 ^ xb) (λ X. wordAt xb yb s X k) bottom) (around-high (2 ^ yb) y (pow-pos yb)) (w .below)
+  below : WordRow (2 ^ xb) (λ X. wordAt xb yb s X (highWord (2 ^ yb) y)) bottom
+  below = subst (λ (k : ℕ). WordRow (2 ^ xb) (λ X. wordAt xb yb s X k) bottom) (around-high (2 ^ yb) y (pow-pos yb)) (w .below)
 
   in-line : Line (relative y) top bottom line (2 ^ xb + 2)
   unfolding relative
@@ -40,11 +40,11 @@ module _ (xb yb : ℕ) (s : List ℕ) (y n : ℕ) (top bottom line : List ℕ) (
   pub row-paintable : (x : ℕ) → x < 4 * n → Paintable line y x
   row-paintable x h = paintable (2 ^ xb) (2 ^ yb) (wordAt xb yb s) x y (wide x h) hy top bottom line above below in-line
 
-  row-shown : (x : ℕ) → x < 4 * n → (c : ℕ) → c < 4 → shownBy line y x c ≡ imageTexel xb yb s x y c
+  row-shown : (x : ℕ) → x < 4 * n → (c : ℕ) → c < 4 → shownOnLine line y x c ≡ imageTexel xb yb s x y c
   unfolding imageTexel
   row-shown x h c = shown-is (2 ^ xb) (2 ^ yb) (wordAt xb yb s) x y (wide x h) hy top bottom line above below in-line c
 
-  pub row-painted : (old new : List ℕ) → Painted (λ k. shownBy line y (k / 4) (k % 4)) (4 * (4 * n)) (4 * (y * (4 * n))) old new
+  pub row-painted : (old new : List ℕ) → Painted (λ k. shownOnLine line y (k / 4) (k % 4)) (4 * (4 * n)) (4 * (y * (4 * n))) old new
       → Painted (λ k. imageTexel xb yb s (k / 4) y (k % 4)) (4 * (4 * 2 ^ xb)) (4 * (y * (4 * 2 ^ xb))) old new
   row-painted old new p =
       subst (λ (m : ℕ). Painted (λ k. imageTexel xb yb s (k / 4) y (k % 4)) (4 * (4 * m)) (4 * (y * (4 * m))) old new) e

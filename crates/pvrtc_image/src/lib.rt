@@ -13,8 +13,8 @@ ghost use Rattle.laws.specs.Choice.{pick};
 ghost use Rattle.laws.specs.Table.{tab};
 ghost use Rattle.pvrtc_texel.specs.Image.{imageTexel, imageRefusal, imageOut};
 ghost use Rattle.pvrtc_word.specs.inner.Lanes.{rgbaOf};
-ghost use Rattle.pvrtc_rows.specs.inner.Rows.{Sized, putThree, Ends, Window};
-ghost use Rattle.pvrtc_image.specs.inner.Lines.{between, blendOf, ownOf, Low, Line, shownBy, Paintable, Painted, numberAt};
+ghost use Rattle.pvrtc_rows.specs.inner.Rows.{WordsSized, putThree, EndRows, Window};
+ghost use Rattle.pvrtc_image.specs.inner.Lines.{between, rowsBetween, ownOf, Low, Line, shownOnLine, Paintable, Painted, numberAt};
 
 // Room for a row of 1,024 words and its two neighbours at the edges.
 fn blank() -> [u64; 3078]
@@ -42,7 +42,7 @@ fn own_word(p: u64, top: u64, bottom: u64) -> u64
 fn blend_word(p: u64, i: usize, top: &[u64; 3078], bottom: &[u64; 3078], line: &mut [u64; 3078])
     requires { ⌜ (i < 1026) × (p < 4) × (length (now line) ≡ 3078) ⌝ }
     requires { ⌜ Low (i + 1) (now top) × Low (i + 1) (now bottom) ⌝ }
-    ensures { λ _. ⌜ now (line .exit) ≡ putThree (now (line .entry)) i (blendOf p (now (top .entry)) (now (bottom .entry)) (3 * i)) (blendOf p (now (top .entry)) (now (bottom .entry)) (3 * i + 1)) (ownOf p (now (top .entry)) (now (bottom .entry)) (3 * i + 2)) ⌝ }
+    ensures { λ _. ⌜ now (line .exit) ≡ putThree (now (line .entry)) i (rowsBetween p (now (top .entry)) (now (bottom .entry)) (3 * i)) (rowsBetween p (now (top .entry)) (now (bottom .entry)) (3 * i + 1)) (ownOf p (now (top .entry)) (now (bottom .entry)) (3 * i + 2)) ⌝ }
 {
     let at = 3 * i;
     let a = blend(p, top[at], bottom[at]);
@@ -67,7 +67,7 @@ fn blend_rows(n: usize, p: u64, top: &[u64; 3078], bottom: &[u64; 3078], line: &
 // Texel x of a row y, from its line.
 fn texel_in(line: &[u64; 3078], x: usize, y: usize) -> Rgba
     requires { ⌜ (x < 4096) × Paintable (now line) y x ⌝ }
-    ensures { λ r. ⌜ r ≡ rgbaOf (shownBy (now (line .entry)) y x) ⌝ }
+    ensures { λ r. ⌜ r ≡ rgbaOf (shownOnLine (now (line .entry)) y x) ⌝ }
 {
     let at = 3 * ((x + 2) / 4);
     let p = ((x + 2) % 4) as u64;
@@ -81,7 +81,7 @@ fn texel_in(line: &[u64; 3078], x: usize, y: usize) -> Rgba
 fn paint_row(line: &[u64; 3078], w: usize, y: usize, out: &mut [u8])
     requires { ⌜ (w ≤ 4096) × (4 * (y * w) + 4 * w ≤ length (now out)) ⌝ }
     requires { ⌜ ((x : ℕ) → x < w → Paintable (now line) y x) ⌝ }
-    ensures { λ _. ⌜ Painted (λ k. shownBy (now (line .entry)) y (k / 4) (k % 4)) (4 * w) (4 * (y * w)) (now (out .entry)) (now (out .exit)) ⌝ }
+    ensures { λ _. ⌜ Painted (λ k. shownOnLine (now (line .entry)) y (k / 4) (k % 4)) (4 * w) (4 * (y * w)) (now (out .entry)) (now (out .exit)) ⌝ }
 {
     let start = 4 * (y * w);
     for x in 0..w {
@@ -107,10 +107,10 @@ fn show_row(
     line: &mut [u64; 3078],
     out: &mut [u8],
 )
-    requires { ⌜ Sized xb yb (now s) ⌝ }
+    requires { ⌜ WordsSized xb yb (now s) ⌝ }
     requires { ⌜ (y < 4 * 2 ^ yb) × (length (now line) ≡ 3078) ⌝ }
     requires { ⌜ 4 * (y * (4 * 2 ^ xb)) + 4 * (4 * 2 ^ xb) ≤ length (now out) ⌝ }
-    requires { ⌜ Ends xb yb (now s) (now first) (now last) ⌝ }
+    requires { ⌜ EndRows xb yb (now s) (now first) (now last) ⌝ }
     requires { ⌜ Window xb yb (now s) ((y + 1) / 4) (now top) (now bottom) ⌝ }
     ensures { λ _. ⌜ Window xb yb (now (s .entry)) ((y + 2) / 4) (now (top .exit)) (now (bottom .exit)) ⌝ }
     ensures { λ _. ⌜ length (now (line .exit)) ≡ 3078 ⌝ }
@@ -124,7 +124,7 @@ fn show_row(
 
 // Shows every row of an image of so many bits of column and row.
 fn show_rows(s: &[u8], xb: u32, yb: u32, out: &mut [u8])
-    requires { ⌜ Sized xb yb (now s) ⌝ }
+    requires { ⌜ WordsSized xb yb (now s) ⌝ }
     requires { ⌜ length (now out) ≡ 4 * (4 * 2 ^ xb * (4 * 2 ^ yb)) ⌝ }
     ensures { λ _. ⌜ now (out .exit) ≡ tab (numberAt xb yb (now (s .entry))) (4 * (4 * 2 ^ xb * (4 * 2 ^ yb))) ⌝ }
 {

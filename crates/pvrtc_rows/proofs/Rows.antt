@@ -14,7 +14,7 @@ use Rattle.pvrtc_texel.specs.Texel.{lowWord, highWord}
 use Rattle.pvrtc_texel.specs.Word.{colourA, colourB}
 use Rattle.pvrtc_texel.specs.Image.{wordAt}
 use Rattle.pvrtc_word.specs.inner.Lanes.{lanes}
-use Rattle.pvrtc_rows.specs.inner.Rows.{around, Three, ThreesFrom, Threes, putThree, Row, Ends, Window}
+use Rattle.pvrtc_rows.specs.inner.Rows.{around, Three, ThreesFrom, Threes, putThree, WordRow, EndRows, Window}
 
 -- ---- words along a side
 
@@ -150,7 +150,7 @@ around-next n i h = let e : i + 1 + (n - 1) ≡ i + n = omega arith in rw e (add
 -- a row of which words 0, .., n - 1 are unpacked and the edges copied
 pub row-closed : (n : ℕ) (word : ℕ → ℕ) (l l1 l2 : List ℕ) → 0 < n → n ≤ 1024 → length l ≡ 3078
     → ThreesFrom (λ i. lanes (colourA (word (around n i)))) (λ i. lanes (colourB (word (around n i)))) (λ i. word (around n i)) l 1 (n + 1)
-    → l1 ≡ copied l n 0 → l2 ≡ copied l1 1 (n + 1) → Row n word l2
+    → l1 ≡ copied l n 0 → l2 ≡ copied l1 1 (n + 1) → WordRow n word l2
 unfolding Threes ThreesFrom
 row-closed n word l l1 l2 p q size t e1 e2 = record {
   size = ap length e2 ∙ length-three l1 (n + 1) _ _ _ ∙ size1;
@@ -184,17 +184,17 @@ row-closed n word l l1 l2 p q size t e1 e2 = record {
 
 -- ---- rows and windows
 
-pub row-copied : (n : ℕ) (word : ℕ → ℕ) (l m : List ℕ) → Row n word l → Filled (λ j. getD l j 0) 0 m (3 * (n + 2)) → length m ≡ 3078 → Row n word m
+pub row-copied : (n : ℕ) (word : ℕ → ℕ) (l m : List ℕ) → WordRow n word l → Filled (λ j. getD l j 0) 0 m (3 * (n + 2)) → length m ≡ 3078 → WordRow n word m
 row-copied n word l m r f e = record { size = e; words = threes-copied _ _ _ l m (n + 2) f (r .words) }
 
 -- a row that is copied stands for the same row of the words, however that is told
-pub row-taken : (xb yb : ℕ) (s : List ℕ) (k y y' : ℕ) (l m : List ℕ) → k ≡ 2 ^ xb → y' ≡ y → Row (2 ^ xb) (λ X. wordAt xb yb s X y') l
-    → Filled (λ j. getD l j 0) 0 m (3 * (k + 2)) → length m ≡ 3078 → Row (2 ^ xb) (λ X. wordAt xb yb s X y) m
+pub row-taken : (xb yb : ℕ) (s : List ℕ) (k y y' : ℕ) (l m : List ℕ) → k ≡ 2 ^ xb → y' ≡ y → WordRow (2 ^ xb) (λ X. wordAt xb yb s X y') l
+    → Filled (λ j. getD l j 0) 0 m (3 * (k + 2)) → length m ≡ 3078 → WordRow (2 ^ xb) (λ X. wordAt xb yb s X y) m
 row-taken xb yb s k y y' l m e q r f n =
-    row-copied (2 ^ xb) _ l m (subst (λ (z : ℕ). Row (2 ^ xb) (λ X. wordAt xb yb s X z) l) q r) (rw e at f) n
+    row-copied (2 ^ xb) _ l m (subst (λ (z : ℕ). WordRow (2 ^ xb) (λ X. wordAt xb yb s X z) l) q r) (rw e at f) n
 
 -- the window at the top of the image
-pub window-starts : (xb yb : ℕ) (s : List ℕ) (k : ℕ) (first last top bottom : List ℕ) → k ≡ 2 ^ xb → Ends xb yb s first last
+pub window-starts : (xb yb : ℕ) (s : List ℕ) (k : ℕ) (first last top bottom : List ℕ) → k ≡ 2 ^ xb → EndRows xb yb s first last
     → Filled (λ j. getD last j 0) 0 top (3 * (k + 2)) → length top ≡ 3078 → Filled (λ j. getD first j 0) 0 bottom (3 * (k + 2)) → length bottom ≡ 3078
     → Window xb yb s 0 top bottom
 window-starts xb yb s k first last top bottom e o f n g m = record {
@@ -212,12 +212,12 @@ window-stays xb yb s y top bottom h w =
 -- and one that needs the next: the bottom row is copied, and the one below it unpacked
 pub window-moves : (xb yb : ℕ) (s : List ℕ) (y below : ℕ) (top bottom top' bottom' : List ℕ) → (y + 2) % 4 ≡ 0
     → Window xb yb s ((y + 1) / 4) top bottom → Filled (λ j. getD bottom j 0) 0 top' (3 * (2 ^ xb + 2)) → length top' ≡ 3078
-    → below ≡ around (2 ^ yb) ((y + 2) / 4 + 1) → Row (2 ^ xb) (λ X. wordAt xb yb s X below) bottom' → Window xb yb s ((y + 2) / 4) top' bottom'
+    → below ≡ around (2 ^ yb) ((y + 2) / 4 + 1) → WordRow (2 ^ xb) (λ X. wordAt xb yb s X below) bottom' → Window xb yb s ((y + 2) / 4) top' bottom'
 window-moves xb yb s y below top bottom top' bottom' h w f l e r =
     let d : (y + 1) / 4 + 1 ≡ (y + 2) / 4 = omega arith in
     record {
       above =
           row-copied (2 ^ xb) _ bottom top'
-          (subst (λ (k : ℕ). Row (2 ^ xb) (λ X. wordAt xb yb s X (around (2 ^ yb) k)) bottom) d (w .below)) f l;
-      below = subst (λ (b : ℕ). Row (2 ^ xb) (λ X. wordAt xb yb s X b) bottom') e r;
+          (subst (λ (k : ℕ). WordRow (2 ^ xb) (λ X. wordAt xb yb s X (around (2 ^ yb) k)) bottom) d (w .below)) f l;
+      below = subst (λ (b : ℕ). WordRow (2 ^ xb) (λ X. wordAt xb yb s X b) bottom') e r;
     }

@@ -16,7 +16,7 @@ use Rattle.bits.proofs.Halves.{low-whole, one-shl}
 use Rattle.pvrtc_order.proofs.Once.{once}
 use Rattle.pvrtc_order.specs.Order.{wordPlace}
 use Rattle.pvrtc_texel.specs.Image.{wordAtPlace, wordAt}
-use Rattle.pvrtc_rows.specs.inner.Rows.{Sized}
+use Rattle.pvrtc_rows.specs.inner.Rows.{WordsSized}
 
 module _ (s : List ℕ) (p : ℕ) (room : 8 * p + 8 ≤ length s) (small : Bytes s) where
   eight : length (take 8 (drop (8 * p) s)) ≡ 8
@@ -43,7 +43,7 @@ module _ (s : List ℕ) (p : ℕ) (room : 8 * p + 8 ≤ length s) (small : Bytes
       omega (arith, g, word-lt)
 
 -- the bytes of a word of the image are there
-pub word-room : (xb yb : ℕ) (s : List ℕ) (x y p : ℕ) → Sized xb yb s → x < 2 ^ xb → y < 2 ^ yb → p ≡ wordPlace xb yb x y → 8 * p + 8 ≤ length s
+pub word-room : (xb yb : ℕ) (s : List ℕ) (x y p : ℕ) → WordsSized xb yb s → x < 2 ^ xb → y < 2 ^ yb → p ≡ wordPlace xb yb x y → 8 * p + 8 ≤ length s
 word-room xb yb s x y p h hx hy e = rw (h .bytes) (omega (arith, e, once xb yb .inside x y hx hy))
 
 -- a column or row is a small number

@@ -9,7 +9,7 @@ ghost use Rattle.laws.proofs.Filling.{Filled};
 ghost use Rattle.pvrtc_texel.specs.Word.{colourA, colourB};
 ghost use Rattle.pvrtc_texel.specs.Image.{wordAtPlace, wordAt};
 ghost use Rattle.pvrtc_word.specs.inner.Lanes.{lanes};
-ghost use Rattle.pvrtc_rows.specs.inner.Rows.{Sized, around, putThree, Row, Ends, Window};
+ghost use Rattle.pvrtc_rows.specs.inner.Rows.{WordsSized, around, putThree, WordRow, EndRows, Window};
 
 // How many words a side of so many bits has.
 pub fn words_along(bits: u32) -> usize
@@ -39,7 +39,7 @@ fn word_of(s: &[u8], place: usize) -> u64
 
 // The word in column x and row y.
 fn word_in(s: &[u8], xb: u32, yb: u32, x: usize, y: usize) -> u64
-    requires { ⌜ Sized xb yb (now s) ⌝ }
+    requires { ⌜ WordsSized xb yb (now s) ⌝ }
     requires { ⌜ (x < 2 ^ xb) × (y < 2 ^ yb) ⌝ }
     ensures { λ r. ⌜ r ≡ wordAt xb yb (now (s .entry)) x y ⌝ }
 {
@@ -76,9 +76,9 @@ fn copy_word(row: &mut [u64; 3078], from: usize, to: usize)
 
 // Unpacks row y of the words, each once; the two at the edges are copied.
 fn unpack_row(s: &[u8], xb: u32, yb: u32, y: usize, row: &mut [u64; 3078])
-    requires { ⌜ Sized xb yb (now s) ⌝ }
+    requires { ⌜ WordsSized xb yb (now s) ⌝ }
     requires { ⌜ (y < 2 ^ yb) × (length (now row) ≡ 3078) ⌝ }
-    ensures { λ _. ⌜ Row (2 ^ xb) (λ X. wordAt xb yb (now (s .entry)) X y) (now (row .exit)) ⌝ }
+    ensures { λ _. ⌜ WordRow (2 ^ xb) (λ X. wordAt xb yb (now (s .entry)) X y) (now (row .exit)) ⌝ }
 {
     let n = words_along(xb);
     for i in 0..n {
@@ -110,10 +110,10 @@ fn fetch_row(
     last: &[u64; 3078],
     row: &mut [u64; 3078],
 )
-    requires { ⌜ Sized xb yb (now s) ⌝ }
+    requires { ⌜ WordsSized xb yb (now s) ⌝ }
     requires { ⌜ (y < 2 ^ yb) × (length (now row) ≡ 3078) ⌝ }
-    requires { ⌜ Ends xb yb (now s) (now first) (now last) ⌝ }
-    ensures { λ _. ⌜ Row (2 ^ xb) (λ X. wordAt xb yb (now (s .entry)) X y) (now (row .exit)) ⌝ }
+    requires { ⌜ EndRows xb yb (now s) (now first) (now last) ⌝ }
+    ensures { λ _. ⌜ WordRow (2 ^ xb) (λ X. wordAt xb yb (now (s .entry)) X y) (now (row .exit)) ⌝ }
 {
     let numbers = 3 * (words_along(xb) + 2);
     if y == 0 {
@@ -129,10 +129,10 @@ fn fetch_row(
 
 // The last row of the words, where the first one stands unpacked: a copy of it where there is one row only.
 fn unpack_last(s: &[u8], xb: u32, yb: u32, first: &[u64; 3078], last: &mut [u64; 3078])
-    requires { ⌜ Sized xb yb (now s) ⌝ }
+    requires { ⌜ WordsSized xb yb (now s) ⌝ }
     requires { ⌜ length (now last) ≡ 3078 ⌝ }
-    requires { ⌜ Row (2 ^ xb) (λ X. wordAt xb yb (now s) X 0) (now first) ⌝ }
-    ensures { λ _. ⌜ Row (2 ^ xb) (λ X. wordAt xb yb (now (s .entry)) X (2 ^ yb - 1)) (now (last .exit)) ⌝ }
+    requires { ⌜ WordRow (2 ^ xb) (λ X. wordAt xb yb (now s) X 0) (now first) ⌝ }
+    ensures { λ _. ⌜ WordRow (2 ^ xb) (λ X. wordAt xb yb (now (s .entry)) X (2 ^ yb - 1)) (now (last .exit)) ⌝ }
 {
     let m = words_along(yb);
     if m == 1 {
@@ -153,9 +153,9 @@ pub fn start_window(
     top: &mut [u64; 3078],
     bottom: &mut [u64; 3078],
 )
-    requires { ⌜ Sized xb yb (now s) ⌝ }
+    requires { ⌜ WordsSized xb yb (now s) ⌝ }
     requires { ⌜ (length (now first) ≡ 3078) × (length (now last) ≡ 3078) × (length (now top) ≡ 3078) × (length (now bottom) ≡ 3078) ⌝ }
-    ensures { λ _. ⌜ Ends xb yb (now (s .entry)) (now (first .exit)) (now (last .exit)) ⌝ }
+    ensures { λ _. ⌜ EndRows xb yb (now (s .entry)) (now (first .exit)) (now (last .exit)) ⌝ }
     ensures { λ _. ⌜ Window xb yb (now (s .entry)) 0 (now (top .exit)) (now (bottom .exit)) ⌝ }
 {
     let numbers = 3 * (words_along(xb) + 2);
@@ -176,9 +176,9 @@ pub fn move_window(
     top: &mut [u64; 3078],
     bottom: &mut [u64; 3078],
 )
-    requires { ⌜ Sized xb yb (now s) ⌝ }
+    requires { ⌜ WordsSized xb yb (now s) ⌝ }
     requires { ⌜ y < 4 * 2 ^ yb ⌝ }
-    requires { ⌜ Ends xb yb (now s) (now first) (now last) ⌝ }
+    requires { ⌜ EndRows xb yb (now s) (now first) (now last) ⌝ }
     requires { ⌜ Window xb yb (now s) ((y + 1) / 4) (now top) (now bottom) ⌝ }
     ensures { λ _. ⌜ Window xb yb (now (s .entry)) ((y + 2) / 4) (now (top .exit)) (now (bottom .exit)) ⌝ }
 {

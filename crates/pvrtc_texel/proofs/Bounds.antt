@@ -12,14 +12,14 @@ use Rattle.laws.specs.Choice.{pick, both, all}
 use Rattle.laws.proofs.Computed.{each}
 use Rattle.bits.specs.Field.{field}
 use Rattle.bits.proofs.Fields.{field-lt}
-use Rattle.pvrtc_texel.specs.Word.{channel, threeToFive, fourToFive, alphaToFour, colourA, colourB, punchThrough, modulationAt, weightOf, modulationWeight, punched}
+use Rattle.pvrtc_texel.specs.Word.{channelAmong, threeToFive, fourToFive, alphaToFour, colourA, colourB, punchThrough, modulationAt, codeWeight, modulationWeight, punched}
 use Rattle.pvrtc_texel.specs.Texel.{lowWord, highWord, relative, interpolated, unorm8, modulated, upscaled, texelAt}
 
 -- what a channel of a colour reaches: five bits, alpha four
 abbrev pub mostOf : ℕ → ℕ
 mostOf c = pick (eqb c 3) 15 31
 
-channel-most : (c r g b a : ℕ) → r ≤ 31 → g ≤ 31 → b ≤ 31 → a ≤ 15 → channel c r g b a ≤ mostOf c
+channel-most : (c r g b a : ℕ) → r ≤ 31 → g ≤ 31 → b ≤ 31 → a ≤ 15 → channelAmong c r g b a ≤ mostOf c
 channel-most zero r g b a hr hg hb ha = hr
 channel-most (suc zero) r g b a hr hg hb ha = hg
 channel-most (suc (suc zero)) r g b a hr hg hb ha = hb
@@ -113,8 +113,8 @@ unfolding upscaled relative
 upscaled-most n m word colour h x y c =
     eight-most c _ (interpolated-most (mostOf c) (relative x) (relative y) _ _ _ _ (omega arith) (omega arith) (h _ c) (h _ c) (h _ c) (h _ c))
 
-weights-most : (t : Bool) (k : ℕ) → weightOf t k ≤ 8
-unfolding weightOf
+weights-most : (t : Bool) (k : ℕ) → codeWeight t k ≤ 8
+unfolding codeWeight
 weights-most true k = four-most 4 4 k (omega arith) (omega arith)
 weights-most false k = four-most 3 5 k (omega arith) (omega arith)
 

@@ -5,7 +5,7 @@ use Prim.Native.Nat.{ℕ, _+_, _*_, _^_}
 use mathlib.Core.List.{List, [], _∷_}
 use Rattle.bits.specs.Field.{field}
 use Rattle.pvrtc_texel.specs.Texel.{texelAt}
-use Rattle.pvrtc_texel.specs.Image.{badSide, wordsIn, imageRefusal}
+use Rattle.pvrtc_texel.specs.Image.{badPvrtcSide, wordsIn, imageRefusal}
 use Rattle.pvrtc_texel.specs.Counting.{countingWords}
 
 -- the first texel of an image of this one word
@@ -37,7 +37,7 @@ colours = (refl, refl, refl, refl)
 pub refusals :
     (imageRefusal 4 4 8 64 ≡ 0) × (imageRefusal 4096 4096 8388608 67108864 ≡ 0) × (imageRefusal 5 4 7 1 ≡ 61) × (imageRefusal 4 8192 7 1 ≡ 61)
     × (imageRefusal 2 4 7 1 ≡ 61) × (imageRefusal 4 4 7 1 ≡ 4) × (imageRefusal 4 4 8 63 ≡ 5)
-unfolding badSide wordsIn imageRefusal
+unfolding badPvrtcSide wordsIn imageRefusal
 refusals = (refl, refl, refl, refl, refl, refl, refl)
 
 -- the first texel of four words takes all of them, by wrapping; one that stands on a sample takes one

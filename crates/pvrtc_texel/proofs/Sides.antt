@@ -9,7 +9,7 @@ use lib.Dec.{eqb, ltb}
 use lib.Pow.{pow-mono}
 use borrow.Author.Tests.{eqb-true, eqb-false, eq-eqb, ne-eqb, ltb-false, le-ltb, lt-ltb}
 use Rattle.laws.specs.Choice.{pick, either}
-use Rattle.pvrtc_texel.specs.Image.{bitsFrom, sideBits, badSide, wordsIn, imageRefusals, imageRefusal}
+use Rattle.pvrtc_texel.specs.Image.{bitsFrom, sideBits, badPvrtcSide, wordsIn, imageRefusals, imageRefusal}
 
 pub shift-exact : (k : ℕ) → k < 11 → 4 * 2 ^ k % 2 ^ 32 ≡ 4 * 2 ^ k
 shift-exact k h = let l : 2 ^ k ≤ 2 ^ 10 = pow-mono {j = 10} (omega arith) in mod-eq-of-lt (omega arith)
@@ -37,9 +37,9 @@ found side k (suc n) h = go (eqb side (4 * 2 ^ k)) refl (found side (suc k) n) h
   go true e below l = eqb-true side (4 * 2 ^ k) e
   go false e below l = below (omega arith)
 
-module _ (side : ℕ) (h : badSide side ≡ false) where
+module _ (side : ℕ) (h : badPvrtcSide side ≡ false) where
   pub bits-most : sideBits side ≤ 10
-  unfolding badSide
+  unfolding badPvrtcSide
   bits-most = ltb-false 10 (sideBits side) h
 
   -- a side that is not refused is a power of two from 4 on
@@ -57,15 +57,15 @@ product-most most h l = mul-le-mul h l
 -- ---- refusals
 
 module _ (w h bytes places : ℕ) where
-  pub refused-width : badSide w ≡ true → 61 ≡ imageRefusal w h bytes places
+  pub refused-width : badPvrtcSide w ≡ true → 61 ≡ imageRefusal w h bytes places
   unfolding imageRefusal
   refused-width e = rw e
 
-  pub refused-height : badSide w ≡ false → badSide h ≡ true → 61 ≡ imageRefusal w h bytes places
+  pub refused-height : badPvrtcSide w ≡ false → badPvrtcSide h ≡ true → 61 ≡ imageRefusal w h bytes places
   unfolding imageRefusal
   refused-height e f = rw (e, f)
 
-  module _ (e : badSide w ≡ false) (f : badSide h ≡ false) where
+  module _ (e : badPvrtcSide w ≡ false) (f : badPvrtcSide h ≡ false) where
     pub refused-bytes : (bytes ≡ 8 * wordsIn w h → ⊥) → 4 ≡ imageRefusal w h bytes places
     unfolding imageRefusal
     refused-bytes d = rw (e, f, ne-eqb bytes (8 * wordsIn w h) d)

@@ -23,9 +23,9 @@ unfoldable pub sideBits : ℕ → ℕ
 unfolding bitsFrom
 sideBits side = bitsFrom side 0 11
 
-unfoldable pub badSide : ℕ → Bool
+unfoldable pub badPvrtcSide : ℕ → Bool
 unfolding sideBits
-badSide side = ltb 10 (sideBits side)
+badPvrtcSide side = ltb 10 (sideBits side)
 
 -- how many words an image has
 unfoldable pub wordsIn : ℕ → ℕ → ℕ
@@ -34,7 +34,7 @@ wordsIn w h = w / 4 * (h / 4)
 -- "Sides are powers of two from 4 to 4,096, else new refusal 61, tested first; then 4 (bytes not exactly 8 for each word) and 5"
 unfoldable pub imageRefusals : ℕ → ℕ → ℕ → ℕ → List Reason
 imageRefusals w h bytes places =
-    when (either (badSide w) (badSide h)) 61
+    when (either (badPvrtcSide w) (badPvrtcSide h)) 61
     ∷ when (not (eqb bytes (8 * wordsIn w h))) 4
     ∷ when (not (eqb places (4 * (w * h)))) 5
     ∷ []

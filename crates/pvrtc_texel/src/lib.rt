@@ -1,7 +1,7 @@
 // PVRTC1, 4 bits per pixel: what an image of words shows (specs/), and the refusals of an image call.
 ghost use mathlib.Core.Path.{_≡_};
 ghost use Prim.Native.Nat.{_*_, _≤_};
-ghost use Rattle.pvrtc_texel.specs.Image.{sideBits, badSide, wordsIn, imageRefusal};
+ghost use Rattle.pvrtc_texel.specs.Image.{sideBits, badPvrtcSide, wordsIn, imageRefusal};
 
 // The bits of a word's column or row: 0 to 10 for sides of 4 to 4,096 that are powers of two, 11 for any other side.
 pub fn side_bits(side: u32) -> u32
@@ -19,7 +19,7 @@ pub fn side_bits(side: u32) -> u32
 
 // A side that no image has.
 fn bad_side(side: u32) -> bool
-    ensures { λ r. ⌜ r ≡ badSide side ⌝ }
+    ensures { λ r. ⌜ r ≡ badPvrtcSide side ⌝ }
 {
     10 < side_bits(side)
 }

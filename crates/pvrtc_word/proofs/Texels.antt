@@ -7,23 +7,23 @@ use native.Mathlib.Omega.{arith}
 use lib.Dec.{eqb}
 use Rattle.laws.specs.Choice.{pick, both}
 use Rattle.bits.specs.Field.{field}
-use Rattle.pvrtc_texel.specs.Word.{punchThrough, modulationAt, weightOf, modulationWeight, punched}
+use Rattle.pvrtc_texel.specs.Word.{punchThrough, modulationAt, codeWeight, modulationWeight, punched}
 use Rattle.pvrtc_texel.specs.Texel.{unorm8, modulated}
 use Rattle.pvrtc_word.specs.inner.Lanes.{lane, byteOf, rgbaOf}
 use Rattle.pvrtc_word.specs.declared.Rgba.{Rgba}
 
 -- ---- weights, by the four modulations
 
-pub punched-weight : (m : ℕ) → m < 4 → (m + 1) / 2 * 4 ≡ weightOf true m
-unfolding weightOf
+pub punched-weight : (m : ℕ) → m < 4 → (m + 1) / 2 * 4 ≡ codeWeight true m
+unfolding codeWeight
 punched-weight zero h = refl
 punched-weight (suc zero) h = refl
 punched-weight (suc (suc zero)) h = refl
 punched-weight (suc (suc (suc zero))) h = refl
 punched-weight (suc (suc (suc (suc m)))) h = absurd (omega arith)
 
-pub plain-weight : (m : ℕ) → m < 4 → 2 * m + (m + 1) / 2 ≡ weightOf false m
-unfolding weightOf
+pub plain-weight : (m : ℕ) → m < 4 → 2 * m + (m + 1) / 2 ≡ codeWeight false m
+unfolding codeWeight
 plain-weight zero h = refl
 plain-weight (suc zero) h = refl
 plain-weight (suc (suc zero)) h = refl
@@ -44,7 +44,7 @@ alpha-at : (t : Bool) (v : ℕ) → pick t 0 v ≡ pick (both t true) 0 v
 alpha-at true v = refl
 alpha-at false v = refl
 
-module _ (a b w x y : ℕ) (punch : Bool) (m k : ℕ) (p : punch ≡ punchThrough w) (e : m ≡ modulationAt w x y) (f : k ≡ weightOf punch m) where
+module _ (a b w x y : ℕ) (punch : Bool) (m k : ℕ) (p : punch ≡ punchThrough w) (e : m ≡ modulationAt w x y) (f : k ≡ codeWeight punch m) where
   weight-is : k ≡ modulationWeight w x y
   unfolding modulationWeight
   weight-is = f ∙ rw (p, e)

@@ -1,7 +1,7 @@
 // A word of PVRTC1, 4 bits per pixel: its colours, four channels in one number each, and a texel from such numbers and its modulation.
 ghost use mathlib.Core.Path.{_≡_};
 ghost use Prim.Native.Nat.{ℕ, _+_, _*_, _≤_, _<_};
-ghost use Rattle.pvrtc_texel.specs.Word.{threeToFive, fourToFive, colourA, colourB, punchThrough, modulationAt, weightOf, modulationWeight, punched};
+ghost use Rattle.pvrtc_texel.specs.Word.{threeToFive, fourToFive, colourA, colourB, punchThrough, modulationAt, codeWeight, modulationWeight, punched};
 ghost use Rattle.pvrtc_texel.specs.Texel.{unorm8, modulated};
 ghost use Rattle.pvrtc_word.specs.inner.Lanes.{lanes, lanesOf, lane, byteOf, rgbaOf};
 ghost use Rattle.laws.specs.Choice.{pick, both};
@@ -88,7 +88,7 @@ fn modulation(w: u64, x: u64, y: u64) -> u64
 // The weight of colour B: 0, 4, 4, 8 with punch-through, else 0, 3, 5, 8.
 fn weight(punch: bool, m: u64) -> u64
     requires { ⌜ m < 4 ⌝ }
-    ensures { λ r. ⌜ (r ≡ weightOf punch m) × (r ≤ 8) ⌝ }
+    ensures { λ r. ⌜ (r ≡ codeWeight punch m) × (r ≤ 8) ⌝ }
 {
     if punch {
         return (m + 1) / 2 * 4;

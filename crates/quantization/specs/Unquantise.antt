@@ -102,20 +102,20 @@ abbrev repeated : ℕ → ℕ → ℕ → ℕ → ℕ
 repeated n v i zero = 0
 repeated n v i (suc w) = 2 ^ w * (v / 2 ^ (n - 1 - i % n) % 2) + repeated n v (suc i) w
 
-unfoldable replicated : ℕ → ℕ → ℕ → ℕ
-replicated w n v = repeated n v 0 w
+unfoldable replicatedTo : ℕ → ℕ → ℕ → ℕ
+replicatedTo w n v = repeated n v 0 w
 
 -- "returning them to a standard range of 0..255"
 unfoldable pub endpointLevel : Encoding → ℕ → ℕ → ℕ
-unfolding replicated scrambled
-endpointLevel Bits n v = replicated 8 n v
+unfolding replicatedTo scrambled
+endpointLevel Bits n v = replicatedTo 8 n v
 endpointLevel Trits n v = scrambled 0x80 (a ∷ a ∷ a ∷ a ∷ a ∷ a ∷ a ∷ a ∷ a ∷ []) (tritRow endpointRows n) n v
 endpointLevel Quints n v = scrambled 0x80 (a ∷ a ∷ a ∷ a ∷ a ∷ a ∷ a ∷ a ∷ a ∷ []) (quintRow endpointRows n) n v
 
 -- "First, we unquantize the actual stored weight values to the range 0..63." With no bits, "ASTC weight unquantization values".
 unfoldable pub weightLevel : Encoding → ℕ → ℕ → ℕ
-unfolding replicated scrambled
-weightLevel Bits n v = replicated 6 n v
+unfolding replicatedTo scrambled
+weightLevel Bits n v = replicatedTo 6 n v
 weightLevel Trits n v = pick (eqb n 0) (getD (0 ∷ 32 ∷ 63 ∷ []) v 0) (scrambled 0x20 (a ∷ a ∷ a ∷ a ∷ a ∷ a ∷ a ∷ []) (tritRow weightRows n) n v)
 weightLevel Quints n v = pick (eqb n 0) (getD (0 ∷ 16 ∷ 32 ∷ 47 ∷ 63 ∷ []) v 0) (scrambled 0x20 (a ∷ a ∷ a ∷ a ∷ a ∷ a ∷ a ∷ []) (quintRow weightRows n) n v)
 

@@ -41,12 +41,12 @@ level n = record { 0 = n }
 abbrev pub shown : Kind → Texel → List ℕ
 shown kind t = map (shownOf kind) (t .r ∷ t .g ∷ t .b ∷ t .a ∷ [])
 
-abbrev ends : EndpointPair
-ends = record { e0 = 0 ∷ 0 ∷ 0 ∷ 0 ∷ []; e1 = 1 ∷ 1 ∷ 1 ∷ 1 ∷ [] }
+abbrev samplePair : EndpointPair
+samplePair = record { e0 = 0 ∷ 0 ∷ 0 ∷ 0 ∷ []; e1 = 1 ∷ 1 ∷ 1 ∷ 1 ∷ [] }
 
 -- the endpoints 0 and 1 at weight 32
 abbrev halfway : Kind → List ℕ
-halfway kind = shown kind (texelOf (expandedPair kind ends) (level 32) (level 32) 0)
+halfway kind = shown kind (texelOf (expandedPair kind samplePair) (level 32) (level 32) 0)
 
 -- 01, "The program": the block of its sample
 abbrev pub programBlock : ℕ

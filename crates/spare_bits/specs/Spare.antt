@@ -9,7 +9,7 @@ use Rattle.laws.specs.Choice.{pick}
 use Rattle.bits.specs.Field.{field}
 use Rattle.quantization.specs.Ranges.{rangeBits}
 use Rattle.block_header.specs.declared.BlockHeader.{BlockHeader}
-use Rattle.block_header.specs.Counts.{weightBits, componentBits, indexBits, selectorBits, extraBits, endpointCount, endpointRangeOf}
+use Rattle.block_header.specs.Counts.{weightBits, componentBits, partitionIndexBits, selectorBits, extraBits, endpointCount, endpointRangeOf}
 use Rattle.symbolic_block.specs.declared.SymbolicBlock.{SymbolicBlock}
 use Rattle.symbolic_block.specs.Fields.{headerOf}
 use Rattle.symbolic_block.specs.Writing.{endpointsEnd}
@@ -18,10 +18,10 @@ use Rattle.spare_bits.specs.declared.Spare.{Spare}
 -- "the bits of all named fields" of a mode sheet: the mode, the partitions less one, the partition index, the selector, four mode bits, the
 -- endpoint numbers, the plane channel, the extra mode bits and the weights
 unfoldable pub namedBits : BlockHeader → ℕ
-unfolding indexBits selectorBits rangeBits endpointRangeOf endpointCount componentBits extraBits weightBits
+unfolding partitionIndexBits selectorBits rangeBits endpointRangeOf endpointCount componentBits extraBits weightBits
 namedBits h =
     11 + 2
-    + indexBits (h .partitions) + selectorBits (h .partitions) + 4
+    + partitionIndexBits (h .partitions) + selectorBits (h .partitions) + 4
     + rangeBits (endpointRangeOf h) (endpointCount h)
     + componentBits (h .grid .planes) + extraBits (h .partitions) (h .selector)
     + weightBits (h .grid)

@@ -1,7 +1,7 @@
 // The calls exported to C for the best grey captions (02, n).
 ghost use mathlib.Core.Path.{_≡_};
 ghost use lib.ListN.{length};
-ghost use Rattle.caption_image.specs.Image.{imageRefusal, imageOut, blockRefusal, blockOut};
+ghost use Rattle.caption_image.specs.Image.{captionImageRefusal, captionImageOut, captionBlockRefusal, captionBlockOut};
 
 // The block of sixteen wanted greys: 0, or 4, 5 with `block` as it was where a length is wrong.
 #[no_mangle]
@@ -11,8 +11,8 @@ pub extern "C" fn stallbrook_astc_caption_block(
     wanted: &[u8],
     block: &mut [u8],
 ) -> u8
-    ensures { λ r. ⌜ r ≡ blockRefusal (length (now (block .entry))) (length (now (wanted .entry))) ⌝ }
-    ensures { λ r. ⌜ now (block .exit) ≡ blockOut e0 e1 (now (wanted .entry)) (now (block .entry)) ⌝ }
+    ensures { λ r. ⌜ r ≡ captionBlockRefusal (length (now (block .entry))) (length (now (wanted .entry))) ⌝ }
+    ensures { λ r. ⌜ now (block .exit) ≡ captionBlockOut e0 e1 (now (wanted .entry)) (now (block .entry)) ⌝ }
 {
     caption_image::caption_into(e0, e1, wanted, block)
 }
@@ -27,8 +27,8 @@ pub extern "C" fn stallbrook_astc_caption_image(
     wanted: &[u8],
     blocks: &mut [u8],
 ) -> u8
-    ensures { λ r. ⌜ r ≡ imageRefusal width height (length (now (blocks .entry))) (length (now (wanted .entry))) ⌝ }
-    ensures { λ r. ⌜ now (blocks .exit) ≡ imageOut e0 e1 width height (now (wanted .entry)) (now (blocks .entry)) ⌝ }
+    ensures { λ r. ⌜ r ≡ captionImageRefusal width height (length (now (blocks .entry))) (length (now (wanted .entry))) ⌝ }
+    ensures { λ r. ⌜ now (blocks .exit) ≡ captionImageOut e0 e1 width height (now (wanted .entry)) (now (blocks .entry)) ⌝ }
 {
     caption_image::caption_image(e0, e1, width, height, wanted, blocks)
 }

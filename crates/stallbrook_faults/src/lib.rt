@@ -5,7 +5,7 @@ ghost use lib.ListN.{length};
 ghost use Rattle.block_reading.specs.declared.Reading.the-variants.{Ordinary};
 ghost use Rattle.fault_numbers.specs.Calls.{faultsNumber, faultsShown, faultsTally};
 ghost use Rattle.volume_layout.specs.Call.{volumeBlocks, volumePlaces};
-ghost use Rattle.stallbrook_faults.specs.Calls.{imageBlocks, bufferNumbers, blockNumbers};
+ghost use Rattle.stallbrook_faults.specs.Calls.{imageBlockCount, bufferNumbers, blockNumberCount};
 
 // The fault of each block, 0 for none, in raster order: 0, or the refusal's number with `faults` as it was; `tally` as in the image calls.
 #[no_mangle]
@@ -37,7 +37,7 @@ pub extern "C" fn stallbrook_astc_image_faults(
 // How many blocks an image has: 0 where its footprint or a side is refused.
 #[no_mangle]
 pub extern "C" fn stallbrook_astc_image_blocks(footprint: u8, width: u32, height: u32) -> u64
-    ensures { λ r. ⌜ r ≡ imageBlocks footprint width height ⌝ }
+    ensures { λ r. ⌜ r ≡ imageBlockCount footprint width height ⌝ }
 {
     let e = image_size::size_refusal(footprint, width, height);
     if e != 0 {
@@ -63,7 +63,7 @@ pub extern "C" fn stallbrook_astc_image_numbers(width: u32, height: u32) -> u64
 // How many numbers a block's result buffer takes: 0 above footprint 23.
 #[no_mangle]
 pub extern "C" fn stallbrook_astc_block_numbers(footprint: u8) -> u32
-    ensures { λ r. ⌜ r ≡ blockNumbers footprint ⌝ }
+    ensures { λ r. ⌜ r ≡ blockNumberCount footprint ⌝ }
 {
     4 * footprint::texels(footprint) as u32
 }

@@ -5,13 +5,13 @@ use mathlib.Core.List.{List}
 use lib.ListN.{length}
 use Rattle.image_layout.specs.Call.{toldOf}
 use Rattle.image_numbers.specs.Calls.{numberWith, outWith, tallyWith}
-use Rattle.canonical_image.specs.Frames.{frameRefusal, frameAnswer, frameOut}
+use Rattle.canonical_image.specs.Frames.{canonicalRefusal, canonicalAnswer, canonicalOut}
 
 abbrev pub frameNumber : ℕ → ℕ → ℕ → List ℕ → ℕ → ℕ → ℕ
-frameNumber fp w h s places n = numberWith (toldOf (frameAnswer fp w h s places)) (frameRefusal fp w h (length s) places) n
+frameNumber fp w h s places n = numberWith (toldOf (canonicalAnswer fp w h s places)) (canonicalRefusal fp w h (length s) places) n
 
 abbrev pub frameShown : ℕ → ℕ → ℕ → List ℕ → List ℕ → ℕ → List ℕ
-frameShown fp w h s old n = outWith n (frameOut fp w h s old) old
+frameShown fp w h s old n = outWith n (canonicalOut fp w h s old) old
 
 abbrev pub frameTally : ℕ → ℕ → ℕ → List ℕ → ℕ → List ℕ → List ℕ
-frameTally fp w h s places old = tallyWith (toldOf (frameAnswer fp w h s places)) old
+frameTally fp w h s places old = tallyWith (toldOf (canonicalAnswer fp w h s places)) old

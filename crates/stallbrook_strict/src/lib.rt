@@ -13,7 +13,7 @@ ghost use Rattle.image_numbers.specs.Calls.{imageNumberIn, imageShownIn, tallyS
 ghost use Rattle.volume_numbers.specs.Calls.{volumeNumberIn, volumeShownIn, tallyShownIn as volumeTallyShown};
 ghost use Rattle.strict_reader.specs.Sheets.{sheetIn};
 ghost use Rattle.symbolic_numbers.specs.Calls.{putNumber, putNumbers, putSpare};
-ghost use Rattle.canonical_image.specs.Frames.{oneAnswer, oneOut, frameRefusal};
+ghost use Rattle.canonical_image.specs.Frames.{oneAnswer, oneOut, canonicalRefusal};
 ghost use Rattle.stallbrook_strict.specs.Frames.{frameNumber, frameShown, frameTally};
 
 // ---- one block: the fault's number, 21 too, the refusal's with `out` as it was, or 0
@@ -281,7 +281,7 @@ pub extern "C" fn stallbrook_astc_canonical_block(footprint: u8, block: &[u8], o
 
 // The first refusal of an image's rewriting, else 5.
 fn refusal_or_5(footprint: u8, width: u32, height: u32, bytes: usize, places: usize) -> u8
-    ensures { λ r. ⌜ r ≡ refusalOr5 (frameRefusal footprint width height bytes places) ⌝ }
+    ensures { λ r. ⌜ r ≡ refusalOr5 (canonicalRefusal footprint width height bytes places) ⌝ }
 {
     let e = canonical_image::frame_refusal(footprint, width, height, bytes, places);
     if e == 0 { 5 } else { e }

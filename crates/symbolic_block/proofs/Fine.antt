@@ -17,7 +17,7 @@ use Rattle.block_header.specs.Counts.{weightCount, weightBits, endpointCount, b
 use Rattle.block_header.specs.Reasons.{tooManyWeights, weightBitsOutside, tooManyEndpoints, tooFewEndpointBits, someHdr, hdrRefused}
 use Rattle.symbolic_block.specs.declared.SymbolicBlock.{SymbolicBlock}
 use Rattle.symbolic_block.specs.Fields.{sheetGrid, headerOf, isMarked, colourIn, extentIn, modeIn, endpointIn, weightIn}
-use Rattle.symbolic_block.specs.Refusals.{within, outside, isNoMode, unknownFootprint, badMark, badHdr, badWidth, badHeight, badDepth, badRange, badPlanes, badComponent, badPartitions, badIndex, badSelector, badModes, someInUse, noBlockMode, modesMisfit, badEndpoints, badWeights, markedWithout, modeRefusals}
+use Rattle.symbolic_block.specs.Refusals.{within, outside, isNoMode, unknownFootprint, badMark, badHdr, badWidth, badHeight, badGridDepth, badRange, badPlanes, badComponent, badPartitions, badIndex, badSelector, badModes, someInUse, noBlockMode, modesMisfit, badEndpoints, badWeights, markedWithout, modeRefusals}
 use Rattle.symbolic_block.specs.Writing.{modeNumber}
 use Rattle.laws.proofs.Reasons.{None, none-at, either-none}
 use Rattle.laws.specs.Reasons.{reasonAt}
@@ -79,7 +79,7 @@ abbrev Not : ℕ → SymbolicBlock → ℕ → Type 0
 Not fp s i = reasonAt (modeRefusals fp s) i .holds ≡ false
 
 pub fine : (fp : ℕ) (s : SymbolicBlock) → (s .mark ≡ 1 → ⊥) → None (modeRefusals fp s) → Fine fp s
-unfolding modeRefusals isDeep unknownFootprint badMark badHdr badWidth badHeight badDepth badRange badPlanes badComponent badPartitions badIndex badSelector badModes someInUse noBlockMode badEndpoints badWeights tooManyWeights weightBitsOutside tooManyEndpoints tooFewEndpointBits hdrRefused markedWithout
+unfolding modeRefusals isDeep unknownFootprint badMark badHdr badWidth badHeight badGridDepth badRange badPlanes badComponent badPartitions badIndex badSelector badModes someInUse noBlockMode badEndpoints badWeights tooManyWeights weightBitsOutside tooManyEndpoints tooFewEndpointBits hdrRefused markedWithout
 fine fp s m n =
     let at = none-at (modeRefusals fp s) n in
     let w = either-none (ltb (s .width) 2) (ltb 12 (s .width)) (at 3) in

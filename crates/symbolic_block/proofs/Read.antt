@@ -23,13 +23,13 @@ use Rattle.volume_mode.specs.Either.{blockModeIn, isDeep, blockModeOf}
 use Rattle.block_mode.specs.Back2D.{Limits}
 use Rattle.volume_mode.proofs.Modes.{mode-limits, mode-found, mode-deep}
 use Rattle.block_header.specs.declared.BlockHeader.{BlockHeader}
-use Rattle.block_header.specs.Counts.{weightCount, weightBits, componentBits, indexBits, selectorBits, extraBits, endpointCount, endpointRangeOf}
+use Rattle.block_header.specs.Counts.{weightCount, weightBits, componentBits, partitionIndexBits, selectorBits, extraBits, endpointCount, endpointRangeOf}
 use Rattle.block_header.specs.Reasons.{someHdr, hdrRefused}
 use Rattle.block_fault.specs.Bits.{modeAt, isVoid, isReserved, gridIn, partitionsAt, indexAt, selectorAt, baseAt, extraAt, componentAt, modeOf, headerWith, headerAt, endpointAt, weightAt}
 use Rattle.block_fault.proofs.Verdicts.{a-grid}
 use Rattle.symbolic_block.specs.declared.SymbolicBlock.{SymbolicBlock}
 use Rattle.symbolic_block.specs.Fields.{storedIn, Sized}
-use Rattle.symbolic_block.specs.Refusals.{within, outside, noBlockMode, modesMisfit, unknownFootprint, badMark, badHdr, badWidth, badHeight, badDepth, badRange, badPlanes, badComponent, badPartitions, badIndex, badSelector, badModes, badEndpoints, badWeights, markedWithout, modeRefusals}
+use Rattle.symbolic_block.specs.Refusals.{within, outside, noBlockMode, modesMisfit, unknownFootprint, badMark, badHdr, badWidth, badHeight, badGridDepth, badRange, badPlanes, badComponent, badPartitions, badIndex, badSelector, badModes, badEndpoints, badWeights, markedWithout, modeRefusals}
 use Rattle.symbolic_block.specs.Reading.{modeBlock}
 use Rattle.laws.proofs.Reasons.{None, _also_, none-at, none-either}
 use Rattle.symbolic_block.proofs.Lists.{is-within, all-within, stored-at, zeros-unused}
@@ -62,15 +62,15 @@ module _ (fp B : ℕ) (g : WeightGrid) (P sel : ℕ) (m : noBlockMode g ≡ fals
 
   code< : code < 2 ^ (extraBits P sel + 4)
   unfolding extraAt baseAt
-  code< = rw (pow-add 2 (extraBits P sel) 4) (digits-lt (field-lt B (128 - weightBits g - extraBits P sel) (extraBits P sel)) (field-lt B (13 + indexBits P + selectorBits P) 4))
+  code< = rw (pow-add 2 (extraBits P sel) 4) (digits-lt (field-lt B (128 - weightBits g - extraBits P sel) (extraBits P sel)) (field-lt B (13 + partitionIndexBits P + selectorBits P) 4))
 
   component< : componentAt B g P sel < 2 ^ componentBits (g .planes)
   unfolding componentAt
   component< = field-lt B (128 - weightBits g - extraBits P sel - componentBits (g .planes)) (componentBits (g .planes))
 
-  index< : indexAt B P < 2 ^ indexBits P
+  index< : indexAt B P < 2 ^ partitionIndexBits P
   unfolding indexAt
-  index< = field-lt B 13 (indexBits P)
+  index< = field-lt B 13 (partitionIndexBits P)
 
   sel<4 : sel ≤ 3
   sel<4 = omega (arith, selector-le P sel s, pick-le (eqb P 1) 0 3 3 (omega arith) (omega arith))
@@ -109,7 +109,7 @@ module _ (fp B : ℕ) (v : isVoid (modeAt fp B) ≡ false) (r : isReserved (mode
 
   selector< : selectorAt B (partitionsAt B) < 2 ^ selectorBits (partitionsAt B)
   unfolding selectorAt
-  selector< = field-lt B (13 + indexBits (partitionsAt B)) (selectorBits (partitionsAt B))
+  selector< = field-lt B (13 + partitionIndexBits (partitionsAt B)) (selectorBits (partitionsAt B))
 
   pub settled : Settled fp (headerAt fp B)
   settled =
@@ -184,7 +184,7 @@ module _ (B : ℕ) (h : BlockHeader) where
   }
 
   pub mode-accepted : (fp : ℕ) → fp ≤ 23 → Settled fp h → None (modeFaults fp h) → None (modeRefusals fp read)
-  unfolding modeRefusals modeBlock isDeep unknownFootprint badMark badHdr badWidth badHeight badDepth badRange badPlanes badComponent badPartitions badIndex badSelector badModes hdrRefused markedWithout
+  unfolding modeRefusals modeBlock isDeep unknownFootprint badMark badHdr badWidth badHeight badGridDepth badRange badPlanes badComponent badPartitions badIndex badSelector badModes hdrRefused markedWithout
   mode-accepted fp low i n =
       let r = none-at (modeFaults fp h) n in
       le-ltb 23 fp low

@@ -13,13 +13,13 @@ use Rattle.quantization.specs.Ranges.{rangeBits}
 use Rattle.quantization.proofs.Ranges.{endpoint-range-largest}
 use Rattle.color_endpoint.specs.Table.{numberCount, startOf}
 use Rattle.block_header.specs.declared.BlockHeader.{BlockHeader}
-use Rattle.block_header.specs.Counts.{weightBits, componentBits, indexBits, selectorBits, extraBits, endpointCount, bitsLeft, endpointRangeOf}
+use Rattle.block_header.specs.Counts.{weightBits, componentBits, partitionIndexBits, selectorBits, extraBits, endpointCount, bitsLeft, endpointRangeOf}
 use Rattle.block_fault.specs.Bits.{endpointsFrom}
 use Rattle.symbolic_block.specs.Writing.{endpointsEnd, componentFrom}
 
 -- ---- widths that depend on the partitions
 
-pub from-is : (P : ℕ) → endpointsFrom P ≡ 13 + indexBits P + selectorBits P + 4
+pub from-is : (P : ℕ) → endpointsFrom P ≡ 13 + partitionIndexBits P + selectorBits P + 4
 unfolding endpointsFrom
 from-is P = omega arith
 
@@ -39,12 +39,12 @@ bits-or-none-le : (w x : ℕ) (none : Bool) → x < 2 ^ pick none 0 w → x ≤ 
 bits-or-none-le w x true h = omega arith
 bits-or-none-le w x false h = omega arith
 
-pub index-lt : (P x : ℕ) → x ≤ pick (eqb P 1) 0 1023 → x < 2 ^ indexBits P
-unfolding indexBits
+pub index-lt : (P x : ℕ) → x ≤ pick (eqb P 1) 0 1023 → x < 2 ^ partitionIndexBits P
+unfolding partitionIndexBits
 index-lt P x = bits-or-none-lt 10 x (eqb P 1)
 
-pub index-le : (P x : ℕ) → x < 2 ^ indexBits P → x ≤ pick (eqb P 1) 0 1023
-unfolding indexBits
+pub index-le : (P x : ℕ) → x < 2 ^ partitionIndexBits P → x ≤ pick (eqb P 1) 0 1023
+unfolding partitionIndexBits
 index-le P x = bits-or-none-le 10 x (eqb P 1)
 
 pub selector-lt : (P x : ℕ) → x ≤ pick (eqb P 1) 0 3 → x < 2 ^ selectorBits P

@@ -55,8 +55,8 @@ unfoldable pub badHeight : SymbolicBlock → Bool
 badHeight s = outside 2 12 (s .height)
 
 -- 02, h: "a grid depth, in a mode sheet 1 for flat footprints and 2 to 6 for volumes, else 31"
-unfoldable pub badDepth : ℕ → SymbolicBlock → Bool
-badDepth fp s = pick (isVolume fp) (outside 2 6 (s .depth)) (outside 1 1 (s .depth))
+unfoldable pub badGridDepth : ℕ → SymbolicBlock → Bool
+badGridDepth fp s = pick (isVolume fp) (outside 2 6 (s .depth)) (outside 1 1 (s .depth))
 
 unfoldable pub badRange : SymbolicBlock → Bool
 badRange s = ltb 11 (s .range)
@@ -139,7 +139,7 @@ modeRefusals fp s =
     ∷ when (badHdr s) 31
     ∷ when (badWidth s) 31
     ∷ when (badHeight s) 31
-    ∷ when (badDepth fp s) 31
+    ∷ when (badGridDepth fp s) 31
     ∷ when (badRange s) 31
     ∷ when (badPlanes s) 31
     ∷ when (badComponent s) 31
@@ -186,7 +186,7 @@ refusals fp s = pick (eqb (s .mark) 1) (voidRefusals fp s) (modeRefusals fp s)
 
 -- the refusal of a symbolic block at a footprint, 0 for none
 unfoldable pub refusalOf : ℕ → SymbolicBlock → ℕ
-unfolding refusals modeRefusals voidRefusals within unknownFootprint badMark badHdr badWidth badHeight badDepth badRange badPlanes badComponent badPartitions badIndex badSelector badModes badColours badExtentFields someInUse noBlockMode modesMisfit badEndpoints badWeights markedWithout badExtents
+unfolding refusals modeRefusals voidRefusals within unknownFootprint badMark badHdr badWidth badHeight badGridDepth badRange badPlanes badComponent badPartitions badIndex badSelector badModes badColours badExtentFields someInUse noBlockMode modesMisfit badEndpoints badWeights markedWithout badExtents
 refusalOf fp s = firstOf (refusals fp s)
 
 -- "A sheet is acceptable at a footprint when none of its refusals holds there."

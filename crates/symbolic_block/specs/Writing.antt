@@ -14,7 +14,7 @@ use Rattle.footprint.specs.Footprint.{isVolume}
 use Rattle.volume_mode.specs.Either.{blockModeOf}
 use Rattle.void_extent.specs.Writing.{voidCells}
 use Rattle.block_header.specs.declared.BlockHeader.{BlockHeader}
-use Rattle.block_header.specs.Counts.{weightCount, weightBits, componentBits, indexBits, selectorBits, extraBits, endpointCount, endpointRangeOf}
+use Rattle.block_header.specs.Counts.{weightCount, weightBits, componentBits, partitionIndexBits, selectorBits, extraBits, endpointCount, endpointRangeOf}
 use Rattle.block_fault.specs.Bits.{endpointsFrom}
 use Rattle.symbolic_block.specs.declared.SymbolicBlock.{SymbolicBlock}
 use Rattle.symbolic_block.specs.Fields.{sheetGrid, headerOf, colourIn, extentIn}
@@ -66,10 +66,10 @@ modeCells s =
     cell 0 11 (modeNumber (blockModeOf (sheetGrid s)))
     ∷ cell 11 2 (P - 1)
     -- "partition index 22..13", then the selector; with one partition neither has bits
-    ∷ cell 13 (indexBits P) (s .index)
-    ∷ cell (13 + indexBits P) (selectorBits P) (s .selector)
+    ∷ cell 13 (partitionIndexBits P) (s .index)
+    ∷ cell (13 + partitionIndexBits P) (selectorBits P) (s .selector)
     -- four mode bits
-    ∷ cell (13 + indexBits P + selectorBits P) 4 (modesCode h % 2 ^ 4)
+    ∷ cell (13 + partitionIndexBits P + selectorBits P) 4 (modesCode h % 2 ^ 4)
     -- "endpoint numbers from bit 17", "from bit 29"
     ∷ cell (endpointsFrom P) E (endpointStream s)
     -- "leaves spare bits 0"
@@ -84,5 +84,5 @@ modeCells s =
 
 -- the 128 bits of a symbolic block that is acceptable at a footprint, which says how a void extent is laid out
 unfoldable pub blockOf : ℕ → SymbolicBlock → ℕ
-unfolding laid voidCells modeCells modesCode endpointStream weightStream endpointsEnd componentFrom packed reverse blockModeOf endpointsFrom endpointRangeOf weightBits componentBits indexBits selectorBits extraBits encodingAt bitsAt rangeBits
+unfolding laid voidCells modeCells modesCode endpointStream weightStream endpointsEnd componentFrom packed reverse blockModeOf endpointsFrom endpointRangeOf weightBits componentBits partitionIndexBits selectorBits extraBits encodingAt bitsAt rangeBits
 blockOf fp s = pick (eqb (s .mark) 1) (laid (voidCells (isVolume fp) (s .hdr) (extentIn s) (colourIn s))) (laid (modeCells s))

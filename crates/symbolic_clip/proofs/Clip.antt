@@ -23,7 +23,7 @@ use Rattle.block_header.specs.Reasons.{someHdr, gridReasons, endpointReasons, e
 use Rattle.laws.specs.Reasons.{Reason, when, firstOf}
 use Rattle.symbolic_block.specs.declared.SymbolicBlock.{SymbolicBlock}
 use Rattle.symbolic_block.specs.Fields.{sheetGrid, headerOf, isMarked, modeIn, endpointIn, weightIn, Sized}
-use Rattle.symbolic_block.specs.Refusals.{within, outside, unknownFootprint, badMark, badHdr, badWidth, badHeight, badDepth, badRange, badPlanes, badComponent, badPartitions, badIndex, badSelector, badModes, badColours, badExtentFields, someInUse, modesMisfit, badEndpoints, badWeights, markedWithout, modeRefusals, voidRefusals, refusals, refusalOf}
+use Rattle.symbolic_block.specs.Refusals.{within, outside, unknownFootprint, badMark, badHdr, badWidth, badHeight, badGridDepth, badRange, badPlanes, badComponent, badPartitions, badIndex, badSelector, badModes, badColours, badExtentFields, someInUse, modesMisfit, badEndpoints, badWeights, markedWithout, modeRefusals, voidRefusals, refusals, refusalOf}
 use Rattle.laws.proofs.Reasons.{none-at, first-none, either-none}
 use Rattle.symbolic_block.proofs.Lists.{not-not, stored-at, tab-back, stored-back, within-used, within-unused}
 use Rattle.symbolic_block.proofs.Room.{pick-le}
@@ -315,12 +315,12 @@ module _ (s : SymbolicBlock) where
       (above (pick (eqb (s .partitions) 1) 0 3) (s .selector) (omega (arith, pick-le (eqb (s .partitions) 1) 0 3 3 (omega arith) (omega arith))))
 
   -- a depth in a volume's limits or in a flat one's
-  depth-same : (fp : ℕ) → badDepth fp (clip s) ≡ badDepth fp s
-  unfolding badDepth
+  depth-same : (fp : ℕ) → badGridDepth fp (clip s) ≡ badGridDepth fp s
+  unfolding badGridDepth
   depth-same fp = rw (below 2 (s .depth) (omega arith), above 6 (s .depth) (omega arith), below 1 (s .depth) (omega arith), above 1 (s .depth) (omega arith))
 
-  depth-kept : (fp : ℕ) → badDepth fp s ≡ false → min (s .depth) 255 ≡ s .depth
-  unfolding badDepth
+  depth-kept : (fp : ℕ) → badGridDepth fp s ≡ false → min (s .depth) 255 ≡ s .depth
+  unfolding badGridDepth
   depth-kept fp = go (isVolume fp) where
     go : (b : Bool) → pick b (outside 2 6 (s .depth)) (outside 1 1 (s .depth)) ≡ false → min (s .depth) 255 ≡ s .depth
     go true e = kept 6 (s .depth) (omega arith) (either-none (ltb (s .depth) 2) _ e .1)
@@ -371,18 +371,18 @@ module _ (s : SymbolicBlock) where
     grid-is =
         let h = either-none (badWidth s) _ grid-none .1 in
         let d = either-none (badHeight s) _ h .1 in
-        let r = either-none (badDepth fp s) _ d .1 in
+        let r = either-none (badGridDepth fp s) _ d .1 in
         rw (
           kept 12 (s .width) (omega arith) (either-none (ltb (s .width) 2) _ (either-none (badWidth s) _ grid-none .0) .1),
           kept 12 (s .height) (omega arith) (either-none (ltb (s .height) 2) _ (either-none (badHeight s) _ h .0) .1),
-          depth-kept fp (either-none (badDepth fp s) _ d .0),
+          depth-kept fp (either-none (badGridDepth fp s) _ d .0),
           kept 11 (s .range) (omega arith) (either-none (badRange s) _ r .0),
           kept 2 (s .planes) (omega arith) (either-none (ltb (s .planes) 1) _ (either-none (badRange s) _ r .1) .1),
         )
 
     range-in : s .range ≤ 11
     unfolding badGrid badRange
-    range-in = ltb-false 11 (s .range) (either-none (badRange s) _ (either-none (badDepth fp s) _ (either-none (badHeight s) _ (either-none (badWidth s) _ grid-none .1) .1) .1) .0)
+    range-in = ltb-false 11 (s .range) (either-none (badRange s) _ (either-none (badGridDepth fp s) _ (either-none (badHeight s) _ (either-none (badWidth s) _ grid-none .1) .1) .1) .0)
 
     modes-kept : tab (λ i. min (modeIn s i) 255) 4 ≡ s .modes
     modes-kept = tab-back (s .modes) (λ i. min (modeIn s i) 255) 0 4 (z .modes-4) (λ i l. go i l (ltb i (s .partitions)) refl) where

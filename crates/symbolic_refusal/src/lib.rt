@@ -13,7 +13,7 @@ ghost use Rattle.laws.specs.Reasons.{firstOf};
 ghost use Rattle.footprint.specs.Footprint.{isVolume};
 ghost use Rattle.void_extent.specs.Layout.{badExtents};
 ghost use Rattle.symbolic_block.specs.Fields.{sheetGrid, headerOf, storedIn};
-ghost use Rattle.symbolic_block.specs.Refusals.{unknownFootprint, outside, within, noBlockMode, misfit, modesMisfit, badDepth, badExtentFields, badComponent, badIndex, badSelector, badEndpoints, badWeights, markedWithout, modeRefusals, voidRefusals, refusalOf};
+ghost use Rattle.symbolic_block.specs.Refusals.{unknownFootprint, outside, within, noBlockMode, misfit, modesMisfit, badGridDepth, badExtentFields, badComponent, badIndex, badSelector, badEndpoints, badWeights, markedWithout, modeRefusals, voidRefusals, refusalOf};
 ghost use Rattle.symbolic_refusal.specs.inner.Stages.{orElse, badGrid, badPartitioning, badLists, badFields, badShown, gridInUse, partitioningInUse, numbersInUse, badVoidFields, fieldReasons, numberReasons};
 
 fn both(a: bool, b: bool) -> bool
@@ -133,7 +133,7 @@ fn weights_within(xs: [Stored; 64], n: usize, most: u16) -> bool
 // ---- 31 of a mode sheet
 
 fn bad_depth(fp: u8, s: SymbolicBlock) -> bool
-    ensures { λ r. ⌜ r ≡ badDepth fp s ⌝ }
+    ensures { λ r. ⌜ r ≡ badGridDepth fp s ⌝ }
 {
     if footprint::is_volume(fp) {
         return outside(2, 6, s.depth);

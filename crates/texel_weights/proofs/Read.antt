@@ -15,7 +15,7 @@ use Rattle.bits.specs.Field.{reverse}
 use Rattle.encoding.specs.declared.Level.{Level}
 use Rattle.encoding.specs.declared.LevelPair.{LevelPair}
 use Rattle.encoding.specs.declared.Stored.{Stored}
-use Rattle.encoding.specs.Levels.{firstLevel, secondLevel, levelPair, Bytes}
+use Rattle.encoding.specs.Levels.{firstLevel, secondLevel, levelPair, BytePair}
 use Rattle.quantization.specs.Ranges.{encodingAt, bitsAt, rangeBits}
 use Rattle.quantization.specs.Unquantise.{unquantWeight}
 use Rattle.integer_sequence.specs.Reading.{number, sequenceAt, stored}
@@ -24,7 +24,7 @@ use Rattle.sequence_numbers.specs.inner.Eight.{Eight}
 use Rattle.weight_grid.specs.Cell as cell
 use Rattle.weight_grid.specs.Cell.{level}
 use Rattle.weight_grid.specs.Bilinear.{blendOf}
-use Rattle.weight_grid.specs.inner.Points.{noPoint, pointOf, pointsOf, stepOf, readOf}
+use Rattle.weight_grid.specs.inner.Points.{noPoint, pointOf, pointsOf, neighbourStep, readOf}
 use Rattle.block_mode.specs.Back2D.{Limits}
 use Rattle.block_header.specs.declared.BlockHeader.{BlockHeader}
 use Rattle.block_header.specs.Counts.{weightCount}
@@ -97,7 +97,7 @@ module _ (B : ℕ) (h : BlockHeader) (l : Limits (h .grid)) (room : weightCount 
 
 -- a plane of what is read, from the four points
 pub read-told : (plane : LevelPair → ℕ) (points : List LevelPair) (width height gs gt : ℕ) {n right below v : ℕ} {p : List LevelPair} → n ≡ gt / 16 * width + gs / 16
-    → right ≡ stepOf gs width 1 → below ≡ stepOf gt height width
+    → right ≡ neighbourStep gs width 1 → below ≡ neighbourStep gt height width
     → p ≡ getD points n noPoint ∷ getD points (n + right) noPoint ∷ getD points (n + below) noPoint ∷ getD points (n + below + right) noPoint ∷ []
     → v ≡ blendOf (gs % 16) (gt % 16) (plane (getD p 0 noPoint)) (plane (getD p 1 noPoint)) (plane (getD p 2 noPoint)) (plane (getD p 3 noPoint))
     → v ≡ readOf plane points width height gs gt
@@ -107,7 +107,7 @@ read-told plane points width height gs gt en er eb ep ev = ev ∙ rw (ep, en, er
 -- their levels are bytes
 pub bytes-told : (B : ℕ) (h : BlockHeader) (n right below : ℕ) {p : List LevelPair}
     → p ≡ getD (pointsAt B h) n noPoint ∷ getD (pointsAt B h) (n + right) noPoint ∷ getD (pointsAt B h) (n + below) noPoint ∷ getD (pointsAt B h) (n + below + right) noPoint ∷ []
-    → Bytes (getD p 0 noPoint) × Bytes (getD p 1 noPoint) × Bytes (getD p 2 noPoint) × Bytes (getD p 3 noPoint)
+    → BytePair (getD p 0 noPoint) × BytePair (getD p 1 noPoint) × BytePair (getD p 2 noPoint) × BytePair (getD p 3 noPoint)
 bytes-told B h n right below ep =
     let b = byte-levels h (weightAt B h) in
     rw ep (b n, b (n + right), b (n + below), b (n + below + right))

@@ -8,7 +8,7 @@ use denote.Ref.{RefT, now}
 use Rattle.interpolation.specs.declared.Kind.{Kind}
 use Rattle.image_texel.specs.declared.Asked.{Asked}
 use Rattle.image_texel.specs.declared.Sides.{Sides}
-use Rattle.image_texel.specs.Making.{viewRefusal, sidesOf}
+use Rattle.image_texel.specs.Making.{viewRefusal, viewSides}
 use Rattle.image_texel.specs.Asking.{refusedAsking, askedAt}
 use Rattle.image_texel.proofs.Ask.{sides-taken, sides-refused, no-sides}
 use Rattle.view.specs.declared.View.{View}

@@ -7,7 +7,7 @@ use Rattle.laws.specs.Choice.{all}
 use Rattle.laws.proofs.Computed.{each}
 use Rattle.weight_grid.specs.Place.{scaleOf, gridPlace}
 use Rattle.weight_grid.proofs.Reading.{place-le}
-use Rattle.volume_infill.specs.inner.Way.{Placed}
+use Rattle.volume_infill.specs.inner.Way.{WithinGrid}
 
 fits : T (all (λ side. leb (scaleOf side * (side - 1)) 1026) 13)
 unfolding scaleOf
@@ -19,7 +19,7 @@ on-axis side i points s l p =
 
 -- a grid of w x h x d points in a block of bw x bh x bd texels, the texel at x, y, z
 pub placed : (bw bh bd w h d x y z : ℕ) → bw ≤ 12 → bh ≤ 12 → bd ≤ 12 → 1 ≤ w → w ≤ 12 → 1 ≤ h → h ≤ 12 → 1 ≤ d → d ≤ 12 → w * h * d ≤ 64
-    → x < bw → y < bh → z < bd → Placed w h d (gridPlace (scaleOf bw) x w) (gridPlace (scaleOf bh) y h) (gridPlace (scaleOf bd) z d)
+    → x < bw → y < bh → z < bd → WithinGrid w h d (gridPlace (scaleOf bw) x w) (gridPlace (scaleOf bh) y h) (gridPlace (scaleOf bd) z d)
 placed bw bh bd w h d x y z sw sh sd wl wm hl hm dl dm room hx hy hz = record {
   width-low = wl;
   height-low = hl;

@@ -16,26 +16,26 @@ use Rattle.encoding.specs.declared.Level.{Level}
 use Rattle.encoding.specs.declared.LevelPair.{LevelPair}
 use Rattle.encoding.specs.Levels.{firstLevel, secondLevel, levelPair}
 use Rattle.weight_grid.specs.Cell.{levelIn}
-use Rattle.weight_grid.specs.inner.Points.{stepOf, noPoint, pointOf, pointsOf}
+use Rattle.weight_grid.specs.inner.Points.{neighbourStep, noPoint, pointOf, pointsOf}
 use Rattle.weight_grid.proofs.Points.{point-lt}
 use Rattle.volume_infill.specs.declared.Walk.{Walk}
 use Rattle.volume_infill.specs.declared.Route.{Route}
-use Rattle.volume_infill.specs.Simplex.{volumeCellOf, fourOf, volumeInfill}
-use Rattle.volume_infill.specs.inner.Way.{walkOf, routeOf, volumeRead, Placed}
+use Rattle.volume_infill.specs.Simplex.{volumeCellOf, simplexSum, volumeInfill}
+use Rattle.volume_infill.specs.inner.Way.{walkOf, routeOf, volumeRead, WithinGrid}
 use Rattle.volume_infill.proofs.Sixteenths.{four-le}
 use Rattle.volume_infill.proofs.Simplex.{simplex-same, walk-sum, walk-le, passed, walked}
 
 -- a step of any size is so many of the step of 1
-step-times : (g points size : ℕ) → stepOf g points size ≡ stepOf g points 1 * size
-unfolding stepOf
+step-times : (g points size : ℕ) → neighbourStep g points size ≡ neighbourStep g points 1 * size
+unfolding neighbourStep
 step-times g points size = go (ltb (g / 16 + 1) points) where
   go : (t : Bool) → pick t size 0 ≡ pick t 1 0 * size
   go true = sym (one-mul size)
   go false = sym (zero-mul size)
 
 -- the step of 1 stays within the axis
-step-lt : (g points : ℕ) → 1 ≤ points → g ≤ 16 * (points - 1) → g / 16 + stepOf g points 1 < points
-unfolding stepOf
+step-lt : (g points : ℕ) → 1 ≤ points → g ≤ 16 * (points - 1) → g / 16 + neighbourStep g points 1 < points
+unfolding neighbourStep
 step-lt g points l h =
     elim (decLt (g / 16 + 1) points) [
       | yes u ↦ rw (lt-ltb (g / 16 + 1) points u) u
@@ -43,12 +43,12 @@ step-lt g points l h =
     ]
 
 -- where the fraction is not 0 the step is there
-step-there : (g points i : ℕ) → 1 ≤ points → g ≤ 16 * (points - 1) → i ≤ 1 → i ≤ g % 16 → i * stepOf g points 1 ≡ i
-unfolding stepOf
+step-there : (g points i : ℕ) → 1 ≤ points → g ≤ 16 * (points - 1) → i ≤ 1 → i ≤ g % 16 → i * neighbourStep g points 1 ≡ i
+unfolding neighbourStep
 step-there g points i l h one reach =
     elim (decLt (g / 16 + 1) points) [
       | yes u ↦ rw (lt-ltb (g / 16 + 1) points u) (mul-one i)
-      | no u ↦ let z : i ≡ 0 = omega arith in rw (z, zero-mul (stepOf g points 1))
+      | no u ↦ let z : i ≡ 0 = omega arith in rw (z, zero-mul (neighbourStep g points 1))
     ]
 
 -- the number of the point in column x, row y, layer z, and of one i, j, k on
@@ -72,26 +72,26 @@ volume-point-lt width height depth x y z hx hy hz =
     let p : (z * height + y) * width + x < width * (height * depth) = point-lt width (height * depth) x (z * height + y) hx r in
     rw (mul-assoc width height depth) p
 
-module _ (width height depth gs gt gr : ℕ) (p : Placed width height depth gs gt gr) where
+module _ (width height depth gs gt gr : ℕ) (p : WithinGrid width height depth gs gt gr) where
   -- the steps of 1 in the grid
   abbrev ds : ℕ
-  ds = stepOf gs width 1
+  ds = neighbourStep gs width 1
 
   abbrev dt : ℕ
-  dt = stepOf gt height 1
+  dt = neighbourStep gt height 1
 
   abbrev dr : ℕ
-  dr = stepOf gr depth 1
+  dr = neighbourStep gr depth 1
 
   -- how far they go in the list of points
   abbrev right : ℕ
-  right = stepOf gs width 1
+  right = neighbourStep gs width 1
 
   abbrev below : ℕ
-  below = stepOf gt height width
+  below = neighbourStep gt height width
 
   abbrev behind : ℕ
-  behind = stepOf gr depth (width * height)
+  behind = neighbourStep gr depth (width * height)
 
   -- where they begin
   abbrev n : ℕ
@@ -120,7 +120,7 @@ module _ (width height depth gs gt gr : ℕ) (p : Placed width height depth gs g
 
   -- the blend of what a plane has at the points that are read
   abbrev blended : (ℕ → ℕ) → ℕ
-  blended value = fourOf (way .w0) (way .w1) (way .w2) (way .w3) (value n) (value (n + way .first)) (value (n + way .first + way .second)) (value (n + right + below + behind))
+  blended value = simplexSum (way .w0) (way .w1) (way .w2) (way .w3) (value n) (value (n + way .first)) (value (n + way .first + way .second)) (value (n + right + below + behind))
 
   module _ (levels : List Level) (planes plane : ℕ) where
     abbrev value : ℕ → ℕ
@@ -220,7 +220,7 @@ pub record Routed (k : Route) : Type 0 where
   pub n3 : k .n3 < 64
   pub sum : k .w0 + k .w1 + k .w2 + k .w3 ≡ 16
 
-module _ (width height depth gs gt gr : ℕ) (p : Placed width height depth gs gt gr) where
+module _ (width height depth gs gt gr : ℕ) (p : WithinGrid width height depth gs gt gr) where
   pub routed : {k : Route} → k ≡ routeOf width height depth gs gt gr → Routed k
   unfolding routeOf
   routed e =
@@ -230,8 +230,8 @@ module _ (width height depth gs gt gr : ℕ) (p : Placed width height depth gs g
       rw e (record { n0 = omega arith; n1 = omega arith; n2 = omega arith; n3 = omega arith; sum = way-sum width height depth gs gt gr p })
 
   module _ {n right below behind layer : ℕ} {k : Walk} (el : layer ≡ width * height)
-      (en : n ≡ (gr / 16 * height + gt / 16) * width + gs / 16) (er : right ≡ stepOf gs width 1) (eb : below ≡ stepOf gt height width)
-      (eh : behind ≡ stepOf gr depth layer) (ek : k ≡ walkOf (gs % 16) (gt % 16) (gr % 16) right below behind) where
+      (en : n ≡ (gr / 16 * height + gt / 16) * width + gs / 16) (er : right ≡ neighbourStep gs width 1) (eb : below ≡ neighbourStep gt height width)
+      (eh : behind ≡ neighbourStep gr depth layer) (ek : k ≡ walkOf (gs % 16) (gt % 16) (gr % 16) right below behind) where
     pub reach : Reach n right below behind k
     reach =
         rw (ek, eh, el, eb, er, en)

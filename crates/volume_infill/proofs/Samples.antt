@@ -7,7 +7,7 @@ use Rattle.laws.specs.Table.{tab}
 use Rattle.encoding.specs.declared.Level.{Level}
 use Rattle.weight_grid.specs.Place.{scaleOf, gridPlace}
 use Rattle.weight_grid.specs.Cell.{level, levelIn}
-use Rattle.volume_infill.specs.Simplex.{volumeCellOf, fourOf, simplexOf, volumeInfill}
+use Rattle.volume_infill.specs.Simplex.{volumeCellOf, simplexSum, simplexOf, volumeInfill}
 
 -- so many weights
 abbrev weights : ℕ → List Level
@@ -30,5 +30,5 @@ pub samples :
     × (texels 5 5 4 2 3 4 2 1 ≡ 48 ∷ 3 ∷ 51 ∷ 37 ∷ 55 ∷ 42 ∷ 35 ∷ 28 ∷ 49 ∷ 42 ∷ 39 ∷ 36 ∷ 40 ∷ [])
     × (texels 4 4 4 4 4 4 1 0 ≡ 11 ∷ 19 ∷ 45 ∷ 15 ∷ 54 ∷ 27 ∷ 43 ∷ 62 ∷ 5 ∷ 24 ∷ 51 ∷ 16 ∷ 49 ∷ [])
     × (texels 6 5 5 6 2 2 1 0 ≡ 11 ∷ 29 ∷ 24 ∷ 49 ∷ 22 ∷ 17 ∷ 12 ∷ 43 ∷ 28 ∷ 42 ∷ 47 ∷ 38 ∷ 30 ∷ [])
-unfolding volumeInfill simplexOf fourOf volumeCellOf levelIn gridPlace scaleOf tab
+unfolding volumeInfill simplexOf simplexSum volumeCellOf levelIn gridPlace scaleOf tab
 samples = (refl, refl, refl, refl, refl)

@@ -10,7 +10,7 @@ use lib.Dec.{ltb}
 use borrow.Author.Tests.{lt-ltb, le-ltb, ltb-true, ltb-false}
 use Rattle.laws.specs.Choice.{pick}
 use Rattle.volume_infill.specs.declared.Walk.{Walk}
-use Rattle.volume_infill.specs.Simplex.{fourOf, simplexRow, simplexOf}
+use Rattle.volume_infill.specs.Simplex.{simplexSum, simplexRow, simplexOf}
 use Rattle.volume_infill.specs.inner.Way.{walkRow, walkOf}
 use Rattle.volume_infill.proofs.Sixteenths.{four-le}
 
@@ -25,8 +25,8 @@ term w p q e =
 
 four-same : (w0 w1 w2 w3 p0 p1 p2 p3 q0 q1 q2 q3 : ℕ)
     → (0 < w0 → p0 ≡ q0) → (0 < w1 → p1 ≡ q1) → (0 < w2 → p2 ≡ q2) → (0 < w3 → p3 ≡ q3)
-    → fourOf w0 w1 w2 w3 p0 p1 p2 p3 ≡ fourOf w0 w1 w2 w3 q0 q1 q2 q3
-unfolding fourOf
+    → simplexSum w0 w1 w2 w3 p0 p1 p2 p3 ≡ simplexSum w0 w1 w2 w3 q0 q1 q2 q3
+unfolding simplexSum
 four-same w0 w1 w2 w3 p0 p1 p2 p3 q0 q1 q2 q3 e0 e1 e2 e3 = rw (term w0 p0 q0 e0, term w1 p1 q1 e1, term w2 p2 q2 e2, term w3 p3 q3 e3)
 
 -- the weights at i, j, k need only agree where the fractions reach: i ≤ fs says that the step is not taken or the fraction is not 0
@@ -131,7 +131,7 @@ module _ (fs ft fr n right below behind : ℕ) (value : ℕ → ℕ) where
   passed i j k = value (n + i * right + j * below + k * behind)
 
   pub walked : let k = walkOf fs ft fr right below behind in
-      fourOf (k .w0) (k .w1) (k .w2) (k .w3) (value n) (value (n + k .first)) (value (n + k .first + k .second)) (value (n + right + below + behind))
+      simplexSum (k .w0) (k .w1) (k .w2) (k .w3) (value n) (value (n + k .first)) (value (n + k .first + k .second)) (value (n + right + below + behind))
       ≡ simplexOf fs ft fr passed
   unfolding walkOf simplexOf
   walked = go (ltb ft fs) (ltb fr ft) (ltb fr fs) where
@@ -169,12 +169,12 @@ module _ (fs ft fr n right below behind : ℕ) (value : ℕ → ℕ) where
     e111 = ap value (omega (arith, one-mul right, one-mul below, one-mul behind))
 
     four : (w0 w1 w2 w3 : ℕ) {p0 p1 p2 p3 q0 q1 q2 q3 : ℕ} → p0 ≡ q0 → p1 ≡ q1 → p2 ≡ q2 → p3 ≡ q3
-        → fourOf w0 w1 w2 w3 p0 p1 p2 p3 ≡ fourOf w0 w1 w2 w3 q0 q1 q2 q3
-    four w0 w1 w2 w3 a b c d = λ i. fourOf w0 w1 w2 w3 (a i) (b i) (c i) (d i)
+        → simplexSum w0 w1 w2 w3 p0 p1 p2 p3 ≡ simplexSum w0 w1 w2 w3 q0 q1 q2 q3
+    four w0 w1 w2 w3 a b c d = λ i. simplexSum w0 w1 w2 w3 (a i) (b i) (c i) (d i)
 
     go : (a b c : Bool)
         → (let k = walkRow a b c fs ft fr right below behind in
-        fourOf (k .w0) (k .w1) (k .w2) (k .w3) (value n) (value (n + k .first)) (value (n + k .first + k .second)) (value (n + right + below + behind)))
+        simplexSum (k .w0) (k .w1) (k .w2) (k .w3) (value n) (value (n + k .first)) (value (n + k .first + k .second)) (value (n + right + below + behind)))
         ≡ simplexRow a b c fs ft fr passed
     go true true c = four _ _ _ _ e000 e100 e110 e111
     go true false true = four _ _ _ _ e000 e100 e101 e111

@@ -5,8 +5,8 @@ use Prim.Native.Nat.{ℕ, _+_, _*_, _/_, _%_, _≤_}
 use native.Mathlib.Nat.{mul-le-mul-right, mul-add, add-mul, mul-assoc}
 use native.Mathlib.Omega.{arith}
 use Rattle.encoding.specs.declared.LevelPair.{LevelPair}
-use Rattle.encoding.specs.Levels.{firstLevel, secondLevel, Bytes}
-use Rattle.volume_infill.specs.Simplex.{fourOf}
+use Rattle.encoding.specs.Levels.{firstLevel, secondLevel, BytePair}
+use Rattle.volume_infill.specs.Simplex.{simplexSum}
 use Rattle.volume_infill.specs.inner.Way.{bothFour}
 
 abbrev packed : ℕ → ℕ → ℕ
@@ -49,13 +49,13 @@ module _ (w0 w1 w2 w3 : ℕ) (s : w0 + w1 + w2 + w3 ≡ 16) where
     high-plane : (sum (packed a0 b0) (packed a1 b1) (packed a2 b2) (packed a3 b3) + 524296) / 16 / 65536 ≡ (sum b0 b1 b2 b3 + 8) / 16
     high-plane = rw apart (high (sum a0 a1 a2 a3) (sum b0 b1 b2 b3) first-le)
 
-  pub four-le : (m p0 p1 p2 p3 : ℕ) → p0 ≤ m → p1 ≤ m → p2 ≤ m → p3 ≤ m → fourOf w0 w1 w2 w3 p0 p1 p2 p3 ≤ m
-  unfolding fourOf
+  pub four-le : (m p0 p1 p2 p3 : ℕ) → p0 ≤ m → p1 ≤ m → p2 ≤ m → p3 ≤ m → simplexSum w0 w1 w2 w3 p0 p1 p2 p3 ≤ m
+  unfolding simplexSum
   four-le m p0 p1 p2 p3 h0 h1 h2 h3 = let t = sum-le m p0 p1 p2 p3 h0 h1 h2 h3 in omega arith
 
   -- of pairs of levels
-  module _ (p q r t : LevelPair) (hp : Bytes p) (hq : Bytes q) (hr : Bytes r) (ht : Bytes t) where
-    apart-at : (p : LevelPair) → Bytes p → p .0 ≡ packed (firstLevel p) (secondLevel p)
+  module _ (p q r t : LevelPair) (hp : BytePair p) (hq : BytePair q) (hr : BytePair r) (ht : BytePair t) where
+    apart-at : (p : LevelPair) → BytePair p → p .0 ≡ packed (firstLevel p) (secondLevel p)
     apart-at p h = omega (arith, h .first, h .second)
 
     low-at : (p : LevelPair) → firstLevel p ≤ 255
@@ -65,14 +65,14 @@ module _ (w0 w1 w2 w3 : ℕ) (s : w0 + w1 + w2 + w3 ≡ 16) where
         ≡ bothFour w0 w1 w2 w3 (packed (firstLevel p) (secondLevel p)) (packed (firstLevel q) (secondLevel q)) (packed (firstLevel r) (secondLevel r)) (packed (firstLevel t) (secondLevel t))
     both-at = rw (← apart-at p hp, ← apart-at q hq, ← apart-at r hr, ← apart-at t ht)
 
-    pub first-four : bothFour w0 w1 w2 w3 (p .0) (q .0) (r .0) (t .0) % 256 ≡ fourOf w0 w1 w2 w3 (firstLevel p) (firstLevel q) (firstLevel r) (firstLevel t)
-    unfolding bothFour fourOf
+    pub first-four : bothFour w0 w1 w2 w3 (p .0) (q .0) (r .0) (t .0) % 256 ≡ simplexSum w0 w1 w2 w3 (firstLevel p) (firstLevel q) (firstLevel r) (firstLevel t)
+    unfolding bothFour simplexSum
     first-four =
         ap (λ (n : ℕ). n % 256) both-at
         ∙ low-plane (firstLevel p) (secondLevel p) (firstLevel q) (secondLevel q) (firstLevel r) (secondLevel r) (firstLevel t) (secondLevel t) (low-at p) (low-at q) (low-at r) (low-at t)
 
-    pub second-four : bothFour w0 w1 w2 w3 (p .0) (q .0) (r .0) (t .0) / 65536 ≡ fourOf w0 w1 w2 w3 (secondLevel p) (secondLevel q) (secondLevel r) (secondLevel t)
-    unfolding bothFour fourOf
+    pub second-four : bothFour w0 w1 w2 w3 (p .0) (q .0) (r .0) (t .0) / 65536 ≡ simplexSum w0 w1 w2 w3 (secondLevel p) (secondLevel q) (secondLevel r) (secondLevel t)
+    unfolding bothFour simplexSum
     second-four =
         ap (λ (n : ℕ). n / 65536) both-at
         ∙ high-plane (firstLevel p) (secondLevel p) (firstLevel q) (secondLevel q) (firstLevel r) (secondLevel r) (firstLevel t) (secondLevel t) (low-at p) (low-at q) (low-at r) (low-at t)

@@ -17,20 +17,20 @@ volumeCellOf levels width height depth planes plane x y z =
     0
 
 -- i = (p0*w0 + p1*w1 + p2*w2 + p3*w3 + 8) >> 4
-unfoldable pub fourOf : ℕ → ℕ → ℕ → ℕ → ℕ → ℕ → ℕ → ℕ → ℕ
-fourOf w0 w1 w2 w3 p0 p1 p2 p3 = (p0 * w0 + p1 * w1 + p2 * w2 + p3 * w3 + 8) / 16
+unfoldable pub simplexSum : ℕ → ℕ → ℕ → ℕ → ℕ → ℕ → ℕ → ℕ → ℕ
+simplexSum w0 w1 w2 w3 p0 p1 p2 p3 = (p0 * w0 + p1 * w1 + p2 * w2 + p3 * w3 + 8) / 16
 
 -- "ASTC simplex interpolation parameters", row by row, by the tests fs > ft, ft > fr, fs > fr: p i j k is the weight of the point i columns, j
 -- rows and k layers on; p1 lies at s1, p2 at s1 + s2, p3 at the far corner
 abbrev pub simplexRow : Bool → Bool → Bool → ℕ → ℕ → ℕ → (ℕ → ℕ → ℕ → ℕ) → ℕ
 simplexRow a b c fs ft fr p =
     pick a
-    (pick b (fourOf (16 - fs) (fs - ft) (ft - fr) fr (p 0 0 0) (p 1 0 0) (p 1 1 0) (p 1 1 1))
-    (pick c (fourOf (16 - fs) (fs - fr) (fr - ft) ft (p 0 0 0) (p 1 0 0) (p 1 0 1) (p 1 1 1))
-    (fourOf (16 - fr) (fr - fs) (fs - ft) ft (p 0 0 0) (p 0 0 1) (p 1 0 1) (p 1 1 1))))
-    (pick c (fourOf (16 - ft) (ft - fs) (fs - fr) fr (p 0 0 0) (p 0 1 0) (p 1 1 0) (p 1 1 1))
-    (pick b (fourOf (16 - ft) (ft - fr) (fr - fs) fs (p 0 0 0) (p 0 1 0) (p 0 1 1) (p 1 1 1))
-    (fourOf (16 - fr) (fr - ft) (ft - fs) fs (p 0 0 0) (p 0 0 1) (p 0 1 1) (p 1 1 1))))
+    (pick b (simplexSum (16 - fs) (fs - ft) (ft - fr) fr (p 0 0 0) (p 1 0 0) (p 1 1 0) (p 1 1 1))
+    (pick c (simplexSum (16 - fs) (fs - fr) (fr - ft) ft (p 0 0 0) (p 1 0 0) (p 1 0 1) (p 1 1 1))
+    (simplexSum (16 - fr) (fr - fs) (fs - ft) ft (p 0 0 0) (p 0 0 1) (p 1 0 1) (p 1 1 1))))
+    (pick c (simplexSum (16 - ft) (ft - fs) (fs - fr) fr (p 0 0 0) (p 0 1 0) (p 1 1 0) (p 1 1 1))
+    (pick b (simplexSum (16 - ft) (ft - fr) (fr - fs) fs (p 0 0 0) (p 0 1 0) (p 0 1 1) (p 1 1 1))
+    (simplexSum (16 - fr) (fr - ft) (ft - fs) fs (p 0 0 0) (p 0 0 1) (p 0 1 1) (p 1 1 1))))
 
 unfoldable pub simplexOf : ℕ → ℕ → ℕ → (ℕ → ℕ → ℕ → ℕ) → ℕ
 simplexOf fs ft fr p = simplexRow (ltb ft fs) (ltb fr ft) (ltb fr fs) fs ft fr p

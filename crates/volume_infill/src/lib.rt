@@ -1,9 +1,9 @@
 // The weight of a texel of a volume, from the weights of its grid: simplex infill (02, h).
 ghost use mathlib.Core.Path.{_≡_};
 ghost use Prim.Native.Nat.{_+_, _*_, _≤_, _<_};
-ghost use Rattle.encoding.specs.Levels.{firstLevel, secondLevel, Bytes};
-ghost use Rattle.volume_infill.specs.Simplex.{fourOf};
-ghost use Rattle.volume_infill.specs.inner.Way.{walkOf, routeOf, bothFour, volumeRead, Placed, ByteLevels};
+ghost use Rattle.encoding.specs.Levels.{firstLevel, secondLevel, BytePair};
+ghost use Rattle.volume_infill.specs.Simplex.{simplexSum};
+ghost use Rattle.volume_infill.specs.inner.Way.{walkOf, routeOf, bothFour, volumeRead, WithinGrid, ByteLevels};
 use encoding::LevelPair;
 
 // The way from a point of the grid to the far corner of its cube: two steps, and the factors of the four points on it.
@@ -114,9 +114,9 @@ pub fn blend_pairs(
     p3: LevelPair,
 ) -> LevelPair
     requires { ⌜ w0 + w1 + w2 + w3 ≡ 16 ⌝ }
-    requires { ⌜ Bytes p0 × Bytes p1 × Bytes p2 × Bytes p3 ⌝ }
-    ensures { λ r. ⌜ firstLevel r ≡ fourOf w0 w1 w2 w3 (firstLevel p0) (firstLevel p1) (firstLevel p2) (firstLevel p3) ⌝ }
-    ensures { λ r. ⌜ secondLevel r ≡ fourOf w0 w1 w2 w3 (secondLevel p0) (secondLevel p1) (secondLevel p2) (secondLevel p3) ⌝ }
+    requires { ⌜ BytePair p0 × BytePair p1 × BytePair p2 × BytePair p3 ⌝ }
+    ensures { λ r. ⌜ firstLevel r ≡ simplexSum w0 w1 w2 w3 (firstLevel p0) (firstLevel p1) (firstLevel p2) (firstLevel p3) ⌝ }
+    ensures { λ r. ⌜ secondLevel r ≡ simplexSum w0 w1 w2 w3 (secondLevel p0) (secondLevel p1) (secondLevel p2) (secondLevel p3) ⌝ }
 {
     LevelPair(blend_four(w0, w1, w2, w3, p0.0, p1.0, p2.0, p3.0))
 }
@@ -139,7 +139,7 @@ fn point_at(width: u8, height: u8, x: u32, y: u32, z: u32) -> usize
 
 // Which points are read at gs, gt, gr of a volume's grid: at the last column, row or layer a point stands for its neighbour outside.
 pub fn route_at(width: u8, height: u8, depth: u8, gs: u32, gt: u32, gr: u32) -> Route
-    requires { ⌜ Placed width height depth gs gt gr ⌝ }
+    requires { ⌜ WithinGrid width height depth gs gt gr ⌝ }
     ensures { λ r. ⌜ r ≡ routeOf width height depth gs gt gr ⌝ }
 {
     let layer = layer_size(width, height);
@@ -173,7 +173,7 @@ pub fn infill_volume(
     gt: u32,
     gr: u32,
 ) -> LevelPair
-    requires { ⌜ Placed width height depth gs gt gr ⌝ }
+    requires { ⌜ WithinGrid width height depth gs gt gr ⌝ }
     requires { ⌜ ByteLevels points ⌝ }
     ensures { λ r. ⌜ firstLevel r ≡ volumeRead firstLevel points width height depth gs gt gr ⌝ }
     ensures { λ r. ⌜ secondLevel r ≡ volumeRead secondLevel points width height depth gs gt gr ⌝ }

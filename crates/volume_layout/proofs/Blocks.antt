@@ -19,7 +19,7 @@ use Rattle.picture_regions.proofs.Regions.{Placed}
 use Rattle.picture_regions.proofs.Blocks.{Cropped, Tile, tile-of}
 use Rattle.image_layout.specs.Numbers as bytes
 use Rattle.volume_layout.specs.declared.VolumeGrid.{VolumeGrid}
-use Rattle.volume_layout.specs.Rows.{rowOf, blockAt, volumePicture}
+use Rattle.volume_layout.specs.Rows.{layerRow, blockIndexIn, volumePicture}
 use Rattle.volume_layout.specs.Numbers.{blockIndex, volumeNumberAtIn}
 use Rattle.volume_layout.proofs.Sizes.{Sound}
 use Rattle.volume_layout.proofs.Volumes.{covered, toRow, fromRow, row-in, row-of}
@@ -28,7 +28,7 @@ use Rattle.volume_layout.proofs.Volumes.{covered, toRow, fromRow, row-i
 pub number-in : (reading : Reading) (fp : ℕ) (kind : Kind) (w h : ℕ) (s : List ℕ) (bx by bz dx dy dz c : ℕ) → dx < widthOf fp → dy < heightOf fp → dz < depthOf fp
     → volumeNumberAtIn reading fp kind w h s (bx * widthOf fp + dx) (by * heightOf fp + dy) (bz * depthOf fp + dz) c
     ≡ numberAtIn reading fp kind (bytes.blockAt s ((bz * blocksAcross h (heightOf fp) + by) * blocksAcross w (widthOf fp) + bx)) dx dy dz c
-unfolding volumeNumberAtIn blockIndex blockAt
+unfolding volumeNumberAtIn blockIndex blockIndexIn
 number-in reading fp kind w h s bx by bz dx dy dz c hx hy hz =
     rw (
       quotient bx (widthOf fp) dx hx,
@@ -41,7 +41,7 @@ number-in reading fp kind w h s bx by bz dx dy dz c hx hy hz =
 
 -- a texel's place in a block is within its numbers
 pub row-within : (fp dx dy dz c : ℕ) → dx < widthOf fp → dy < heightOf fp → dz < depthOf fp → c < 4
-    → place (widthOf fp) dx (rowOf (heightOf fp) dy dz) c < 4 * texelsOf fp
+    → place (widthOf fp) dx (layerRow (heightOf fp) dy dz) c < 4 * texelsOf fp
 unfolding texelsOf
 row-within fp dx dy dz c hx hy hz hc =
     rw (mul-assoc (widthOf fp) (heightOf fp) (depthOf fp))

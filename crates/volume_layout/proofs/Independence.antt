@@ -27,7 +27,7 @@ use Rattle.image_layout.specs.Numbers as bytes
 use Rattle.image_layout.specs.Numbers.{blockBytes}
 use Rattle.image_layout.proofs.Blocks.{sixteen}
 use Rattle.image_layout.proofs.Independence.{same-bytes}
-use Rattle.volume_layout.specs.Rows.{rowOf, blockAt}
+use Rattle.volume_layout.specs.Rows.{layerRow, blockIndexIn}
 use Rattle.volume_layout.specs.Numbers.{blockIndex, texelsIn, volumeNumberAtIn, volumeNumbersIn}
 use Rattle.volume_layout.specs.Call.{blocksOf, volumeRefusal, volumeOutIn}
 use Rattle.volume_layout.specs.OwnBlock.{OwnBlock}
@@ -39,7 +39,7 @@ use Rattle.volume_layout.proofs.Calls.{decoded-out}
 module _ (fp : ℕ) (kind : Kind) (w h d x y z c : ℕ) (hx : x < w) (hy : y < h) (hz : z < d) (hc : c < 4) where
   -- a texel's block is one of the volume's
   pub index-in : fp < 24 → blockIndex fp w h x y z < blocksOf fp w h d
-  unfolding blockIndex blockAt blocksOf
+  unfolding blockIndex blockIndexIn blocksOf
   index-in f =
       let b = bounds fp f in
       let p : 0 < widthOf fp = let k = b .width-least in omega arith in
@@ -57,7 +57,7 @@ module _ (fp : ℕ) (kind : Kind) (w h d x y z c : ℕ) (hx : x < w) (hy : y < h
 
 module _ (reading : Reading) (fp : ℕ) (kind : Kind) (w h d x y z c : ℕ) (hx : x < w) (hy : y < h) (hz : z < d) (hc : c < 4) where
   -- the volume's list by place
-  pub number-of : (s : List ℕ) → getD (volumeNumbersIn reading fp kind w h d s) (place w x (rowOf h y z) c) 0 ≡ volumeNumberAtIn reading fp kind w h s x y z c
+  pub number-of : (s : List ℕ) → getD (volumeNumbersIn reading fp kind w h d s) (place w x (layerRow h y z) c) 0 ≡ volumeNumberAtIn reading fp kind w h s x y z c
   unfolding volumeNumbersIn texelsIn
   number-of s =
       let q : ℕ = z * h + y in
@@ -70,9 +70,9 @@ module _ (reading : Reading) (fp : ℕ) (kind : Kind) (w h d x y z c : ℕ) (hx 
 
   -- what an accepted call leaves there: the number that the one-block call leaves, for the texel's block, at its place in the block
   volume-texel : (s old block : List ℕ) → volumeRefusal fp w h d (length s) (length old) ≡ 0 → length block ≡ 4 * texelsOf fp
-      → getD (volumeOutIn reading fp kind w h d s old) (place w x (rowOf h y z) c) 0
+      → getD (volumeOutIn reading fp kind w h d s old) (place w x (layerRow h y z) c) 0
       ≡ getD (blockOutIn reading kind fp (blockBytes s (blockIndex fp w h x y z)) block)
-      (place (widthOf fp) (x % widthOf fp) (rowOf (heightOf fp) (y % heightOf fp) (z % depthOf fp)) c) 0
+      (place (widthOf fp) (x % widthOf fp) (layerRow (heightOf fp) (y % heightOf fp) (z % depthOf fp)) c) 0
   unfolding volumeNumberAtIn bytes.blockAt numbersIn
   volume-texel s old block e size =
       let f = accept fp w h d (length s) (length old) e .footprint in
@@ -81,10 +81,10 @@ module _ (reading : Reading) (fp : ℕ) (kind : Kind) (w h d x y z c : ℕ) (hx 
       let q : 0 < heightOf fp = let k = b .height-least in omega arith in
       let r : 0 < depthOf fp = let k = b .depth-least in omega arith in
       let own : List ℕ = blockBytes s (blockIndex fp w h x y z) in
-      let i : ℕ = place (widthOf fp) (x % widthOf fp) (rowOf (heightOf fp) (y % heightOf fp) (z % depthOf fp)) c in
+      let i : ℕ = place (widthOf fp) (x % widthOf fp) (layerRow (heightOf fp) (y % heightOf fp) (z % depthOf fp)) c in
       let taken : blockRefusal fp (length own) (length block) ≡ 0 =
       sym (accepted fp (length own) (length block) (omega arith) (sixteen s (blockIndex fp w h x y z) (whole fp kind w h d x y z c hx hy hz hc s old e)) size) in
-      ap (λ (l : List ℕ). getD l (place w x (rowOf h y z) c) 0) (sym (decoded-out reading fp kind w h d s old e))
+      ap (λ (l : List ℕ). getD l (place w x (layerRow h y z) c) 0) (sym (decoded-out reading fp kind w h d s old e))
       ∙ number-of s
       ∙ sym (number-at reading fp kind (numberOf own) (x % widthOf fp) (y % heightOf fp) (z % depthOf fp) c (mod-lt x p) (mod-lt y q) hc)
       ∙ sym (getD-tab (λ k. shownOf kind (channelIn reading fp kind (numberOf own) k)) (4 * texelsOf fp) i 0 (row-within fp _ _ _ c (mod-lt x p) (mod-lt y q) (mod-lt z r) hc))
@@ -93,13 +93,13 @@ module _ (reading : Reading) (fp : ℕ) (kind : Kind) (w h d x y z c : ℕ) (hx 
   -- two volumes that agree on the texel's own sixteen bytes agree on the texel, whatever all other blocks hold
   same-texel : (s t old new : List ℕ) → volumeRefusal fp w h d (length s) (length old) ≡ 0 → volumeRefusal fp w h d (length t) (length new) ≡ 0
       → ((k : ℕ) → k < 16 → getD s (16 * blockIndex fp w h x y z + k) 0 ≡ getD t (16 * blockIndex fp w h x y z + k) 0)
-      → getD (volumeOutIn reading fp kind w h d s old) (place w x (rowOf h y z) c) 0 ≡ getD (volumeOutIn reading fp kind w h d t new) (place w x (rowOf h y z) c) 0
+      → getD (volumeOutIn reading fp kind w h d s old) (place w x (layerRow h y z) c) 0 ≡ getD (volumeOutIn reading fp kind w h d t new) (place w x (layerRow h y z) c) 0
   same-texel s t old new zs zt same =
       let i : ℕ = blockIndex fp w h x y z in
       let block : List ℕ = tab (λ k. 0) (4 * texelsOf fp) in
       let size : length block ≡ 4 * texelsOf fp = length-tab (λ k. 0) (4 * texelsOf fp) in
       volume-texel s old block zs size
-      ∙ ap (λ (l : List ℕ). getD (blockOutIn reading kind fp l block) (place (widthOf fp) (x % widthOf fp) (rowOf (heightOf fp) (y % heightOf fp) (z % depthOf fp)) c) 0)
+      ∙ ap (λ (l : List ℕ). getD (blockOutIn reading kind fp l block) (place (widthOf fp) (x % widthOf fp) (layerRow (heightOf fp) (y % heightOf fp) (z % depthOf fp)) c) 0)
       (same-bytes s t i (whole fp kind w h d x y z c hx hy hz hc s old zs) (whole fp kind w h d x y z c hx hy hz hc t new zt) same)
       ∙ sym (volume-texel t new block zt size)
 

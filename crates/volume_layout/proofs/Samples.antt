@@ -6,7 +6,7 @@ use Prim.Native.Nat.{ℕ, _*_}
 use Rattle.image_size.specs.Sides.{sideLimit, badSide, blocksAcross}
 use Rattle.footprint.specs.Footprint.{footprints, widthOf, heightOf, depthOf}
 use Rattle.picture_regions.specs.Picture.{place}
-use Rattle.volume_layout.specs.Rows.{rowOf, blockAt}
+use Rattle.volume_layout.specs.Rows.{layerRow, blockIndexIn}
 use Rattle.volume_layout.specs.Numbers.{texelsIn}
 use Rattle.volume_layout.specs.Call.{depthLimit, badDepth, badSizes, blocksOf, volumeRefusal}
 
@@ -16,10 +16,10 @@ ten f x y z = f 0 0 0 ∷ f x 0 0 ∷ f 0 y 0 ∷ f 0 0 z ∷ f x y 0 ∷ f x 0 
 
 -- in a volume of these sides
 abbrev block : ℕ → ℕ → ℕ → ℕ → ℕ → ℕ → ℕ
-block fp w h x y z = blockAt (blocksAcross w (widthOf fp)) (blocksAcross h (heightOf fp)) (widthOf fp) (heightOf fp) (depthOf fp) x y z
+block fp w h x y z = blockIndexIn (blocksAcross w (widthOf fp)) (blocksAcross h (heightOf fp)) (widthOf fp) (heightOf fp) (depthOf fp) x y z
 
 abbrev number : ℕ → ℕ → ℕ → ℕ → ℕ → ℕ
-number w h x y z = place w x (rowOf h y z) 0
+number w h x y z = place w x (layerRow h y z) 0
 
 -- 13 x 11 x 7 at 4x3x3, and 7 x 9 x 3 at 5x4, one layer thick
 pub layouts :
@@ -27,7 +27,7 @@ pub layouts :
     × (ten (number 13 11) 12 10 6 ≡ 0 ∷ 48 ∷ 520 ∷ 3432 ∷ 568 ∷ 3480 ∷ 3952 ∷ 4000 ∷ 744 ∷ 1476 ∷ [])
     × (ten (block 1 7 9) 6 8 2 ≡ 0 ∷ 1 ∷ 4 ∷ 12 ∷ 5 ∷ 13 ∷ 16 ∷ 17 ∷ 6 ∷ 15 ∷ [])
     × (ten (number 7 9) 6 8 2 ≡ 0 ∷ 24 ∷ 224 ∷ 504 ∷ 248 ∷ 528 ∷ 728 ∷ 752 ∷ 352 ∷ 692 ∷ [])
-unfolding blockAt blocksAcross widthOf heightOf depthOf footprints
+unfolding blockIndexIn blocksAcross widthOf heightOf depthOf footprints
 layouts = (refl, refl, refl, refl)
 
 -- of exact lengths, 48 blocks and 4,004 numbers; then refused by 5, 4, 3 and 1, the lower number first

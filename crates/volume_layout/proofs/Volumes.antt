@@ -10,13 +10,13 @@ use Rattle.picture_regions.specs.Picture.{blockIn}
 use Rattle.picture_regions.proofs.Covering.{below-row, quotient, remainder}
 use Rattle.picture_regions.proofs.Blocks.{Covered, Cropped, Reached}
 use Rattle.volume_layout.specs.declared.VolumeGrid.{VolumeGrid}
-use Rattle.volume_layout.specs.Rows.{rowOf, blockAt, volumeRow, volumePicture}
+use Rattle.volume_layout.specs.Rows.{layerRow, blockIndexIn, volumeRow, volumePicture}
 use Rattle.volume_layout.proofs.Sizes.{Sound}
 
 -- the block by rows is the block of the texel's place
 pub block-at : (g : VolumeGrid) (x y z : ℕ) → y < g .height
-    → blockIn (volumePicture g) x (rowOf (g .height) y z) ≡ blockAt (g .across) (g .down) (g .columns) (g .rows) (g .layers) x y z
-unfolding blockIn volumeRow blockAt
+    → blockIn (volumePicture g) x (layerRow (g .height) y z) ≡ blockIndexIn (g .across) (g .down) (g .columns) (g .rows) (g .layers) x y z
+unfolding blockIn volumeRow blockIndexIn
 block-at g x y z l = rw (quotient z (g .height) y l, remainder z (g .height) y l)
 
 -- of one layer it is a flat picture's

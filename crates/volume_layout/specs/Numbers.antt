@@ -10,11 +10,11 @@ use Rattle.block_reading.specs.declared.Reading.{Reading}
 use Rattle.block_reading.specs.Shown.{numberAtIn}
 use Rattle.image_size.specs.Sides.{blocksAcross}
 use Rattle.image_layout.specs.Numbers as bytes
-use Rattle.volume_layout.specs.Rows.{blockAt}
+use Rattle.volume_layout.specs.Rows.{blockIndexIn}
 
 -- the block that shows the texel at x, y, z of a volume whose layers have h rows of w texels
 unfoldable pub blockIndex : ℕ → ℕ → ℕ → ℕ → ℕ → ℕ → ℕ
-blockIndex fp w h x y z = blockAt (blocksAcross w (widthOf fp)) (blocksAcross h (heightOf fp)) (widthOf fp) (heightOf fp) (depthOf fp) x y z
+blockIndex fp w h x y z = blockIndexIn (blocksAcross w (widthOf fp)) (blocksAcross h (heightOf fp)) (widthOf fp) (heightOf fp) (depthOf fp) x y z
 
 -- how many texels a volume has
 unfoldable pub texelsIn : ℕ → ℕ → ℕ → ℕ

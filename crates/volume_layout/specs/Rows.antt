@@ -6,12 +6,12 @@ use Rattle.picture_regions.specs.Picture.{Picture}
 use Rattle.volume_layout.specs.declared.VolumeGrid.{VolumeGrid}
 
 -- the row of texels that is row y of layer z, in layers of h rows
-abbrev pub rowOf : ℕ → ℕ → ℕ → ℕ
-rowOf h y z = z * h + y
+abbrev pub layerRow : ℕ → ℕ → ℕ → ℕ
+layerRow h y z = z * h + y
 
 -- the block that shows the texel at x, y, z, with nx blocks in a row and ny rows of blocks in a layer
-unfoldable pub blockAt : ℕ → ℕ → ℕ → ℕ → ℕ → ℕ → ℕ → ℕ → ℕ
-blockAt nx ny bw bh bd x y z = (z / bd * ny + y / bh) * nx + x / bw
+unfoldable pub blockIndexIn : ℕ → ℕ → ℕ → ℕ → ℕ → ℕ → ℕ → ℕ → ℕ
+blockIndexIn nx ny bw bh bd x y z = (z / bd * ny + y / bh) * nx + x / bw
 
 -- ---- by rows
 

@@ -19,7 +19,7 @@ use Rattle.partition.specs.inner.Seeds.{selectBy}
 use Rattle.partition.proofs.Rows.{which-told, row-is}
 use Rattle.weight_grid.specs.Place.{gridPlace}
 use Rattle.volume_infill.specs.declared.Route.{Route}
-use Rattle.volume_infill.specs.inner.Way.{routeOf, along, volumeRead, Placed}
+use Rattle.volume_infill.specs.inner.Way.{routeOf, along, volumeRead, WithinGrid}
 use Rattle.interpolation.specs.declared.Kind.{Kind}
 use Rattle.interpolation.specs.declared.Texel.{Texel}
 use Rattle.half_line.specs.inner.Line.{texelOn}
@@ -48,7 +48,7 @@ module _ (width height depth : ℕ) (f : VolumeFrame) (i : InVolume width height
 
   -- a texel has a place on the grid
   pub on-grid : (x y z : ℕ) {gs gt gr : ℕ} → x < f .width → y < f .height → z < f .depth
-      → gs ≡ gridPlace (f .across) x width → gt ≡ gridPlace (f .down) y height → gr ≡ gridPlace (f .inward) z depth → Placed width height depth gs gt gr
+      → gs ≡ gridPlace (f .across) x width → gt ≡ gridPlace (f .down) y height → gr ≡ gridPlace (f .inward) z depth → WithinGrid width height depth gs gt gr
   on-grid x y z hx hy hz es et er = rw (es, et, er) (record {
     width-low = i .width-least;
     height-low = i .height-least;

@@ -8,11 +8,11 @@ use lib.ListN.{getD}
 use Rattle.encoding.specs.declared.LevelPair.{LevelPair}
 use Rattle.weight_grid.specs.Place.{gridPlace}
 use Rattle.weight_grid.specs.Bilinear.{blendOf}
-use Rattle.weight_grid.specs.inner.Points.{stepOf, noPoint, readOf}
+use Rattle.weight_grid.specs.inner.Points.{neighbourStep, noPoint, readOf}
 use Rattle.weight_grid.specs.inner.Columns.{columnOf}
 
 -- the rows above and below the place begin at `upper` and `lower`
-pub read-column : (plane : LevelPair → ℕ) (points : List LevelPair) (scale width height x gt : ℕ) {upper lower : ℕ} → upper ≡ gt / 16 * width → lower ≡ upper + stepOf gt height width
+pub read-column : (plane : LevelPair → ℕ) (points : List LevelPair) (scale width height x gt : ℕ) {upper lower : ℕ} → upper ≡ gt / 16 * width → lower ≡ upper + neighbourStep gt height width
     → blendOf (columnOf scale width x .part % 16) (gt % 16)
     (plane (getD points (upper + columnOf scale width x .at) noPoint)) (plane (getD points (upper + columnOf scale width x .next) noPoint))
     (plane (getD points (lower + columnOf scale width x .at) noPoint)) (plane (getD points (lower + columnOf scale width x .next) noPoint))
@@ -20,8 +20,8 @@ pub read-column : (plane : LevelPair → ℕ) (points : List LevelPair) (scale w
 unfolding readOf columnOf
 read-column plane points scale width height x gt eu el =
     let gs = gridPlace scale x width in
-    let right = stepOf gs width 1 in
-    let below = stepOf gt height width in
+    let right = neighbourStep gs width 1 in
+    let below = neighbourStep gt height width in
     let from = gt / 16 * width in
     let a : gs % 16 % 16 ≡ gs % 16 = omega arith in
     let b : from + (gs / 16 + right) ≡ from + gs / 16 + right = omega arith in

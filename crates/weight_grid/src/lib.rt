@@ -2,9 +2,9 @@
 ghost use mathlib.Core.Path.{_≡_};
 ghost use Prim.Native.Nat.{ℕ, _-_, _*_, _%_, _≤_, _<_};
 ghost use Rattle.weight_grid.specs.Place.{scaleOf, gridPlace};
-ghost use Rattle.encoding.specs.Levels.{firstLevel, secondLevel, Bytes};
+ghost use Rattle.encoding.specs.Levels.{firstLevel, secondLevel, BytePair};
 ghost use Rattle.weight_grid.specs.Bilinear.{blendOf};
-ghost use Rattle.weight_grid.specs.inner.Points.{bothOf, stepOf};
+ghost use Rattle.weight_grid.specs.inner.Points.{bothOf, neighbourStep};
 ghost use Rattle.weight_grid.specs.inner.Columns.{columnOf, noColumn};
 ghost use Rattle.laws.specs.Table.{padded};
 use encoding::LevelPair;
@@ -55,7 +55,7 @@ pub fn grid_place(scale: u16, i: u8, points: u8) -> u32
 
 // How far the next point lies, from a place on an axis of so many points; 0 at the last one, whose neighbour is not read.
 pub fn step(place: u32, points: u8, size: usize) -> usize
-    ensures { λ r. ⌜ r ≡ stepOf place points size ⌝ }
+    ensures { λ r. ⌜ r ≡ neighbourStep place points size ⌝ }
 {
     if place / 16 + 1 < (points as u32) {
         size
@@ -127,7 +127,7 @@ pub fn infill_both(
     p10: LevelPair,
     p11: LevelPair,
 ) -> LevelPair
-    requires { ⌜ Bytes p00 × Bytes p01 × Bytes p10 × Bytes p11 ⌝ }
+    requires { ⌜ BytePair p00 × BytePair p01 × BytePair p10 × BytePair p11 ⌝ }
     ensures { λ r. ⌜ firstLevel r ≡ blendOf (gs % 16) (gt % 16) (firstLevel p00) (firstLevel p01) (firstLevel p10) (firstLevel p11) ⌝ }
     ensures { λ r. ⌜ secondLevel r ≡ blendOf (gs % 16) (gt % 16) (secondLevel p00) (secondLevel p01) (secondLevel p10) (secondLevel p11) ⌝ }
 {

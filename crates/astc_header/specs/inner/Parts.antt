@@ -11,6 +11,6 @@ unfoldable pub formRefusal : List ℕ → ℕ
 formRefusal s = firstOf (fileReasons s [])
 
 -- sixteen bytes: a start t, a block's sides, and an image's
-abbrev pub headerWith : List ℕ → ℕ → ℕ → ℕ → ℕ → List ℕ
-headerWith t columns rows w h =
+abbrev pub headerBytesWith : List ℕ → ℕ → ℕ → ℕ → ℕ → List ℕ
+headerBytesWith t columns rows w h =
     (getD t 0 0 ∷ getD t 1 0 ∷ getD t 2 0 ∷ getD t 3 0 ∷ columns ∷ rows ∷ 1 ∷ []) ++ sizeBytes w ++ sizeBytes h ++ sizeBytes 1

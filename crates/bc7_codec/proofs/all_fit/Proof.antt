@@ -6,13 +6,13 @@ use borrow.Author.Needs.{needs}
 use native.Mathlib.Numerals.{add-one}
 use lib.Dec.{ltb}
 use Rattle.laws.specs.Choice.{both, all}
-use Rattle.bc7_layout.specs.Layout.{widthOf, placeOf, lowestOne, modeAt, partitionAt, fieldAt}
+use Rattle.bc7_layout.specs.Layout.{fieldWidth, placeOf, lowestOne, modeAt, partitionFieldAt, fieldAt}
 use Rattle.bc7_layout.proofs.Tables.{width-most, partition-most}
 use Rattle.bc7_codec.proofs.all_fit.Statement.{statement}
 use Rattle.bc7_codec.proofs.all_fit.Tie as tie
 
 abbrev Inv-loop : tie.InvT-loop
-Inv-loop m p plan f ok₀ k₀ ok k = (k ≤ 60) × (ok ≡ all (λ i. ltb (getD f i 0) (2 ^ widthOf m p i)) k)
+Inv-loop m p plan f ok₀ k₀ ok k = (k ≤ 60) × (ok ≡ all (λ i. ltb (getD f i 0) (2 ^ fieldWidth m p i)) k)
 
 abbrev μ-loop : tie.MeasureT-loop
 μ-loop m p plan f ok₀ k₀ ok k = 60 - k

@@ -5,14 +5,14 @@ use Rattle.laws.proofs.Filling.{Filling, filling-start, filling-more, filling-d
 use borrow.Author.Needs.{needs}
 use Rattle.bits.specs.Block.{blockNumber}
 use Rattle.bits.specs.Field.{field, stream}
-use Rattle.bc7_layout.specs.Layout.{widthOf, placeOf, lowestOne, modeAt, partitionAt, fieldAt}
+use Rattle.bc7_layout.specs.Layout.{fieldWidth, placeOf, lowestOne, modeAt, partitionFieldAt, fieldAt}
 use Rattle.bc7_layout.proofs.Tables.{width-most, partition-most}
 use Rattle.bc7_codec.proofs.Steps.{place-start, next-place, place-bound}
 use Rattle.bc7_codec.proofs.fields_in.Statement.{statement}
 use Rattle.bc7_codec.proofs.fields_in.Tie as tie
 
 abbrev Inv-loop : tie.InvT-loop
-Inv-loop b m p plan f₀ at₀ k₀ f at k = (k ≤ 60) × (at ≡ placeOf m p k) × Filling (λ i. field (blockNumber b) (placeOf m p i) (widthOf m p i)) 0 60 f k
+Inv-loop b m p plan f₀ at₀ k₀ f at k = (k ≤ 60) × (at ≡ placeOf m p k) × Filling (λ i. field (blockNumber b) (placeOf m p i) (fieldWidth m p i)) 0 60 f k
 
 abbrev μ-loop : tie.MeasureT-loop
 μ-loop b m p plan f₀ at₀ k₀ f at k = 60 - k

@@ -5,7 +5,7 @@ use lib.ListN.{getD}
 use borrow.Author.Needs.{needs}
 use Rattle.bits.specs.Block.{blockNumber}
 use Rattle.bits.specs.Field.{field, stream}
-use Rattle.bc7_layout.specs.Layout.{widthOf, placeOf, lowestOne, modeAt, partitionAt, fieldAt}
+use Rattle.bc7_layout.specs.Layout.{fieldWidth, placeOf, lowestOne, modeAt, partitionFieldAt, fieldAt}
 use Rattle.bc7_codec.proofs.Steps.{place-start, next-place, place-bound, piled}
 use Rattle.bc7_codec.proofs.pile.Statement.{statement}
 use Rattle.bc7_codec.proofs.pile.Tie as tie

@@ -8,7 +8,7 @@ use lib.Dec.{eqb, ltb}
 use Rattle.laws.specs.Choice.{pick, both, either}
 use Rattle.bits.specs.Field.{field}
 use Rattle.bc7_layout.specs.Modes.{indexBits, secondaryBits, selectionBits}
-use Rattle.bc7_layout.specs.Layout.{placeOf, modeAt, partitionAt, fieldAt}
+use Rattle.bc7_layout.specs.Layout.{placeOf, modeAt, partitionFieldAt, fieldAt}
 use Rattle.bc7_block.specs.Picture.{factorOf, texelOf}
 use Rattle.bc7_ends.specs.inner.Lanes.{laneByte}
 use Rattle.bc7_core.specs.declared.IndexSet.{IndexSet}
@@ -29,9 +29,9 @@ alphaSet m v = pick (both (ltb 0 (secondaryBits m)) (either (eqb (selectionBits 
 
 -- what is left of the 64 bits from the set's first index on, before index i
 unfoldable pub restOf : ℕ → ℕ → ℕ → ℕ
-unfolding placeOf modeAt partitionAt
+unfolding placeOf modeAt partitionFieldAt
 restOf B k i =
-    field B (placeOf (modeAt B) (partitionAt B) (k + i)) (64 - (placeOf (modeAt B) (partitionAt B) (k + i) - placeOf (modeAt B) (partitionAt B) k))
+    field B (placeOf (modeAt B) (partitionFieldAt B) (k + i)) (64 - (placeOf (modeAt B) (partitionFieldAt B) (k + i) - placeOf (modeAt B) (partitionFieldAt B) k))
 
 -- a set of the block, with the indices from i on
 unfoldable pub setOf : ℕ → ℕ → ℕ → IndexSet
@@ -58,5 +58,5 @@ pub record Factors (g : ℕ → ℕ) (l : List ℕ) (n : ℕ) : Type 0 where
   pub small : (i : ℕ) → i < n → getD l i 0 ≤ 64
 
 -- the bytes of a sum are the channels of texel i
-abbrev pub Shows : ℕ → ℕ → (ℕ → ℕ) → ℕ → Type 0
-Shows s m v i = (c : ℕ) → c < 4 → laneByte s c ≡ texelOf m v i c
+abbrev pub SumShows : ℕ → ℕ → (ℕ → ℕ) → ℕ → Type 0
+SumShows s m v i = (c : ℕ) → c < 4 → laneByte s c ≡ texelOf m v i c

@@ -9,13 +9,13 @@ use Rattle.bits.specs.Block.{blockNumber}
 use Rattle.bc7_layout.specs.Layout.{modeAt, fieldAt}
 use Rattle.bc7_layout.proofs.Tables.{subsets-most}
 use Rattle.bc7_layout.specs.Modes.{subsets}
-use Rattle.bc7_ends.specs.inner.Lanes.{lineOf}
+use Rattle.bc7_ends.specs.inner.Lanes.{subsetLine}
 use Rattle.bc7_ends.proofs.Places.{row-subsets}
 use Rattle.bc7_ends.proofs.lines_of.Statement.{statement}
 use Rattle.bc7_ends.proofs.lines_of.Tie as tie
 
 abbrev Inv-loop : tie.InvT-loop
-Inv-loop b f n r q₀ j₀ q j = (j ≤ n) × (length q ≡ 3) × Filled (lineOf (modeAt (blockNumber b)) (fieldAt (blockNumber b))) [] q j
+Inv-loop b f n r q₀ j₀ q j = (j ≤ n) × (length q ≡ 3) × Filled (subsetLine (modeAt (blockNumber b)) (fieldAt (blockNumber b))) [] q j
 
 abbrev μ-loop : tie.MeasureT-loop
 μ-loop b f n r q₀ j₀ q j = n - j

@@ -5,7 +5,7 @@ use Prim.Native.Nat.{ℕ, _*_, _≤_, _<_}
 use lib.Dec.{eqb}
 use Rattle.laws.specs.Choice.{pick}
 use Rattle.bc7_layout.specs.Modes.{modeRow, subsets, colourBits, alphaBits}
-use Rattle.bc7_layout.specs.Layout.{placeOf, modeAt, partitionAt}
+use Rattle.bc7_layout.specs.Layout.{placeOf, modeAt, partitionFieldAt}
 use Rattle.bc7_layout.specs.inner.Plan.{planOf}
 use Rattle.bc7_ends.specs.declared.Frame.{Frame}
 
@@ -14,7 +14,7 @@ pub record Framed (B : ℕ) (f : Frame) : Type 0 where
   pub known : modeAt B < 8
   pub mode : f .mode ≡ modeAt B
   pub row : f .row ≡ modeRow (modeAt B)
-  pub plan : f .plan ≡ planOf (subsets (modeAt B)) (partitionAt B)
+  pub plan : f .plan ≡ planOf (subsets (modeAt B)) (partitionFieldAt B)
   pub ends : f .ends ≡ placeOf (modeAt B) 0 4
   pub ends-most : f .ends ≤ 128
   pub step : f .step ≡ 2 * subsets (modeAt B) * colourBits (modeAt B)

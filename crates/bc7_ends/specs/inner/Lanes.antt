@@ -6,14 +6,14 @@ use mathlib.Core.List.{List, [], _∷_}
 use lib.Dec.{eqb}
 use lib.ListN.{getD}
 use Rattle.laws.specs.Choice.{pick}
-use Rattle.bc7_block.specs.Picture.{rotated, endOf}
+use Rattle.bc7_block.specs.Picture.{rotated, endChannel}
 
-unfoldable pub lanes : ℕ → ℕ → ℕ → ℕ → ℕ
-lanes a b c d = a + b * 65536 + c * 4294967296 + d * 281474976710656
+unfoldable pub fourLanes : ℕ → ℕ → ℕ → ℕ → ℕ
+fourLanes a b c d = a + b * 65536 + c * 4294967296 + d * 281474976710656
 
 -- by lane
 abbrev pub byLane : (ℕ → ℕ) → ℕ
-byLane f = lanes (f 0) (f 1) (f 2) (f 3)
+byLane f = fourLanes (f 0) (f 1) (f 2) (f 3)
 
 -- lane c of the colours g: rotation r takes one of them to alpha's place
 unfoldable pub colourLane : ℕ → (ℕ → ℕ) → ℕ → ℕ
@@ -28,13 +28,13 @@ unfoldable pub threeOf : ℕ → ℕ → ℕ → ℕ → ℕ
 threeOf x y z c = pick (eqb c 0) x (pick (eqb c 1) y z)
 
 -- the ends of subset j: the colours of both, and the alphas of both
-unfoldable pub lineOf : ℕ → (ℕ → ℕ) → ℕ → List ℕ
-unfolding lanes colourLane alphaLane
-lineOf m v j =
-    byLane (colourLane (v 2) (endOf m v j 0))
-    ∷ byLane (colourLane (v 2) (endOf m v j 1))
-    ∷ byLane (alphaLane (v 2) (endOf m v j 0 3))
-    ∷ byLane (alphaLane (v 2) (endOf m v j 1 3))
+unfoldable pub subsetLine : ℕ → (ℕ → ℕ) → ℕ → List ℕ
+unfolding fourLanes colourLane alphaLane
+subsetLine m v j =
+    byLane (colourLane (v 2) (endChannel m v j 0))
+    ∷ byLane (colourLane (v 2) (endChannel m v j 1))
+    ∷ byLane (alphaLane (v 2) (endChannel m v j 0 3))
+    ∷ byLane (alphaLane (v 2) (endChannel m v j 1 3))
     ∷ []
 
 -- no lane above 255

@@ -10,7 +10,7 @@ use Rattle.laws.proofs.Filling.{padded-here}
 use Rattle.weight_grid.proofs.Points.{step-le}
 use Rattle.weight_grid.specs.declared.Column.{Column}
 use Rattle.weight_grid.specs.inner.Columns.{columnOf, noColumn}
-use Rattle.block_core.specs.inner.Prepared.{texelIn}
+use Rattle.block_core.specs.inner.Prepared.{preparedTexel}
 use Rattle.partition.proofs.Rows.{which-lt}
 use Rattle.block_buffer.proofs.Painting.{Laid, laid-texel, laid-as, laid-none, laid-done, row-end, place-fits}
 use Rattle.block_core.proofs.Painting.{reach-column, told, room-for}
@@ -20,14 +20,14 @@ use Rattle.block_core.proofs.paint.Tie as tie
 -- within a row: whatever was painted before the row is there still, and x texels of the row are
 abbrev Inv-loop2 : tie.InvT-loop2
 Inv-loop2 kind g component lines seeds partitions f out₀ points row columns y gt upper lower which x₀ out x =
-    (x ≤ f .width) × ((old : List ℕ) → length old ≡ 864 → Laid (f .width) (texelIn kind g component points lines seeds partitions f) old out₀ (4 * (y * f .width)) → Laid (f .width) (texelIn kind g component points lines seeds partitions f) old out (4 * (y * f .width + x)))
+    (x ≤ f .width) × ((old : List ℕ) → length old ≡ 864 → Laid (f .width) (preparedTexel kind g component points lines seeds partitions f) old out₀ (4 * (y * f .width)) → Laid (f .width) (preparedTexel kind g component points lines seeds partitions f) old out (4 * (y * f .width + x)))
 
 abbrev μ-loop2 : tie.MeasureT-loop2
 μ-loop2 kind g component lines seeds partitions f out₀ points row columns y gt upper lower which x₀ out x = f .width - x
 
 abbrev Inv-loop : tie.InvT-loop
 Inv-loop kind g component lines seeds partitions f out₀ points row columns y₀ out y =
-    (y ≤ f .height) × (length out₀ ≡ 864 → Laid (f .width) (texelIn kind g component points lines seeds partitions f) out₀ out (4 * (y * f .width)))
+    (y ≤ f .height) × (length out₀ ≡ 864 → Laid (f .width) (preparedTexel kind g component points lines seeds partitions f) out₀ out (4 * (y * f .width)))
 
 abbrev μ-loop : tie.MeasureT-loop
 μ-loop kind g component lines seeds partitions f out₀ points row columns y₀ out y = f .height - y
@@ -107,7 +107,7 @@ painted-at d = place-of (d .before .before .before .before)
 
 -- the texel at the place
 shown : (d : tie.After-place Inv-loop2 μ-loop2 Inv-loop μ-loop) → d .before .before .mix .result
-    ≡ texelIn (start (painted-at d) .args .kind) (start (painted-at d) .args .g) (start (painted-at d) .args .component) (start (painted-at d) .args .t4) (now (start (painted-at d) .args .lines)) (start (painted-at d) .args .seeds) (start (painted-at d) .args .partitions) (start (painted-at d) .args .f) (x-of (painted-at d)) (y-of (painted-at d))
+    ≡ preparedTexel (start (painted-at d) .args .kind) (start (painted-at d) .args .g) (start (painted-at d) .args .component) (start (painted-at d) .args .t4) (now (start (painted-at d) .args .lines)) (start (painted-at d) .args .seeds) (start (painted-at d) .args .partitions) (start (painted-at d) .args .f) (x-of (painted-at d)) (y-of (painted-at d))
 shown d =
     let t = painted-at d in
     let a = start t .args in

@@ -15,7 +15,7 @@ use Rattle.partition.specs.declared.Seeds.{Seeds}
 use Rattle.partition.specs.inner.Seeds.{selectBy}
 use Rattle.weight_grid.specs.Place.{scaleOf, gridPlace}
 use Rattle.encoding.specs.declared.LevelPair.{LevelPair}
-use Rattle.encoding.specs.Levels.{firstLevel, secondLevel, Bytes}
+use Rattle.encoding.specs.Levels.{firstLevel, secondLevel, BytePair}
 use Rattle.weight_grid.specs.inner.Points.{noPoint, readOf}
 use Rattle.interpolation.specs.declared.Kind.{Kind}
 use Rattle.interpolation.specs.declared.Texel.{Texel}
@@ -44,9 +44,9 @@ module _ (kind : Kind) (g : WeightGrid) (component : ℕ) (points : List LevelPa
       texelOn kind (getD lines p []) (readOf firstLevel points (g .width) (g .height) gs gt) (readOf secondLevel points (g .width) (g .height) gs gt) component
 
   -- the texel at x, y of a block
-  unfoldable pub texelIn : Seeds → ℕ → Frame → ℕ → ℕ → Texel
+  unfoldable pub preparedTexel : Seeds → ℕ → Frame → ℕ → ℕ → Texel
   unfolding texelOnGrid
-  texelIn seeds partitions f x y =
+  preparedTexel seeds partitions f x y =
       texelOnGrid (pick (eqb partitions 1) 0 (selectBy seeds x y)) (gridPlace (f .across) x (g .width)) (gridPlace (f .down) y (g .height))
 
 -- the texel of partition 0 at the weights of point t
@@ -56,7 +56,7 @@ pointTexel kind component points lines t =
 
 -- the levels of each point are bytes
 abbrev pub ByteLevels : List LevelPair → Type 0
-ByteLevels points = (k : ℕ) → Bytes (getD points k noPoint)
+ByteLevels points = (k : ℕ) → BytePair (getD points k noPoint)
 
 -- a block of two halves
 abbrev pub halves : ℕ → ℕ → PhysicalBlock

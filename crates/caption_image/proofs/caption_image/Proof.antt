@@ -4,7 +4,7 @@ use native.Mathlib.Omega.{arith}
 use lib.ListN.{length}
 use Rattle.image_size.specs.Sides.{blocksOf}
 use Rattle.grey_caption.specs.Caption.{footprint}
-use Rattle.caption_image.specs.Image.{imageRefusal}
+use Rattle.caption_image.specs.Image.{captionImageRefusal}
 use Rattle.caption_image.specs.inner.Places.{Lent}
 use Rattle.caption_image.proofs.Laws.{accepted, lent, untouched, written}
 use borrow.Author.Needs.{needs}
@@ -16,7 +16,7 @@ returns c = (c .before .refusal .ensures, untouched _ _ _ _ _ _ (λ e. c .if1 .t
 
 -- what is known past the refusals
 none : (c : tie.Else1)
-    → imageRefusal (c .before .before .before .before .args .width) (c .before .before .before .before .args .height) (length (c .before .before .before .before .args .blocks .now)) (length (c .before .before .before .before .args .wanted .now)) ≡ 0
+    → captionImageRefusal (c .before .before .before .before .args .width) (c .before .before .before .before .args .height) (length (c .before .before .before .before .args .blocks .now)) (length (c .before .before .before .before .args .wanted .now)) ≡ 0
 none c = sym (c .before .refusal .ensures) ∙ c .if1 .left
 
 all : (c : tie.Else1)

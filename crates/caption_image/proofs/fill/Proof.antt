@@ -4,7 +4,7 @@ use native.Mathlib.Omega.{arith}
 use lib.ListN.{length}
 use Rattle.laws.specs.Table.{tab}
 use Rattle.laws.proofs.Filling.{Filling, filling-start, filling-done}
-use Rattle.caption_image.specs.Image.{imageBlocks}
+use Rattle.caption_image.specs.Image.{captionBlocks}
 use Rattle.caption_image.proofs.Laws.{Begins, begins, byteAt, block-more, block-bytes}
 use Rattle.caption_image.proofs.fill.Statement.{statement}
 use Rattle.caption_image.proofs.fill.Tie as tie
@@ -62,7 +62,7 @@ same-length : tie.Need-same-length Inv-loop μ-loop
 same-length c = c .before .loop .inv .1 .size
 
 returns : tie.Need-returns Inv-loop μ-loop
-unfolding imageBlocks
+unfolding captionBlocks
 returns c =
     let st = c .before .before .before .before in
     filling-done _ 0 _ _ _ (omega (arith, st .pre .1 .1)) (c .before .loop .inv .1)

@@ -6,7 +6,7 @@ use borrow.Author.Tests.{eq-eqb, ne-eqb}
 use Rattle.clip.specs.declared.Clip.{Clip}
 use Rattle.clip.specs.declared.Finished.{Finished}
 use Rattle.clip.specs.Feed.{finishOf}
-use Rattle.clip_numbers.specs.Numbers.{numbersOf, finishNumbered, finishState}
+use Rattle.clip_numbers.specs.Numbers.{stateNumbers, finishNumbered, finishState}
 use Rattle.clip_numbers.proofs.finish_numbers.Statement.{statement}
 use Rattle.clip_numbers.proofs.finish_numbers.Tie as tie
 
@@ -17,7 +17,7 @@ returns-2 c =
     let e = c .before .before .before .before .before .before .finish .ensures ∙ ap finishOf (c .before .before .before .before .before .before .before .clip-of .ensures) in
     let z = c .before .before .before .before .before .before .before .before .before .if1 .left in (
       rw (eq-eqb (length s) 26 z) (ap (λ (f : Finished). f .number) e),
-      rw (eq-eqb (length s) 26 z) (c .before .before .put-numbers .ensures ∙ c .before .before .before .before .numbers-of .ensures ∙ ap (λ (f : Finished). numbersOf (f .clip)) e),
+      rw (eq-eqb (length s) 26 z) (c .before .before .put-numbers .ensures ∙ c .before .before .before .before .numbers-of .ensures ∙ ap (λ (f : Finished). stateNumbers (f .clip)) e),
     )
 
 pub finish-numbers-spec : {M : Type 1} → statement M

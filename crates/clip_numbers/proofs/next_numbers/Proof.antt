@@ -2,12 +2,12 @@ use mathlib.Core.Path.{refl, sym, ap, _∙_}
 use borrow.Author.Needs.{needs}
 use borrow.Author.Tests.{lt-ltb, le-ltb}
 use Rattle.clip.specs.Step.{past}
-use Rattle.clip_numbers.specs.Numbers.{numbersOf}
+use Rattle.clip_numbers.specs.Numbers.{stateNumbers}
 use Rattle.clip_numbers.proofs.next_numbers.Statement.{statement}
 use Rattle.clip_numbers.proofs.next_numbers.Tie as tie
 
 pub next-numbers-spec : {M : Type 1} → statement M
-unfolding numbersOf past
+unfolding stateNumbers past
 next-numbers-spec =
     tie.close
     (tie.spec

@@ -3,7 +3,7 @@ use denote.Ref.{now}
 use lib.ListN.{length}
 use borrow.Author.Needs.{needs}
 use borrow.Author.Tests.{eq-eqb, ne-eqb}
-use Rattle.clip_numbers.specs.Numbers.{numbersOf, startNumber, startState}
+use Rattle.clip_numbers.specs.Numbers.{stateNumbers, startNumber, startState}
 use Rattle.clip_numbers.proofs.start_numbers.Statement.{statement}
 use Rattle.clip_numbers.proofs.start_numbers.Tie as tie
 
@@ -13,7 +13,7 @@ returns-2 c =
     let s = now (c .before .before .before .before .before .before .before .before .args .state) in
     let z = c .before .before .before .before .before .before .if1 .left in (
       rw (eq-eqb (length s) 26 z),
-      rw (eq-eqb (length s) 26 z) (c .before .before .put-numbers .ensures ∙ c .before .before .before .before .numbers-of .ensures ∙ ap numbersOf (c .before .before .before .before .before .fresh .ensures)),
+      rw (eq-eqb (length s) 26 z) (c .before .before .put-numbers .ensures ∙ c .before .before .before .before .numbers-of .ensures ∙ ap stateNumbers (c .before .before .before .before .before .fresh .ensures)),
     )
 
 pub start-numbers-spec : {M : Type 1} → statement M

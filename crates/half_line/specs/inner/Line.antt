@@ -27,11 +27,11 @@ halfLineOf p =
 
 module _ (line : List ℕ) (first second component : ℕ) where
   -- channel k, given the place of its mark
-  unfoldable pub lineChannel : ℕ → ℕ → ℕ
-  lineChannel mark k = halfOf (eqb (getD line mark 0) 1) (mixOf (getD line k 0) (getD line (4 + k) 0) (pick (eqb k component) second first) % 65536)
+  unfoldable pub halfLineChannel : ℕ → ℕ → ℕ
+  halfLineChannel mark k = halfOf (eqb (getD line mark 0) 1) (mixOf (getD line k 0) (getD line (4 + k) 0) (pick (eqb k component) second first) % 65536)
 
   unfoldable pub halfTexelOn : Texel
-  halfTexelOn = record { r = lineChannel 8 0; g = lineChannel 8 1; b = lineChannel 8 2; a = lineChannel 9 3 }
+  halfTexelOn = record { r = halfLineChannel 8 0; g = halfLineChannel 8 1; b = halfLineChannel 8 2; a = halfLineChannel 9 3 }
 
 -- the texel of a kind on the numbers of its pair
 unfoldable pub texelOn : Kind → List ℕ → ℕ → ℕ → ℕ → Texel

@@ -5,17 +5,17 @@ use native.Mathlib.Omega.{arith}
 use denote.Ref.{now}
 use borrow.Author.Tests.{lt-ltb, le-ltb}
 use borrow.Author.Needs.{needs}
-use Rattle.line_text.specs.Lines.{digit}
+use Rattle.line_text.specs.Lines.{decimalDigit}
 use Rattle.line_text.proofs.Laws.{puts-none, puts-as}
 use Rattle.line_text.proofs.put_digit.Statement.{statement}
 use Rattle.line_text.proofs.put_digit.Tie as tie
 
-none : (p n : ℕ) → n < p → [] ≡ digit p n
-unfolding digit
+none : (p n : ℕ) → n < p → [] ≡ decimalDigit p n
+unfolding decimalDigit
 none p n h = rw (lt-ltb n p h)
 
-one : (p n : ℕ) → p ≤ n → ((48 + n / p % 10) ∷ []) ≡ digit p n
-unfolding digit
+one : (p n : ℕ) → p ≤ n → ((48 + n / p % 10) ∷ []) ≡ decimalDigit p n
+unfolding decimalDigit
 one p n h = rw (le-ltb n p h)
 
 returns : tie.Need-returns

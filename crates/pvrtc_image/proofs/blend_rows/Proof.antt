@@ -3,7 +3,7 @@ use Prim.Native.Nat.{_+_, _-_, _*_, _≤_}
 use native.Mathlib.Omega.{arith}
 use lib.ListN.{length}
 use Rattle.pvrtc_rows.specs.inner.Rows.{Threes}
-use Rattle.pvrtc_image.specs.inner.Lines.{blendOf, ownOf, Line}
+use Rattle.pvrtc_image.specs.inner.Lines.{rowsBetween, ownOf, Line}
 use Rattle.pvrtc_rows.proofs.Rows.{threes-none, threes-put}
 use Rattle.pvrtc_image.proofs.Lines.{low-less}
 use Rattle.pvrtc_image.proofs.blend_rows.Statement.{statement}
@@ -12,7 +12,7 @@ use Rattle.pvrtc_image.proofs.blend_rows.Tie as tie
 abbrev Inv-loop : tie.InvT-loop
 Inv-loop n p top bottom line₀ i₀ line i =
     (i ≤ n) × (length line ≡ 3078)
-    × Threes (λ k. blendOf p top bottom (3 * k)) (λ k. blendOf p top bottom (3 * k + 1)) (λ k. ownOf p top bottom (3 * k + 2)) line i
+    × Threes (λ k. rowsBetween p top bottom (3 * k)) (λ k. rowsBetween p top bottom (3 * k + 1)) (λ k. ownOf p top bottom (3 * k + 2)) line i
 
 abbrev μ-loop : tie.MeasureT-loop
 μ-loop n p top bottom line₀ i₀ line i = n - i

@@ -4,7 +4,7 @@ use lib.ListN.{length}
 use denote.Ref.{now}
 use borrow.Author.Needs.{needs}
 use Rattle.pvrtc_texel.specs.Image.{sideBits, imageRefusal}
-use Rattle.pvrtc_rows.specs.inner.Rows.{Sized}
+use Rattle.pvrtc_rows.specs.inner.Rows.{WordsSized}
 use Rattle.pvrtc_image.proofs.Calls.{refused, sized, room, shown}
 use Rattle.pvrtc_image.proofs.decode_image.Statement.{statement}
 use Rattle.pvrtc_image.proofs.decode_image.Tie as tie

@@ -3,13 +3,13 @@ use Prim.Native.Nat.{_+_, _-_, _*_, _/_, _%_, _≤_}
 use native.Mathlib.Omega.{arith}
 use lib.ListN.{length, length-set}
 use denote.Ref.{now}
-use Rattle.pvrtc_image.specs.inner.Lines.{shownBy, Painted}
+use Rattle.pvrtc_image.specs.inner.Lines.{shownOnLine, Painted}
 use Rattle.pvrtc_image.proofs.Lines.{painted-none, painted-texel}
 use Rattle.pvrtc_image.proofs.paint_row.Statement.{statement}
 use Rattle.pvrtc_image.proofs.paint_row.Tie as tie
 
 abbrev Inv-loop : tie.InvT-loop
-Inv-loop line w y out₀ start x₀ out x = (x ≤ w) × Painted (λ k. shownBy line y (k / 4) (k % 4)) (4 * x) (4 * (y * w)) out₀ out
+Inv-loop line w y out₀ start x₀ out x = (x ≤ w) × Painted (λ k. shownOnLine line y (k / 4) (k % 4)) (4 * x) (4 * (y * w)) out₀ out
 
 abbrev μ-loop : tie.MeasureT-loop
 μ-loop line w y out₀ start x₀ out x = w - x
@@ -28,7 +28,7 @@ loop-again : tie.Need-loop-again Inv-loop μ-loop
 loop-again c =
     let l = c .before .before .loop in
     let a = c .before .before .before .before .args in
-    (omega arith, painted-texel (shownBy (now (a .line)) (a .y)) (l .x) _ _ (l .out) _ (omega arith) (l .inv .1) (c .texel-in .ensures))
+    (omega arith, painted-texel (shownOnLine (now (a .line)) (a .y)) (l .x) _ _ (l .out) _ (omega arith) (l .inv .1) (c .texel-in .ensures))
 
 returns : tie.Need-returns Inv-loop μ-loop
 returns c =

@@ -18,8 +18,8 @@ unfoldable pub between : ℕ → ℕ → ℕ → ℕ
 between p a b = a * (4 - p) + b * p
 
 -- a number of two rows, interpolated; the one of the row whose modulation a row of texels takes
-abbrev pub blendOf : ℕ → List ℕ → List ℕ → ℕ → ℕ
-blendOf p top bottom j = between p (getD top j 0) (getD bottom j 0)
+abbrev pub rowsBetween : ℕ → List ℕ → List ℕ → ℕ → ℕ
+rowsBetween p top bottom j = between p (getD top j 0) (getD bottom j 0)
 
 abbrev pub ownOf : ℕ → List ℕ → List ℕ → ℕ → ℕ
 ownOf p top bottom j = pick (ltb p 2) (getD top j 0) (getD bottom j 0)
@@ -33,7 +33,7 @@ pub record Low (n : ℕ) (l : List ℕ) : Type 0 where
 -- the first n words of a line, p rows of texels below the top row's samples: both colours, and the word whose modulation the row takes
 pub record Line (p : ℕ) (top bottom line : List ℕ) (n : ℕ) : Type 0 where
   pub size : length line ≡ 3078
-  pub words : Threes (λ i. blendOf p top bottom (3 * i)) (λ i. blendOf p top bottom (3 * i + 1)) (λ i. ownOf p top bottom (3 * i + 2)) line n
+  pub words : Threes (λ i. rowsBetween p top bottom (3 * i)) (λ i. rowsBetween p top bottom (3 * i + 1)) (λ i. ownOf p top bottom (3 * i + 2)) line n
 
 -- both colours at texel x of a line, and the word that has its modulation
 unfoldable pub sampleA : List ℕ → ℕ → ℕ
@@ -48,9 +48,9 @@ unfoldable pub ownWord : List ℕ → ℕ → ℕ
 ownWord line x = getD line (3 * (x / 4) + 5) 0
 
 -- channel c of texel x of row y
-unfoldable pub shownBy : List ℕ → ℕ → ℕ → ℕ → ℕ
+unfoldable pub shownOnLine : List ℕ → ℕ → ℕ → ℕ → ℕ
 unfolding sampleA sampleB ownWord
-shownBy line y x c =
+shownOnLine line y x c =
     byteOf (sampleA line x) (sampleB line x) (modulationWeight (ownWord line x) (x % 4) (y % 4)) (punched (ownWord line x) (x % 4) (y % 4)) c
 
 -- nothing in the way from the line to this texel's bytes is too large

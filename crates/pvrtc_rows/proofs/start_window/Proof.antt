@@ -1,4 +1,4 @@
-use Rattle.pvrtc_rows.specs.inner.Rows.{Ends}
+use Rattle.pvrtc_rows.specs.inner.Rows.{EndRows}
 use lib.Pow.{pow-pos}
 use native.Mathlib.Omega.{arith}
 use Rattle.pvrtc_rows.proofs.Rows.{window-starts}
@@ -14,7 +14,7 @@ returns c =
     let t = c .before .before .before in
     let l = t .before .before .before in
     let f = l .before .before .before in
-    let ends : Ends _ _ _ _ _ = record { at-first = f .unpack-row .ensures; at-last = l .unpack-last .ensures } in
+    let ends : EndRows _ _ _ _ _ = record { at-first = f .unpack-row .ensures; at-last = l .unpack-last .ensures } in
     (ends, window-starts _ _ _ _ _ _ _ _ (f .before .before .words-along .ensures .0) ends (t .copy-row .ensures .0) (t .copy-row .ensures .1) (c .copy-row2 .ensures .0) (c .copy-row2 .ensures .1))
 
 pub start-window-spec : {M : Type 1} → statement M

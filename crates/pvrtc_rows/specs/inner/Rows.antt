@@ -9,7 +9,7 @@ use Rattle.pvrtc_texel.specs.Image.{wordAt}
 use Rattle.pvrtc_word.specs.inner.Lanes.{lanes}
 
 -- the bytes of 2 ^ xb columns and 2 ^ yb rows of words, neither side longer than 4,096 texels
-pub record Sized (xb yb : ℕ) (s : List ℕ) : Type 0 where
+pub record WordsSized (xb yb : ℕ) (s : List ℕ) : Type 0 where
   pub wide : xb ≤ 10
   pub high : yb ≤ 10
   pub bytes : length s ≡ 8 * (2 ^ xb * 2 ^ yb)
@@ -37,16 +37,16 @@ abbrev pub putThree : List ℕ → ℕ → ℕ → ℕ → ℕ → List ℕ
 putThree l i u v w = set (set (set l (3 * i) u) (3 * i + 1) v) (3 * i + 2) w
 
 -- a row of n words, by column: colour A, colour B and the word itself
-pub record Row (n : ℕ) (word : ℕ → ℕ) (l : List ℕ) : Type 0 where
+pub record WordRow (n : ℕ) (word : ℕ → ℕ) (l : List ℕ) : Type 0 where
   pub size : length l ≡ 3078
   pub words : Threes (λ i. lanes (colourA (word (around n i)))) (λ i. lanes (colourB (word (around n i)))) (λ i. word (around n i)) l (n + 2)
 
 -- the first and the last row of the words
-pub record Ends (xb yb : ℕ) (s : List ℕ) (first last : List ℕ) : Type 0 where
-  pub at-first : Row (2 ^ xb) (λ X. wordAt xb yb s X 0) first
-  pub at-last : Row (2 ^ xb) (λ X. wordAt xb yb s X (2 ^ yb - 1)) last
+pub record EndRows (xb yb : ℕ) (s : List ℕ) (first last : List ℕ) : Type 0 where
+  pub at-first : WordRow (2 ^ xb) (λ X. wordAt xb yb s X 0) first
+  pub at-last : WordRow (2 ^ xb) (λ X. wordAt xb yb s X (2 ^ yb - 1)) last
 
 -- rows k and k + 1 of the words, counted like columns
 pub record Window (xb yb : ℕ) (s : List ℕ) (k : ℕ) (top bottom : List ℕ) : Type 0 where
-  pub above : Row (2 ^ xb) (λ X. wordAt xb yb s X (around (2 ^ yb) k)) top
-  pub below : Row (2 ^ xb) (λ X. wordAt xb yb s X (around (2 ^ yb) (k + 1))) bottom
+  pub above : WordRow (2 ^ xb) (λ X. wordAt xb yb s X (around (2 ^ yb) k)) top
+  pub below : WordRow (2 ^ xb) (λ X. wordAt xb yb s X (around (2 ^ yb) (k + 1))) bottom

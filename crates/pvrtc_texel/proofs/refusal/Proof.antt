@@ -3,16 +3,16 @@ use mathlib.Core.Bool.{true, false}
 use Prim.Native.Nat.{ℕ, _*_, _≤_}
 use native.Mathlib.Omega.{arith}
 use borrow.Author.Needs.{needs}
-use Rattle.pvrtc_texel.specs.Image.{badSide}
+use Rattle.pvrtc_texel.specs.Image.{badPvrtcSide}
 use Rattle.pvrtc_texel.proofs.Sides.{side-most, refused-width, refused-height, refused-bytes, refused-places, accepted}
 use Rattle.pvrtc_texel.proofs.refusal.Statement.{statement}
 use Rattle.pvrtc_texel.proofs.refusal.Tie as tie
 
 -- what is known past the tests of the sides
-wide : (c : tie.Else2) → badSide (c .before .before .before .before .args .width) ≡ false
+wide : (c : tie.Else2) → badPvrtcSide (c .before .before .before .before .args .width) ≡ false
 wide c = sym (c .before .before .before .bad-side .ensures) ∙ c .before .before .if1 .left
 
-high : (c : tie.Else2) → badSide (c .before .before .before .before .args .height) ≡ false
+high : (c : tie.Else2) → badPvrtcSide (c .before .before .before .before .args .height) ≡ false
 high c = sym (c .before .bad-side2 .ensures) ∙ c .if2 .left
 
 returns : tie.Need-returns

@@ -1,7 +1,7 @@
 use mathlib.Core.Path.{_≡_, refl, ap, _∙_}
 use native.Mathlib.Omega.{arith}
 use borrow.Author.Needs.{needs}
-use Rattle.pvrtc_texel.specs.Word.{weightOf}
+use Rattle.pvrtc_texel.specs.Word.{codeWeight}
 use Rattle.pvrtc_word.proofs.Texels.{punched-weight, plain-weight}
 use Rattle.pvrtc_word.proofs.weight.Statement.{statement}
 use Rattle.pvrtc_word.proofs.weight.Tie as tie

@@ -10,7 +10,7 @@ use Rattle.footprint.specs.Footprint.{isVolume}
 use Rattle.void_extent.specs.Layout.{badExtents}
 use Rattle.symbolic_block.specs.declared.SymbolicBlock.{SymbolicBlock}
 use Rattle.symbolic_block.specs.Fields.{sheetGrid, colourIn, extentIn, modeIn, endpointIn, weightIn}
-use Rattle.symbolic_block.specs.Refusals.{inUse, unknownFootprint, badMark, badHdr, badWidth, badHeight, badDepth, badRange, badPlanes, badComponent, badPartitions, badIndex, badSelector, badModes, badColours, badExtentFields, someInUse, noBlockMode, badEndpoints, badWeights, markedWithout}
+use Rattle.symbolic_block.specs.Refusals.{inUse, unknownFootprint, badMark, badHdr, badWidth, badHeight, badGridDepth, badRange, badPlanes, badComponent, badPartitions, badIndex, badSelector, badModes, badColours, badExtentFields, someInUse, noBlockMode, badEndpoints, badWeights, markedWithout}
 
 -- the first of two told numbers, where 0 tells nothing
 abbrev pub orElse : ℕ → ℕ → ℕ
@@ -23,7 +23,7 @@ or34 n = pick (either (eqb n 0) (eqb n 35)) 34 n
 -- ---- 31 of a mode sheet
 
 unfoldable pub badGrid : ℕ → SymbolicBlock → Bool
-badGrid fp s = either (badWidth s) (either (badHeight s) (either (badDepth fp s) (either (badRange s) (badPlanes s))))
+badGrid fp s = either (badWidth s) (either (badHeight s) (either (badGridDepth fp s) (either (badRange s) (badPlanes s))))
 
 unfoldable pub badPartitioning : SymbolicBlock → Bool
 badPartitioning s = either (badComponent s) (either (badPartitions s) (either (badIndex s) (badSelector s)))

@@ -4,7 +4,7 @@ use native.Mathlib.Nat.{mul-le-mul-left}
 use native.Mathlib.Omega.{arith}
 use Rattle.bits.specs.Block.{blockNumber}
 use Rattle.encoding.specs.Levels.{firstLevel, secondLevel}
-use Rattle.weight_grid.specs.inner.Points.{stepOf}
+use Rattle.weight_grid.specs.inner.Points.{neighbourStep}
 use Rattle.weight_grid.proofs.Reading.{read-lt}
 use Rattle.block_levels.proofs.Levels.{points-le}
 use Rattle.texel_weights.specs.inner.Points.{pointsAt}
@@ -15,7 +15,7 @@ use Rattle.texel_weights.proofs.weights_at.Statement.{statement}
 use Rattle.texel_weights.proofs.weights_at.Tie as tie
 
 -- what is read are points of the grid
-reach : (s : tie.Start) → s .args .gt / 16 * s .args .h .grid .width + s .args .gs / 16 + stepOf (s .args .gt) (s .args .h .grid .height) (s .args .h .grid .width) + stepOf (s .args .gs) (s .args .h .grid .width) 1
+reach : (s : tie.Start) → s .args .gt / 16 * s .args .h .grid .width + s .args .gs / 16 + neighbourStep (s .args .gt) (s .args .h .grid .height) (s .args .h .grid .width) + neighbourStep (s .args .gs) (s .args .h .grid .width) 1
     < s .args .h .grid .width * s .args .h .grid .height * s .args .h .grid .depth
 reach s =
     let l = s .pre .0 .0 in

@@ -46,7 +46,7 @@ use denote.Exit.{yes}
 use denote.Triple.Clauses.{ensured, lasts}
 use Rattle.interpolation.specs.declared.Kind.{Kind}
 use Rattle.view.specs.View.{viewWith, viewOf}
-use Rattle.image_texel.specs.Making.{sidesOf}
+use Rattle.image_texel.specs.Making.{viewSides}
 use Rattle.image_texel.specs.Asking.{askedAt}
 use Rattle.view.specs.declared.View.{View}
 use Rattle.image_texel.specs.declared.Sides.{Sides}

@@ -44,7 +44,7 @@ use denote.Triple.Walked.{says, Stays, stay-none, stay-none-slice, walkOf, goes-
 use denote.Exit.{yes}
 use denote.Triple.Clauses.{ensured, lasts}
 use Rattle.view.specs.View.{viewWith, viewOf}
-use Rattle.image_texel.specs.Making.{sidesOf}
+use Rattle.image_texel.specs.Making.{viewSides}
 use Rattle.image_texel.specs.Asking.{askedAt}
 use Rattle.view.specs.declared.View.{View}
 use Rattle.image_texel.specs.declared.Sides.{Sides}
@@ -118,8 +118,8 @@ module _ {M : Type 1} (𝓤 : URA M) (H : Heap 𝓤) (A : Atoms 𝓤) (W : Given
       owned ! u8 (Is u8) (uint-makes 𝓤 H A W w8) n _ (refl, okn) $ fjoin ! $ move ! (2 ∷ 0 ∷ []) $ fjoin ! $
       move ! (2 ∷ 0 ∷ []) $ use2 W (raw (First 𝓤 H A mem run .pre to)) (qed W ((‵ (flft κ q) ⊛ ‵ ftrue) ∷ ‵ Kept ∷ []) ∵ join ! $ frame ! $ done !) $ frame ! $ done !
 
-  said : (m : Sides) → ent 𝓤 (ensured 𝓤 H A sides.ended (sides.clauses 𝓤 H A mem run) (κ, tt) (s, (n, (w, (h, tt)))) tt m) (fact 𝓤 (m ≡ sidesOf (length (now s)) n w h))
-  said m = exE 𝓤 _ (λ ws. snd∗ 𝓤 (sem 𝓤 H A (lasts sides.ended (κ, tt) (s, (n, (w, (h, tt)))) ws)) (fact 𝓤 (m ≡ sidesOf (length (now s)) n w h)))
+  said : (m : Sides) → ent 𝓤 (ensured 𝓤 H A sides.ended (sides.clauses 𝓤 H A mem run) (κ, tt) (s, (n, (w, (h, tt)))) tt m) (fact 𝓤 (m ≡ viewSides (length (now s)) n w h))
+  said m = exE 𝓤 _ (λ ws. snd∗ 𝓤 (sem 𝓤 H A (lasts sides.ended (κ, tt) (s, (n, (w, (h, tt)))) ws)) (fact 𝓤 (m ≡ viewSides (length (now s)) n w h)))
 
   -- the call of `with_sides`, at the sides m with the machine value u
   abbrev at₂ : Val → Vals put.signature (κ, tt)
@@ -147,7 +147,7 @@ module _ {M : Type 1} (𝓤 : URA M) (H : Heap 𝓤) (A : Atoms 𝓤) (W : Given
       suffices ! _ (ends-at 𝓤 H A make.ended stayed (make.clauses 𝓤 H A mem run) W (((κ, tt), (q, tt), tt, (s, (n, (w, (h, tt)))), at), tt) u r (tt, (tt, (tt, (tt, tt)))) (tt, (tt, (tt, (tt, tt))))) $ says ! e $
       move ! (1 ∷ []) $ frame ! $ move ! (1 ∷ []) $ frame ! $ done !
 
-  whole-view : (m : Sides) (r : View) → m ≡ sidesOf (length (now s)) n w h → r ≡ viewWith s n m → r ≡ viewOf s n w h
+  whole-view : (m : Sides) (r : View) → m ≡ viewSides (length (now s)) n w h → r ≡ viewWith s n m → r ≡ viewOf s n w h
   unfolding viewOf
   whole-view m r e e′ = e′ ∙ ap (viewWith s n) e
 
@@ -162,7 +162,7 @@ module _ {M : Type 1} (𝓤 : URA M) (H : Heap 𝓤) (A : Atoms 𝓤) (W : Given
         calls-at ! fm (First 𝓤 H A mem run) known to
         (and-then ! (load ! (from ! (stop !)) (look ! 10 refl)) (and-then ! (load ! (from ! (stop !)) (look ! 8 refl)) (and-then ! (load ! (from ! (stop !)) (look ! 6 refl)) (and-then ! (load ! (from ! (stop !)) (look ! 4 refl)) (no-more !))))) (λ u.
         use1 W (later (some (λ (m : Sides). ((‵ (flft κ q) ⊛ ‵ ftrue) ⊛ ‵ (S.the-row .own m (u ∷ []))) ⊛ raw (ensured 𝓤 H A sides.ended (sides.clauses 𝓤 H A mem run) (κ, tt) (s, (n, (w, (h, tt)))) tt m)))) (id⊢ 𝓤 _) $ await ! tt $ pick ! (λ m.
-        split ! $ move ! (1 ∷ []) $ use1 W (raw (fact 𝓤 (m ≡ sidesOf (length (now s)) n w h))) (said m) $ heard ! (m ≡ sidesOf (length (now s)) n w h) (λ e. split ! $ move ! (1 ∷ []) $
+        split ! $ move ! (1 ∷ []) $ use1 W (raw (fact 𝓤 (m ≡ viewSides (length (now s)) n w h))) (said m) $ heard ! (m ≡ viewSides (length (now s)) n w h) (λ e. split ! $ move ! (1 ∷ []) $
         -- [what the sides own; the token; Kept; room for _5; …; _4; …; … ; room for _0; …]
         peeks ! S.the-row (Is S.the-row) (shows 𝓤 H A S.the-row) m (u ∷ []) (λ is.
         land ! (from ! (stop !)) (init ! 3 refl (LL.lawful S.the-type S′.the-laws 𝓤 H A W .typed m _ is .0)) $

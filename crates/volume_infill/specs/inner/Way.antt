@@ -7,11 +7,11 @@ use lib.Dec.{ltb}
 use lib.ListN.{getD}
 use Rattle.laws.specs.Choice.{pick}
 use Rattle.encoding.specs.declared.LevelPair.{LevelPair}
-use Rattle.encoding.specs.Levels.{Bytes}
-use Rattle.weight_grid.specs.inner.Points.{stepOf, noPoint}
+use Rattle.encoding.specs.Levels.{BytePair}
+use Rattle.weight_grid.specs.inner.Points.{neighbourStep, noPoint}
 use Rattle.volume_infill.specs.declared.Walk.{Walk}
 use Rattle.volume_infill.specs.declared.Route.{Route}
-use Rattle.volume_infill.specs.Simplex.{fourOf}
+use Rattle.volume_infill.specs.Simplex.{simplexSum}
 
 -- the way from a point to the far corner, by the same tests: the first two steps, and the factors of the four points on it
 abbrev pub walkRow : Bool → Bool → Bool → ℕ → ℕ → ℕ → ℕ → ℕ → ℕ → Walk
@@ -35,9 +35,9 @@ bothFour w0 w1 w2 w3 p0 p1 p2 p3 = (p0 * w0 + p1 * w1 + p2 * w2 + p3 * w3 + 5242
 -- the points that are read at gs, gt, gr, all of the grid: at the last column, row or layer a point stands for its neighbour, whose factor is 0
 unfoldable pub routeOf : ℕ → ℕ → ℕ → ℕ → ℕ → ℕ → Route
 routeOf width height depth gs gt gr =
-    let right = stepOf gs width 1 in
-    let below = stepOf gt height width in
-    let behind = stepOf gr depth (width * height) in
+    let right = neighbourStep gs width 1 in
+    let below = neighbourStep gt height width in
+    let behind = neighbourStep gr depth (width * height) in
     let n = (gr / 16 * height + gt / 16) * width + gs / 16 in
     let k = walkOf (gs % 16) (gt % 16) (gr % 16) right below behind in
     record { n0 = n; n1 = n + k .first; n2 = n + k .first + k .second; n3 = n + right + below + behind; w0 = k .w0; w1 = k .w1; w2 = k .w2; w3 = k .w3 }
@@ -45,7 +45,7 @@ routeOf width height depth gs gt gr =
 -- a plane's blend along a route
 abbrev pub along : (LevelPair → ℕ) → List LevelPair → Route → ℕ
 along plane points k =
-    fourOf (k .w0) (k .w1) (k .w2) (k .w3)
+    simplexSum (k .w0) (k .w1) (k .w2) (k .w3)
     (plane (getD points (k .n0) noPoint)) (plane (getD points (k .n1) noPoint)) (plane (getD points (k .n2) noPoint)) (plane (getD points (k .n3) noPoint))
 
 -- a plane at gs, gt, gr, from the grid's points alone. That it is that plane's infill is a theorem: proofs/Reading.antt.
@@ -53,7 +53,7 @@ unfoldable pub volumeRead : (LevelPair → ℕ) → List LevelPair → ℕ → �
 volumeRead plane points width height depth gs gt gr = along plane points (routeOf width height depth gs gt gr)
 
 -- a place on each axis that is not past the last point, of a grid that 64 points have room for
-pub record Placed (width height depth gs gt gr : ℕ) : Type 0 where
+pub record WithinGrid (width height depth gs gt gr : ℕ) : Type 0 where
   pub width-low : 1 ≤ width
   pub height-low : 1 ≤ height
   pub depth-low : 1 ≤ depth
@@ -64,4 +64,4 @@ pub record Placed (width height depth gs gt gr : ℕ) : Type 0 where
 
 -- the levels of each point are bytes
 abbrev pub ByteLevels : List LevelPair → Type 0
-ByteLevels points = (k : ℕ) → Bytes (getD points k noPoint)
+ByteLevels points = (k : ℕ) → BytePair (getD points k noPoint)

@@ -6,7 +6,7 @@ use lib.ListN.{length, getD}
 use denote.Ref.{now}
 use borrow.Author.Needs.{needs}
 use Rattle.partition.proofs.Rows.{which-lt}
-use Rattle.volume_infill.specs.inner.Way.{Placed}
+use Rattle.volume_infill.specs.inner.Way.{WithinGrid}
 use Rattle.volume_infill.proofs.Reading.{Routed, routed}
 use Rattle.block_buffer.proofs.Painting.{Laid, laid-texel, laid-as, laid-none, laid-done, row-end}
 use Rattle.volume_paint.specs.Volume.{byRows, volumeTexel}
@@ -76,7 +76,7 @@ row-le c = let s = start (layer-of c) in
     omega (arith, rows-most _ _ _ _ (s .pre .0), row-lt (s .args .f .height) (s .args .f .depth) (y c) (z (layer-of c)) (c .if2 .taken) (layer-of c .if1 .taken))
 
 on-place : (c : tie.After-grid-place3 Inv-loop3 μ-loop3 Inv-loop2 μ-loop2 Inv-loop μ-loop) → let a = start (layer-of (row-of (c .before))) .args in
-    Placed (a .width) (a .height) (a .depth) (c .grid-place3 .result) (c .before .before .before .before .before .before .grid-place2 .result) (c .before .before .before .before .before .before .before .before .before .before .before .grid-place .result)
+    WithinGrid (a .width) (a .height) (a .depth) (c .grid-place3 .result) (c .before .before .before .before .before .before .grid-place2 .result) (c .before .before .before .before .before .before .before .before .before .before .before .grid-place .result)
 on-place c = let p = c .before in
     let r = row-of p in
     let l = layer-of r in

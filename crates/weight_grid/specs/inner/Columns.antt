@@ -2,14 +2,14 @@
 -- Assumes nothing.
 use Prim.Native.Nat.{ℕ, _+_, _/_, _%_}
 use Rattle.weight_grid.specs.Place.{gridPlace}
-use Rattle.weight_grid.specs.inner.Points.{stepOf}
+use Rattle.weight_grid.specs.inner.Points.{neighbourStep}
 use Rattle.weight_grid.specs.declared.Column.{Column}
 
 -- the points beside column x of a block, and its fraction
 unfoldable pub columnOf : ℕ → ℕ → ℕ → Column
 columnOf scale points x = record {
   at = gridPlace scale x points / 16;
-  next = gridPlace scale x points / 16 + stepOf (gridPlace scale x points) points 1;
+  next = gridPlace scale x points / 16 + neighbourStep (gridPlace scale x points) points 1;
   part = gridPlace scale x points % 16;
 }
 

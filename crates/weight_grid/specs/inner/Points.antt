@@ -18,8 +18,8 @@ unfoldable pub bothOf : ℕ → ℕ → ℕ → ℕ → ℕ → ℕ → ℕ
 bothOf fs ft p00 p01 p10 p11 = (p00 * w00 fs ft + p01 * w01 fs ft + p10 * w10 fs ft + p11 * w11 fs ft + 524296) / 16
 
 -- how far the next point lies in a list, from a place on an axis of so many points; 0 at the last point, past which nothing is read
-unfoldable pub stepOf : ℕ → ℕ → ℕ → ℕ
-stepOf place points size = pick (ltb (place / 16 + 1) points) size 0
+unfoldable pub neighbourStep : ℕ → ℕ → ℕ → ℕ
+neighbourStep place points size = pick (ltb (place / 16 + 1) points) size 0
 
 -- what stands past the last point
 abbrev pub noPoint : LevelPair
@@ -29,8 +29,8 @@ noPoint = levelPair 0 0
 -- is that plane's infill at the places of a block is a theorem: proofs/Reading.antt.
 unfoldable pub readOf : (LevelPair → ℕ) → List LevelPair → ℕ → ℕ → ℕ → ℕ → ℕ
 readOf plane points width height gs gt =
-    let right = stepOf gs width 1 in
-    let below = stepOf gt height width in
+    let right = neighbourStep gs width 1 in
+    let below = neighbourStep gt height width in
     let n = gt / 16 * width + gs / 16 in
     blendOf (gs % 16) (gt % 16)
     (plane (getD points n noPoint)) (plane (getD points (n + right) noPoint))
