@@ -19,7 +19,8 @@ use Rattle.astc_header.specs.declared.HeaderAnswer.{HeaderAnswer}
 use Rattle.astc_header.specs.declared.HeaderAnswer.the-variants.{Refused, Accepted}
 use Rattle.astc_header.specs.Header.{hasStart, headerIn, blocksIn, knownShape, headerRefusal, headerAnswer, fileBlocks, toldOf, headerTold}
 use Rattle.astc_header.specs.inner.Parts.{formRefusal}
-use Rattle.astc_header.proofs.Search.{both-true}
+use Rattle.astc_header.specs.Theorems.{Never1}
+use Rattle.laws.proofs.Computed.{both-true}
 
 -- ---- the form: 41, 42, 43
 
@@ -136,7 +137,7 @@ no-one false true true true e q = omega (arith, q)
 no-one false true true false false q = omega (arith, q)
 no-one false true true false true q = omega (arith, q)
 
-pub never-1 : (s : List ℕ) → headerRefusal s ≡ 1 → ⊥
+pub never-1 : Never1
 unfolding headerRefusal
 never-1 s q =
     no-one (ltb (length s) 16) (hasStart s) (knownShape s) (either (badSide (headerIn s .width)) (badSide (headerIn s .height)))

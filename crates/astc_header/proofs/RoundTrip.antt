@@ -20,7 +20,8 @@ use Rattle.astc_header.specs.declared.FileHeader.{FileHeader}
 use Rattle.astc_header.specs.declared.HeaderAnswer.the-variants.{Accepted}
 use Rattle.astc_header.specs.Header.{hasStart, footprintFor, sizeAt, headerIn, blocksIn, knownShape, headerRefusal, headerAnswer, fileBlocks, headerBytes, writtenHeader}
 use Rattle.astc_header.specs.Theorems.{ReadsBack, WrittenAgain}
-use Rattle.astc_header.proofs.Search.{footprint-back, both-true, found}
+use Rattle.astc_header.proofs.Search.{footprint-back, found}
+use Rattle.laws.proofs.Computed.{both-true}
 use Rattle.astc_header.proofs.Refusals.{Formed, refused-none, answer-accepted, its-blocks, less, taken, passed}
 
 -- ---- written, then read

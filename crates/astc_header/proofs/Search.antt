@@ -4,11 +4,11 @@ use Prim.Native.Nat.{ℕ, zero, suc, _+_, _-_, _≤_, _<_}
 use native.Mathlib.Omega.{arith}
 use native.Mathlib.Numerals.{add-one}
 use mathlib.Core.Path.{_≡_, refl, sym, ap, _∙_}
-use mathlib.Core.Bool.{Bool, true, false, true≢false}
+use mathlib.Core.Bool.{Bool, true, false}
 use lib.Dec.{T, eqb, eqb→eq}
 use borrow.Author.Tests.{eqb-true}
 use Rattle.laws.specs.Choice.{pick, both, all}
-use Rattle.laws.proofs.Computed.{each}
+use Rattle.laws.proofs.Computed.{both-true, each}
 use Rattle.footprint.specs.Footprint.{footprints, widthOf, heightOf}
 use Rattle.astc_header.specs.Header.{footprintFrom, footprintFor}
 
@@ -46,10 +46,6 @@ unfolding own
 footprint-back fp h = eqb→eq (footprintFor (widthOf fp) (heightOf fp)) fp (each own 14 own-all fp (omega arith))
 
 -- ---- a footprint that is found has the sides that were looked for
-
-pub both-true : (a b : Bool) → both a b ≡ true → (a ≡ true) × (b ≡ true)
-both-true true b e = (refl, e)
-both-true false b e = absurd (true≢false (sym e))
 
 abbrev Has : ℕ → ℕ → ℕ → Type 0
 Has w h fp = (widthOf fp ≡ w) × (heightOf fp ≡ h)

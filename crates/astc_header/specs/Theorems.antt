@@ -1,5 +1,5 @@
 -- 02, a: what is proved of reading and writing headers. Theorems: proofs/RoundTrip.antt, `reads-back` (of a header that is not refused, and as many
--- blocks as it asks for), `written-again` (of a file that is accepted).
+-- blocks as it asks for), `written-again` (of a file that is accepted); proofs/Refusals.antt, `never-1`.
 -- Assumes nothing.
 use Prim.Native.Nat.{ℕ}
 use mathlib.Core.Path.{_≡_}
@@ -7,7 +7,7 @@ use mathlib.Core.List.{List, _++_}
 use lib.ListN.{take}
 use Rattle.astc_header.specs.declared.FileHeader.{FileHeader}
 use Rattle.astc_header.specs.declared.HeaderAnswer.the-variants.{Accepted}
-use Rattle.astc_header.specs.Header.{headerAnswer, fileBlocks, writtenHeader}
+use Rattle.astc_header.specs.Header.{headerRefusal, headerAnswer, fileBlocks, writtenHeader}
 
 -- "What we write, with its blocks behind it, must read back as it was": footprint, sides, and the blocks' bytes
 pub record ReadsBack (h : FileHeader) (blocks : List ℕ) : Type 0 where
@@ -18,3 +18,7 @@ pub record ReadsBack (h : FileHeader) (blocks : List ℕ) : Type 0 where
 pub record WrittenAgain (s : List ℕ) (h : FileHeader) : Type 0 where
   pub not-refused : writtenHeader (h .footprint) (h .width) (h .height) .refusal ≡ 0
   pub same-bytes : writtenHeader (h .footprint) (h .width) (h .height) .bytes ≡ take 16 s
+
+-- sides that no flat footprint has are 43: no file is told as 1
+abbrev pub Never1 : Type 0
+Never1 = (s : List ℕ) → headerRefusal s ≡ 1 → ⊥

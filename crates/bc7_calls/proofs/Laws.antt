@@ -9,11 +9,10 @@ use lib.Dec.{eqb}
 use lib.ListN.{length, getD}
 use borrow.Author.Tests.{eqb-true, eqb-false, eq-eqb, ne-eqb}
 use Rattle.laws.specs.Choice.{pick}
-use Rattle.laws.specs.Table.{tab}
+use Rattle.laws.specs.Table.{tab, Bytes}
 use Rattle.laws.proofs.Filling.{length-tab, getD-tab, filled-all, Filled, Filling, filling-done}
 use Rattle.bits.specs.Field.{field}
 use Rattle.bits.specs.Block.{numberOf, bytesOf}
-use Rattle.bits.proofs.Blocks.{Bytes}
 use Rattle.block_answer.specs.declared.Answer.{Answer}
 use Rattle.block_answer.specs.declared.Answer.the-variants.{Refused, Faulty, Done}
 use Rattle.block_answer.specs.Told.{answerFor, numberTold}
@@ -27,8 +26,8 @@ use Rattle.bc7_block.specs.Picture.{blockTexel}
 use Rattle.bc7_block.proofs.Views.{made-same}
 use Rattle.bc7_block.proofs.Known.{reserved-mode, known-mode, sound}
 use Rattle.bc7_core.specs.Bytes.{texelBytes, shownBytes}
-use Rattle.bc7_calls.specs.declared.Reading.{Reading}
-use Rattle.bc7_calls.specs.declared.Writing.{Writing}
+use Rattle.bc7_calls.specs.declared.Bc7Reading.{Bc7Reading}
+use Rattle.bc7_calls.specs.declared.Bc7Writing.{Bc7Writing}
 use Rattle.bc7_calls.specs.Calls.{decodeRefusal, decodeAnswer, decodeTold, decodeOut, nothing, readingIn, readingOf, readTold, refusedWith, writingOf}
 
 -- a block without fault is read
@@ -45,7 +44,7 @@ module _ (B : ℕ) where
   unfolding readingIn answerFor
   faulty h = ap (λ (n : ℕ). pick (eqb n 0) (record { answer = Done; block = readBlock B }) (nothing (pick (eqb n 0) Done (Faulty n)))) (sym (told-71 h))
 
-  pub done : (m : ℕ) (f : List ℕ) (r : Reading) → m ≡ modeAt B → (m ≡ 8 → ⊥) → f ≡ tab (fieldAt B) 60
+  pub done : (m : ℕ) (f : List ℕ) (r : Bc7Reading) → m ≡ modeAt B → (m ≡ 8 → ⊥) → f ≡ tab (fieldAt B) 60
       → r ≡ record { answer = Done; block = bc7Block m (λ k. getD f k 0) } → r ≡ readingIn B
   unfolding readingIn readBlock
   done m f r em h ef er =
@@ -68,11 +67,11 @@ unfolding writingOf
 not-written s n e h = rw (ne-eqb (refusalOf s) 0 (λ q. h (e ∙ q))) (ap refusedWith e)
 
 pub written : (s : Bc7Block) (n B : ℕ) → n ≡ refusalOf s → n ≡ 0 → B ≡ blockOf s
-    → _≡_ {A = Writing} (record { answer = Done; bytes = bytesOf 16 B }) (writingOf s)
+    → _≡_ {A = Bc7Writing} (record { answer = Done; bytes = bytesOf 16 B }) (writingOf s)
 unfolding writingOf
 written s n B e h eb = rw (eq-eqb (refusalOf s) 0 (sym e ∙ h)) (ap (λ (x : ℕ). record { answer = Done; bytes = bytesOf 16 x }) eb)
 
-pub stored : (s : Bc7Block) (n B : ℕ) (l : List ℕ) → n ≡ refusalOf s → n ≡ 0 → B ≡ blockOf s → l ≡ bytesOf 16 B → _≡_ {A = Writing} (record { answer = Done; bytes = l }) (writingOf s)
+pub stored : (s : Bc7Block) (n B : ℕ) (l : List ℕ) → n ≡ refusalOf s → n ≡ 0 → B ≡ blockOf s → l ≡ bytesOf 16 B → _≡_ {A = Bc7Writing} (record { answer = Done; bytes = l }) (writingOf s)
 stored s n B l e h eb el = ap (λ (x : List ℕ). record { answer = Done; bytes = x }) el ∙ written s n B e h eb
 
 -- ---- the one-block call
@@ -153,16 +152,16 @@ in-told B = go (eqb (faultOf B) 0) refl where
   go true e = sym (eqb-true (faultOf B) 0 e)
   go false e = number-of (faultOf B)
 
-pub reading-told : (s : List ℕ) (r : Reading) → r ≡ readingOf s → numberTold (r .answer) ≡ readTold s
+pub reading-told : (s : List ℕ) (r : Bc7Reading) → r ≡ readingOf s → numberTold (r .answer) ≡ readTold s
 unfolding readingOf readTold nothing
-reading-told s r e = ap (λ (x : Reading). numberTold (x .answer)) e ∙ go (eqb (length s) 16) where
+reading-told s r e = ap (λ (x : Bc7Reading). numberTold (x .answer)) e ∙ go (eqb (length s) 16) where
   go : (b : Bool) → numberTold (pick b (readingIn (numberOf s)) (nothing (Refused 4)) .answer) ≡ pick b (faultOf (numberOf s)) 4
   go true = in-told (numberOf s)
   go false = refl
 
-pub writing-told : (s : Bc7Block) (w : Writing) → w ≡ writingOf s → numberTold (w .answer) ≡ refusalOf s
+pub writing-told : (s : Bc7Block) (w : Bc7Writing) → w ≡ writingOf s → numberTold (w .answer) ≡ refusalOf s
 unfolding writingOf refusedWith
-writing-told s w e = ap (λ (x : Writing). numberTold (x .answer)) e ∙ go (eqb (refusalOf s) 0) refl where
+writing-told s w e = ap (λ (x : Bc7Writing). numberTold (x .answer)) e ∙ go (eqb (refusalOf s) 0) refl where
   go : (b : Bool) → eqb (refusalOf s) 0 ≡ b
       → numberTold (pick b (record { answer = Done; bytes = bytesOf 16 (blockOf s) }) (refusedWith (refusalOf s)) .answer) ≡ refusalOf s
   go true q = sym (eqb-true (refusalOf s) 0 q)

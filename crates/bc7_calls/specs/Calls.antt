@@ -17,8 +17,8 @@ use Rattle.bc7_block.specs.Refusals.{refusalOf}
 use Rattle.bc7_block.specs.Reading.{faultOf, readBlock, zeroBlock}
 use Rattle.bc7_block.specs.Writing.{blockOf}
 use Rattle.bc7_core.specs.Bytes.{shownBytes}
-use Rattle.bc7_calls.specs.declared.Reading.{Reading}
-use Rattle.bc7_calls.specs.declared.Writing.{Writing}
+use Rattle.bc7_calls.specs.declared.Bc7Reading.{Bc7Reading}
+use Rattle.bc7_calls.specs.declared.Bc7Writing.{Bc7Writing}
 
 -- ---- the one-block call
 
@@ -45,15 +45,15 @@ decodeOut s old = pick (eqb (decodeRefusal (length s) (length old)) 0) (shownByt
 -- ---- the reader of sheets
 
 -- "their reader (4; 71 with zeros)"
-unfoldable pub nothing : Answer → Reading
+unfoldable pub nothing : Answer → Bc7Reading
 nothing a = record { answer = a; block = zeroBlock }
 
 -- of a block's 128 bits
-unfoldable pub readingIn : ℕ → Reading
+unfoldable pub readingIn : ℕ → Bc7Reading
 unfolding nothing faultOf readBlock answerFor
 readingIn B = pick (eqb (faultOf B) 0) (record { answer = Done; block = readBlock B }) (nothing (answerFor (faultOf B)))
 
-unfoldable pub readingOf : List ℕ → Reading
+unfoldable pub readingOf : List ℕ → Bc7Reading
 unfolding nothing readingIn
 readingOf s = pick (eqb (length s) 16) (readingIn (numberOf s)) (nothing (Refused 4))
 
@@ -65,9 +65,9 @@ readTold s = pick (eqb (length s) 16) (faultOf (numberOf s)) 4
 -- ---- the writer
 
 -- "The writer refuses, with sixteen zeros"
-unfoldable pub refusedWith : ℕ → Writing
+unfoldable pub refusedWith : ℕ → Bc7Writing
 refusedWith n = record { answer = Refused n; bytes = tab (λ k. 0) 16 }
 
-unfoldable pub writingOf : Bc7Block → Writing
+unfoldable pub writingOf : Bc7Block → Bc7Writing
 unfolding refusedWith refusalOf blockOf bytesOf
 writingOf s = pick (eqb (refusalOf s) 0) (record { answer = Done; bytes = bytesOf 16 (blockOf s) }) (refusedWith (refusalOf s))

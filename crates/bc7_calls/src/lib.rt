@@ -5,19 +5,19 @@ use block_answer::Answer;
 ghost use mathlib.Core.Path.{_≡_};
 ghost use lib.ListN.{length};
 ghost use Rattle.bits.specs.Block.{blockNumber};
-ghost use Rattle.block_answer.specs.Told.{answerFor, numberTold};
+ghost use Rattle.block_answer.specs.Told.{numberTold};
 ghost use Rattle.bc7_block.specs.Refusals.{refusalOf};
 ghost use Rattle.bc7_block.specs.Reading.{zeroBlock};
 ghost use Rattle.bc7_calls.specs.Calls.{decodeRefusal, decodeAnswer, decodeTold, decodeOut, nothing, readingIn, readingOf, readTold, refusedWith, writingOf};
 
 // What the reader of sheets answers, with the sheet.
-pub struct Reading {
+pub struct Bc7Reading {
     pub answer: Answer,
     pub block: Bc7Block,
 }
 
 // What the writer answers, with the block.
-pub struct Writing {
+pub struct Bc7Writing {
     pub answer: Answer,
     pub bytes: [u8; 16],
 }
@@ -82,14 +82,14 @@ fn zero_block() -> Bc7Block
 }
 
 // A refusal or a fault, with a sheet of zeros.
-fn told(answer: Answer) -> Reading
+fn told(answer: Answer) -> Bc7Reading
     ensures { λ r. ⌜ r ≡ nothing answer ⌝ }
 {
     let block = zero_block();
-    Reading { answer, block }
+    Bc7Reading { answer, block }
 }
 
-fn read_number(b: PhysicalBlock) -> Reading
+fn read_number(b: PhysicalBlock) -> Bc7Reading
     ensures { λ r. ⌜ r ≡ readingIn (blockNumber b) ⌝ }
 {
     let m = bc7_layout::mode_at(b);
@@ -98,14 +98,14 @@ fn read_number(b: PhysicalBlock) -> Reading
     }
     let f = bc7_codec::read_fields(b, m);
     let block = bc7_codec::sheet_of(m, f);
-    Reading {
+    Bc7Reading {
         answer: Answer::Done,
         block,
     }
 }
 
 // A block's sheet.
-pub fn read_bc7(block: &[u8]) -> Reading
+pub fn read_bc7(block: &[u8]) -> Bc7Reading
     ensures { λ r. ⌜ r ≡ readingOf (now (block .entry)) ⌝ }
     ensures { λ r. ⌜ numberTold (r .answer) ≡ readTold (now (block .entry)) ⌝ }
 {
@@ -115,17 +115,17 @@ pub fn read_bc7(block: &[u8]) -> Reading
     read_number(bits::load(block))
 }
 
-fn refused(n: u8) -> Writing
+fn refused(n: u8) -> Bc7Writing
     ensures { λ r. ⌜ r ≡ refusedWith n ⌝ }
 {
-    Writing {
+    Bc7Writing {
         answer: Answer::Refused(n),
         bytes: [0u8; 16],
     }
 }
 
 // A sheet's block.
-pub fn write_bc7(s: Bc7Block) -> Writing
+pub fn write_bc7(s: Bc7Block) -> Bc7Writing
     ensures { λ r. ⌜ r ≡ writingOf s ⌝ }
     ensures { λ r. ⌜ numberTold (r .answer) ≡ refusalOf s ⌝ }
 {
@@ -134,7 +134,7 @@ pub fn write_bc7(s: Bc7Block) -> Writing
         return refused(n);
     }
     let bytes = bits::store(bc7_codec::block_of(s));
-    Writing {
+    Bc7Writing {
         answer: Answer::Done,
         bytes,
     }

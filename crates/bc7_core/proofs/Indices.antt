@@ -9,7 +9,7 @@ use native.Mathlib.Omega.{arith}
 use lib.Dec.{T, eqb, ltb, leb, eqb→eq, leb→le, ltb→lt}
 use borrow.Author.Tests.{ne-eqb, eq-eqb, eqb-true, eqb-false, ltb-true, lt-ltb, le-ltb}
 use Rattle.laws.specs.Choice.{pick, both, either, all}
-use Rattle.laws.proofs.Computed.{each, both-left, both-right}
+use Rattle.laws.proofs.Computed.{each, both-left, both-right, both-true}
 use Rattle.bits.specs.Field.{field}
 use Rattle.bits.proofs.Fields.{field-low, field-high, field-none}
 use Rattle.bc7_layout.specs.declared.Mode.{Mode}
@@ -220,19 +220,13 @@ pick-set false m h = primary
 
 pub colour-set-in : (m : ℕ) (v : ℕ → ℕ) → m < 8 → SetIn m (colourSet m v)
 unfolding colourSet
-colour-set-in m v h = pick-set (both (eqb (selectionBits m) 1) (eqb (v 3) 1)) m (λ e. selected-has m h (eqb-true _ 1 (go (eqb (selectionBits m) 1) (eqb (v 3) 1) e))) where
-  go : (a b : Bool) → both a b ≡ true → a ≡ true
-  go true b e = refl
-  go false b e = e
+colour-set-in m v h = pick-set (both (eqb (selectionBits m) 1) (eqb (v 3) 1)) m (λ e. selected-has m h (eqb-true _ 1 (both-true (eqb (selectionBits m) 1) (eqb (v 3) 1) e .0)))
 
 pub alpha-set-in : (m : ℕ) (v : ℕ → ℕ) → SetIn m (alphaSet m v)
 unfolding alphaSet
 alpha-set-in m v =
     pick-set (both (ltb 0 (secondaryBits m)) (either (eqb (selectionBits m) 0) (eqb (v 3) 0))) m
-    (λ e. ltb-true 0 (secondaryBits m) (go (ltb 0 (secondaryBits m)) (either (eqb (selectionBits m) 0) (eqb (v 3) 0)) e)) where
-      go : (a b : Bool) → both a b ≡ true → a ≡ true
-      go true b e = refl
-      go false b e = e
+    (λ e. ltb-true 0 (secondaryBits m) (both-true (ltb 0 (secondaryBits m)) (either (eqb (selectionBits m) 0) (eqb (v 3) 0)) e .0))
 
 by-set : (t : Bool) (m : ℕ) (v : ℕ → ℕ) (i : ℕ) → factorOf (setBits m (pick t 44 28)) (v (pick t 44 28 + i)) ≡ pick t (secondaryFactor m v i) (primaryFactor m v i)
 unfolding setBits secondaryFactor primaryFactor

@@ -1,6 +1,6 @@
 // One BC7 block to sixteen texels of four bytes in a lent buffer: its settings and ends once, and the four channels of a texel mixed by one sum of
 // products.
-use bc7_ends::Frame;
+use bc7_ends::Bc7Frame;
 use bits::PhysicalBlock;
 ghost use mathlib.Core.Path.{_≡_};
 ghost use mathlib.Core.List.{[]};
@@ -58,7 +58,7 @@ fn factor(bits: u32, w: u32, word: u64) -> u64
     (word % (1 << w) * slope(bits) + 128) / 256
 }
 
-fn primary_set(b: PhysicalBlock, f: Frame) -> IndexSet
+fn primary_set(b: PhysicalBlock, f: Bc7Frame) -> IndexSet
     requires { ⌜ Framed (blockNumber b) f ⌝ }
     ensures { λ s. ⌜ s ≡ setOf (blockNumber b) 28 0 ⌝ }
 {
@@ -71,7 +71,7 @@ fn primary_set(b: PhysicalBlock, f: Frame) -> IndexSet
 }
 
 // The secondary set lies behind sixteen primary indices with one anchor among them.
-fn secondary_set(b: PhysicalBlock, f: Frame) -> IndexSet
+fn secondary_set(b: PhysicalBlock, f: Bc7Frame) -> IndexSet
     requires { ⌜ Framed (blockNumber b) f × (0 < secondaryBits (modeAt (blockNumber b))) ⌝ }
     ensures { λ s. ⌜ s ≡ setOf (blockNumber b) 44 0 ⌝ }
 {
@@ -83,7 +83,7 @@ fn secondary_set(b: PhysicalBlock, f: Frame) -> IndexSet
     }
 }
 
-fn colour_set(b: PhysicalBlock, f: Frame) -> IndexSet
+fn colour_set(b: PhysicalBlock, f: Bc7Frame) -> IndexSet
     requires { ⌜ Framed (blockNumber b) f ⌝ }
     ensures { λ s. ⌜ s ≡ setOf (blockNumber b) (colourSet (modeAt (blockNumber b)) (fieldAt (blockNumber b))) 0 ⌝ }
 {
@@ -97,7 +97,7 @@ fn colour_set(b: PhysicalBlock, f: Frame) -> IndexSet
     primary_set(b, f)
 }
 
-fn alpha_set(b: PhysicalBlock, f: Frame) -> IndexSet
+fn alpha_set(b: PhysicalBlock, f: Bc7Frame) -> IndexSet
     requires { ⌜ Framed (blockNumber b) f ⌝ }
     ensures { λ s. ⌜ s ≡ setOf (blockNumber b) (alphaSet (modeAt (blockNumber b)) (fieldAt (blockNumber b))) 0 ⌝ }
 {
@@ -138,7 +138,7 @@ fn behind(s: IndexSet, short: u32) -> IndexSet
 }
 
 // The factor of index i of the block's set, from which the indices before it are gone.
-fn factor_at(b: PhysicalBlock, f: Frame, s: IndexSet, i: u32) -> u64
+fn factor_at(b: PhysicalBlock, f: Bc7Frame, s: IndexSet, i: u32) -> u64
     requires { ⌜ Framed (blockNumber b) f × (i < 16) ⌝ }
     requires { ⌜ (s ≡ setOf (blockNumber b) (s .first) i) × SetIn (modeAt (blockNumber b)) (s .first) ⌝ }
     ensures { λ r. ⌜ (r ≡ setFactor (blockNumber b) (s .first) i) × (r ≤ 64) ⌝ }
@@ -147,7 +147,7 @@ fn factor_at(b: PhysicalBlock, f: Frame, s: IndexSet, i: u32) -> u64
 }
 
 // The set without that index.
-fn past(b: PhysicalBlock, f: Frame, s: IndexSet, i: u32) -> IndexSet
+fn past(b: PhysicalBlock, f: Bc7Frame, s: IndexSet, i: u32) -> IndexSet
     requires { ⌜ Framed (blockNumber b) f × (i < 16) ⌝ }
     requires { ⌜ (s ≡ setOf (blockNumber b) (s .first) i) × SetIn (modeAt (blockNumber b)) (s .first) ⌝ }
     ensures { λ r. ⌜ r ≡ setOf (blockNumber b) (s .first) (i + 1) ⌝ }
@@ -156,7 +156,7 @@ fn past(b: PhysicalBlock, f: Frame, s: IndexSet, i: u32) -> IndexSet
 }
 
 // The factors of a set's sixteen indices.
-fn factors(b: PhysicalBlock, f: Frame, set: IndexSet) -> [u64; 16]
+fn factors(b: PhysicalBlock, f: Bc7Frame, set: IndexSet) -> [u64; 16]
     requires { ⌜ Framed (blockNumber b) f ⌝ }
     requires { ⌜ (set ≡ setOf (blockNumber b) (set .first) 0) × SetIn (modeAt (blockNumber b)) (set .first) ⌝ }
     ensures { λ r. ⌜ Factors (setFactor (blockNumber b) (set .first)) r 16 ⌝ }
@@ -172,14 +172,14 @@ fn factors(b: PhysicalBlock, f: Frame, set: IndexSet) -> [u64; 16]
     r
 }
 
-fn colour_factors(b: PhysicalBlock, f: Frame) -> [u64; 16]
+fn colour_factors(b: PhysicalBlock, f: Bc7Frame) -> [u64; 16]
     requires { ⌜ Framed (blockNumber b) f ⌝ }
     ensures { λ r. ⌜ Factors (colourFactor (modeAt (blockNumber b)) (fieldAt (blockNumber b))) r 16 ⌝ }
 {
     factors(b, f, colour_set(b, f))
 }
 
-fn alpha_factors(b: PhysicalBlock, f: Frame) -> [u64; 16]
+fn alpha_factors(b: PhysicalBlock, f: Bc7Frame) -> [u64; 16]
     requires { ⌜ Framed (blockNumber b) f ⌝ }
     ensures { λ r. ⌜ Factors (alphaFactor (modeAt (blockNumber b)) (fieldAt (blockNumber b))) r 16 ⌝ }
 {
@@ -200,7 +200,14 @@ fn put(out: &mut [u8; 64], i: usize, s: u64)
 }
 
 // The sum of texel i.
-fn sum_at(b: PhysicalBlock, f: Frame, lines: &[[u64; 4]; 3], colour: u64, alpha: u64, i: u32) -> u64
+fn sum_at(
+    b: PhysicalBlock,
+    f: Bc7Frame,
+    lines: &[[u64; 4]; 3],
+    colour: u64,
+    alpha: u64,
+    i: u32,
+) -> u64
     requires { ⌜ Framed (blockNumber b) f × (i < 16) ⌝ }
     requires { ⌜ Filled (subsetLine (modeAt (blockNumber b)) (fieldAt (blockNumber b))) [] (now lines) (subsets (modeAt (blockNumber b))) ⌝ }
     requires { ⌜ (colour ≡ colourFactor (modeAt (blockNumber b)) (fieldAt (blockNumber b)) i) × (colour ≤ 64) ⌝ }
@@ -214,7 +221,7 @@ fn sum_at(b: PhysicalBlock, f: Frame, lines: &[[u64; 4]; 3], colour: u64, alpha:
 // All texels of a block in raster order.
 fn paint(
     b: PhysicalBlock,
-    f: Frame,
+    f: Bc7Frame,
     lines: &[[u64; 4]; 3],
     colours: &[u64; 16],
     alphas: &[u64; 16],

@@ -17,7 +17,7 @@ ghost use Rattle.bc7_ends.specs.inner.Lanes.{fourLanes, byLane, colourLa
 
 // What a block's mode and partition fix: the mode's row and the partition's plan, where endpoints, P bits and indices begin, and the bits that one
 // colour of all ends takes.
-pub struct Frame {
+pub struct Bc7Frame {
     pub mode: u8,
     pub row: Mode,
     pub plan: u64,
@@ -65,7 +65,7 @@ fn indices_at(m: u8, row: Mode, pbits: u32) -> u32
 }
 
 // The frame of a block of mode m.
-pub fn frame_of(b: PhysicalBlock, m: u8) -> Frame
+pub fn frame_of(b: PhysicalBlock, m: u8) -> Bc7Frame
     requires { ⌜ (m ≡ modeAt (blockNumber b)) × (m < 8) ⌝ }
     ensures { λ r. ⌜ Framed (blockNumber b) r ⌝ }
 {
@@ -76,7 +76,7 @@ pub fn frame_of(b: PhysicalBlock, m: u8) -> Frame
     let step = colour_step(m, row);
     let pbits = p_bits_at(m, row, ends, step);
     let indices = indices_at(m, row, pbits);
-    Frame {
+    Bc7Frame {
         mode: m,
         row,
         plan,
@@ -88,7 +88,7 @@ pub fn frame_of(b: PhysicalBlock, m: u8) -> Frame
 }
 
 // Rotation and index selection lie before the endpoints.
-fn rotation(b: PhysicalBlock, f: Frame) -> u8
+fn rotation(b: PhysicalBlock, f: Bc7Frame) -> u8
     requires { ⌜ Framed (blockNumber b) f ⌝ }
     ensures { λ r. ⌜ (r ≡ fieldAt (blockNumber b) 2) × (r < 4) ⌝ }
 {
@@ -100,7 +100,7 @@ fn rotation(b: PhysicalBlock, f: Frame) -> u8
     )
 }
 
-pub fn selection(b: PhysicalBlock, f: Frame) -> u8
+pub fn selection(b: PhysicalBlock, f: Bc7Frame) -> u8
     requires { ⌜ Framed (blockNumber b) f ⌝ }
     ensures { λ r. ⌜ r ≡ fieldAt (blockNumber b) 3 ⌝ }
 {
@@ -130,7 +130,7 @@ fn as_byte(w: u32, v: u32) -> u32
 }
 
 // Channel c of end x as stored, in its w bits.
-fn stored(b: PhysicalBlock, f: Frame, x: u32, c: u32, w: u32) -> u32
+fn stored(b: PhysicalBlock, f: Bc7Frame, x: u32, c: u32, w: u32) -> u32
     requires { ⌜ Framed (blockNumber b) f × (x < 2 * subsets (modeAt (blockNumber b))) × (c < 4) × (w ≡ channelBits (modeAt (blockNumber b)) c) × (0 < w) ⌝ }
     ensures { λ r. ⌜ (r ≡ storedEnd (modeAt (blockNumber b)) (fieldAt (blockNumber b)) (x / 2) (x % 2) c) × (r ≤ 255) ⌝ }
 {
@@ -138,7 +138,7 @@ fn stored(b: PhysicalBlock, f: Frame, x: u32, c: u32, w: u32) -> u32
 }
 
 // The P bit of end x, where there are P bits.
-fn p_bit(b: PhysicalBlock, f: Frame, x: u32) -> u32
+fn p_bit(b: PhysicalBlock, f: Bc7Frame, x: u32) -> u32
     requires { ⌜ Framed (blockNumber b) f × (x < 2 * subsets (modeAt (blockNumber b))) × (hasPBit (modeAt (blockNumber b)) (fieldAt (blockNumber b)) ≡ true) ⌝ }
     ensures { λ r. ⌜ (r ≡ pBitOf (modeAt (blockNumber b)) (fieldAt (blockNumber b)) (x / 2) (x % 2)) × (r ≤ 1) ⌝ }
 {
@@ -156,7 +156,7 @@ fn has_p_bit(row: Mode) -> bool
 }
 
 // Channel c of end x with its P bit below, as a byte.
-fn widened(b: PhysicalBlock, f: Frame, x: u32, c: u32, w: u32) -> u32
+fn widened(b: PhysicalBlock, f: Bc7Frame, x: u32, c: u32, w: u32) -> u32
     requires { ⌜ Framed (blockNumber b) f × (x < 2 * subsets (modeAt (blockNumber b))) × (c < 4) × (w ≡ channelBits (modeAt (blockNumber b)) c) × (0 < w) ⌝ }
     ensures { λ r. ⌜ r ≡ widenedEnd (modeAt (blockNumber b)) (fieldAt (blockNumber b)) w (x / 2) (x % 2) c ⌝ }
 {
@@ -168,7 +168,7 @@ fn widened(b: PhysicalBlock, f: Frame, x: u32, c: u32, w: u32) -> u32
 }
 
 // Colour c of end x.
-fn colour_of(b: PhysicalBlock, f: Frame, x: u32, c: u32) -> u64
+fn colour_of(b: PhysicalBlock, f: Bc7Frame, x: u32, c: u32) -> u64
     requires { ⌜ Framed (blockNumber b) f × (x < 2 * subsets (modeAt (blockNumber b))) × (c < 3) ⌝ }
     ensures { λ r. ⌜ (r ≡ endChannel (modeAt (blockNumber b)) (fieldAt (blockNumber b)) (x / 2) (x % 2) c) × (r ≤ 255) ⌝ }
 {
@@ -177,7 +177,7 @@ fn colour_of(b: PhysicalBlock, f: Frame, x: u32, c: u32) -> u64
 }
 
 // Its alpha, opaque where there is none.
-fn alpha_of(b: PhysicalBlock, f: Frame, x: u32) -> u64
+fn alpha_of(b: PhysicalBlock, f: Bc7Frame, x: u32) -> u64
     requires { ⌜ Framed (blockNumber b) f × (x < 2 * subsets (modeAt (blockNumber b))) ⌝ }
     ensures { λ r. ⌜ (r ≡ endChannel (modeAt (blockNumber b)) (fieldAt (blockNumber b)) (x / 2) (x % 2) 3) × (r ≤ 255) ⌝ }
 {
@@ -232,7 +232,7 @@ fn alpha_lanes(r: u8, a: u64) -> u64
 }
 
 // The colours of end x.
-fn end_colours(b: PhysicalBlock, f: Frame, r: u8, x: u32) -> u64
+fn end_colours(b: PhysicalBlock, f: Bc7Frame, r: u8, x: u32) -> u64
     requires { ⌜ Framed (blockNumber b) f × (x < 2 * subsets (modeAt (blockNumber b))) × (r < 4) ⌝ }
     ensures { λ s. ⌜ (s ≡ byLane (colourLane r (endChannel (modeAt (blockNumber b)) (fieldAt (blockNumber b)) (x / 2) (x % 2)))) × (s ≤ 71777214294589695) ⌝ }
 {
@@ -243,7 +243,7 @@ fn end_colours(b: PhysicalBlock, f: Frame, r: u8, x: u32) -> u64
 }
 
 // The ends of subset j: the colours of both, and the alphas of both.
-fn line_of(b: PhysicalBlock, f: Frame, r: u8, j: usize) -> [u64; 4]
+fn line_of(b: PhysicalBlock, f: Bc7Frame, r: u8, j: usize) -> [u64; 4]
     requires { ⌜ Framed (blockNumber b) f × (j < subsets (modeAt (blockNumber b))) × (r ≡ fieldAt (blockNumber b) 2) × (r < 4) ⌝ }
     ensures { λ q. ⌜ q ≡ subsetLine (modeAt (blockNumber b)) (fieldAt (blockNumber b)) j ⌝ }
 {
@@ -256,7 +256,7 @@ fn line_of(b: PhysicalBlock, f: Frame, r: u8, j: usize) -> [u64; 4]
 }
 
 // The ends of all subsets.
-pub fn lines_of(b: PhysicalBlock, f: Frame) -> [[u64; 4]; 3]
+pub fn lines_of(b: PhysicalBlock, f: Bc7Frame) -> [[u64; 4]; 3]
     requires { ⌜ Framed (blockNumber b) f ⌝ }
     ensures { λ q. ⌜ Filled (subsetLine (modeAt (blockNumber b)) (fieldAt (blockNumber b))) [] q (subsets (modeAt (blockNumber b))) ⌝ }
 {

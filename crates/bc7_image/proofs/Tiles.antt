@@ -16,11 +16,13 @@ use Rattle.image_layout.specs.declared.Run.{Run}
 use Rattle.image_layout.specs.Geometry.{blockIndex}
 use Rattle.image_layout.specs.Numbers.{blockAt}
 use Rattle.picture_regions.specs.Picture.{place}
-use Rattle.picture_regions.proofs.Blocks.{Tile, tile-of}
+use Rattle.picture_regions.proofs.Blocks.{tile-of}
+use Rattle.picture_regions.specs.inner.Regions.{Tile}
 use Rattle.image_layout.specs.inner.Rows.{flatPicture}
 use Rattle.image_layout.proofs.Blocks.{row-in, row-of}
-use Rattle.image_layout.proofs.Calls.{Sound, covered}
-use Rattle.image_layout.proofs.Parts.{Fits, PartOf, RunOf, RunFits, PlacedRows, products}
+use Rattle.image_layout.proofs.Calls.{covered}
+use Rattle.image_layout.specs.inner.Parts.{SoundGrid, PartFits, PartOf, RunOf, RunFits, PlacedRows}
+use Rattle.image_layout.proofs.Parts.{products}
 use Rattle.bc7_block.specs.Picture.{blockTexel}
 use Rattle.bc7_core.specs.Bytes.{texelBytes, shownBytes}
 use Rattle.bc7_image.specs.Image.{bc7NumberAt}
@@ -38,11 +40,11 @@ pub record Four (g : ImageGrid) : Type 0 where
   pub columns : g .columns ≡ 4
   pub rows : g .rows ≡ 4
 
-pub four : (g : ImageGrid) → Sound g → g .footprint ≡ 0 → Four g
+pub four : (g : ImageGrid) → SoundGrid g → g .footprint ≡ 0 → Four g
 four g s z = record { columns = s .columns ∙ ap widthOf z ∙ four-wide; rows = s .rows ∙ ap heightOf z ∙ four-high }
 
 -- a row lies within a block's bytes and within the picture
-pub run-fits-64 : (g : ImageGrid) (p : Part) (dy : ℕ) (r : Run) (m : ℕ) → Sound g → g .footprint ≡ 0 → Fits g p → dy < p .rows → RunOf g p dy r → m ≡ 4 * (g .height * g .width) → RunFits r 64 m
+pub run-fits-64 : (g : ImageGrid) (p : Part) (dy : ℕ) (r : Run) (m : ℕ) → SoundGrid g → g .footprint ≡ 0 → PartFits g p → dy < p .rows → RunOf g p dy r → m ≡ 4 * (g .height * g .width) → RunFits r 64 m
 run-fits-64 g p dy r m s z f h o e =
     let q = products g p dy s f h in
     let k = four g s z in
@@ -72,7 +74,7 @@ module _ (w nx bx by : ℕ) (s : List ℕ) (en : nx ≡ blocksAcross w 4) where
       getD-tab (λ n. blockTexel B (n / 4) (n % 4)) 64 (4 * (dy * 4 + dx) + c) 0 (omega arith)
       ∙ same-texel (ap (blockAt s) (index-back w nx bx by dx dy en hx hy)) (omega arith) (omega arith)
 
-module _ (g : ImageGrid) (sound : Sound g) (z : g .footprint ≡ 0) (s : List ℕ) where
+module _ (g : ImageGrid) (sound : SoundGrid g) (z : g .footprint ≡ 0) (s : List ℕ) where
   pub tile-bc7 : (b : ℕ) (p : Part) (B : ℕ) (buf old new : List ℕ) → PartOf g b p → B ≡ blockAt s b → buf ≡ shownBytes B
       → PlacedRows (λ n. n) g p (p .rows) buf old new → Tile (flatPicture g) b (bc7NumberAt (g .width) s) old new
   tile-bc7 b p B buf old new o e held pl =

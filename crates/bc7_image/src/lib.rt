@@ -12,10 +12,8 @@ ghost use Rattle.laws.specs.Table.{tab};
 ghost use Rattle.image_layout.specs.Faulty.{tallyOf};
 ghost use Rattle.image_layout.specs.Call.{checkedOf, toldOf};
 ghost use Rattle.image_layout.specs.inner.Rows.{flatPicture};
-ghost use Rattle.picture_regions.proofs.Regions.{Pasted};
-ghost use Rattle.picture_regions.proofs.Blocks.{Tile};
-ghost use Rattle.image_layout.proofs.Calls.{Sound};
-ghost use Rattle.image_layout.proofs.Parts.{Fits, RunFits, PlacedRows};
+ghost use Rattle.picture_regions.specs.inner.Regions.{Pasted, Tile};
+ghost use Rattle.image_layout.specs.inner.Parts.{SoundGrid, PartFits, RunFits, PlacedRows};
 ghost use Rattle.bc7_image.specs.Image.{bc7FaultAt, bc7NumberAt, bc7Numbers, bc7Answer, bc7Told, bc7Out};
 
 // Room for a block's bytes.
@@ -78,8 +76,8 @@ fn copy_run(src: &[u8; 64], r: Run, out: &mut [u8])
 
 // Copies a block's rows to its part of the picture.
 fn place(buf: &[u8; 64], g: ImageGrid, p: Part, out: &mut [u8])
-    requires { ⌜ Sound g ⌝ }
-    requires { ⌜ Fits g p ⌝ }
+    requires { ⌜ SoundGrid g ⌝ }
+    requires { ⌜ PartFits g p ⌝ }
     requires { ⌜ length (now out) ≡ 4 * (g .height * g .width) ⌝ }
     requires { ⌜ g .footprint ≡ 0 ⌝ }
     ensures { λ _. ⌜ PlacedRows (λ n. n) g p (p .rows) (now (buf .entry)) (now (out .entry)) (now (out .exit)) ⌝ }
@@ -91,7 +89,7 @@ fn place(buf: &[u8; 64], g: ImageGrid, p: Part, out: &mut [u8])
 
 // Shows block b, and answers its fault.
 fn show(g: ImageGrid, b: usize, s: &[u8], buf: &mut [u8; 64], out: &mut [u8]) -> u8
-    requires { ⌜ Sound g ⌝ }
+    requires { ⌜ SoundGrid g ⌝ }
     requires { ⌜ b < g .down * g .across ⌝ }
     requires { ⌜ length (now s) ≡ 16 * (g .down * g .across) ⌝ }
     requires { ⌜ length (now out) ≡ 4 * (g .height * g .width) ⌝ }
@@ -110,7 +108,7 @@ fn show(g: ImageGrid, b: usize, s: &[u8], buf: &mut [u8; 64], out: &mut [u8]) ->
 
 // Shows every block, in raster order, and counts the faults.
 fn decode(g: ImageGrid, s: &[u8], out: &mut [u8]) -> Tally
-    requires { ⌜ Sound g ⌝ }
+    requires { ⌜ SoundGrid g ⌝ }
     requires { ⌜ length (now s) ≡ 16 * (g .down * g .across) ⌝ }
     requires { ⌜ length (now out) ≡ 4 * (g .height * g .width) ⌝ }
     requires { ⌜ g .footprint ≡ 0 ⌝ }

@@ -16,8 +16,8 @@ use Rattle.bc7_block.specs.declared.Bc7Block.{Bc7Block}
 use Rattle.bc7_block.specs.Refusals.{refusalOf}
 use Rattle.bc7_block.specs.Reading.{bc7Block}
 use Rattle.bc7_codec.specs.Numbers.{sheetNumber}
-use Rattle.bc7_calls.specs.declared.Reading.{Reading}
-use Rattle.bc7_calls.specs.declared.Writing.{Writing}
+use Rattle.bc7_calls.specs.declared.Bc7Reading.{Bc7Reading}
+use Rattle.bc7_calls.specs.declared.Bc7Writing.{Bc7Writing}
 use Rattle.bc7_calls.specs.Calls.{readingOf, refusedWith, writingOf}
 use Rattle.bc7_numbers.specs.Calls.{readNumber, readNumbers, sheetFrom, writeNumber, writeBlock}
 
@@ -33,17 +33,17 @@ module _ (s old : List ℕ) where
     unfolding readNumbers
     list-kept = ap (λ (b : Bool). pick b (tab (sheetNumber (readingOf s .block)) 60) old) (sym (ne-eqb (length old) 60 h))
 
-  module _ (h : length old ≡ 60) (r : Reading) (e : r ≡ readingOf s) where
+  module _ (h : length old ≡ 60) (r : Bc7Reading) (e : r ≡ readingOf s) where
     pub read-told : numberTold (r .answer) ≡ readNumber s (length old)
     unfolding readNumber
     read-told =
-        ap (λ (x : Reading). numberTold (x .answer)) e
+        ap (λ (x : Bc7Reading). numberTold (x .answer)) e
         ∙ ap (λ (b : Bool). pick b (numberTold (readingOf s .answer)) (pick (eqb (length s) 16) 5 4)) (sym (eq-eqb (length old) 60 h))
 
     pub list-read : tab (sheetNumber (r .block)) 60 ≡ readNumbers s old
     unfolding readNumbers
     list-read =
-        ap (λ (x : Reading). tab (sheetNumber (x .block)) 60) e
+        ap (λ (x : Bc7Reading). tab (sheetNumber (x .block)) 60) e
         ∙ ap (λ (b : Bool). pick b (tab (sheetNumber (readingOf s .block)) 60) old) (sym (eq-eqb (length old) 60 h))
 
 -- ---- the writer
@@ -69,7 +69,7 @@ module _ (numbers old : List ℕ) where
     unfolding writeBlock
     kept-5 h = ap (λ (b : Bool). pick b (writingOf (sheetFrom numbers) .bytes) old) (sym (both-tests false (ne-eqb (length numbers) 60 h)))
 
-    module _ (h : length numbers ≡ 60) (f : List ℕ) (ef : f ≡ numbers) (s : Bc7Block) (es : s ≡ bc7Block (getD f 0 0) (λ k. getD f k 0)) (w : Writing) (ew : w ≡ writingOf s) where
+    module _ (h : length numbers ≡ 60) (f : List ℕ) (ef : f ≡ numbers) (s : Bc7Block) (es : s ≡ bc7Block (getD f 0 0) (λ k. getD f k 0)) (w : Bc7Writing) (ew : w ≡ writingOf s) where
       sheet : s ≡ sheetFrom numbers
       unfolding sheetFrom
       sheet = es ∙ ap (λ (l : List ℕ). bc7Block (getD l 0 0) (λ k. getD l k 0)) ef
@@ -77,11 +77,11 @@ module _ (numbers old : List ℕ) where
       pub write-told : numberTold (w .answer) ≡ writeNumber numbers (length old)
       unfolding writeNumber
       write-told =
-          ap (λ (x : Writing). numberTold (x .answer)) (ew ∙ ap writingOf sheet)
+          ap (λ (x : Bc7Writing). numberTold (x .answer)) (ew ∙ ap writingOf sheet)
           ∙ rw (eq-eqb (length old) 16 e, eq-eqb (length numbers) 60 h)
 
       pub block-written : w .bytes ≡ writeBlock numbers old
       unfolding writeBlock
       block-written =
-          ap (λ (x : Writing). x .bytes) (ew ∙ ap writingOf sheet)
+          ap (λ (x : Bc7Writing). x .bytes) (ew ∙ ap writingOf sheet)
           ∙ ap (λ (b : Bool). pick b (writingOf (sheetFrom numbers) .bytes) old) (sym (both-tests true (eq-eqb (length numbers) 60 h)))

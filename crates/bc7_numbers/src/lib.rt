@@ -2,7 +2,7 @@
 use bc7_block::Bc7Block;
 ghost use mathlib.Core.Path.{_≡_};
 ghost use lib.Dec.{eqb};
-ghost use lib.ListN.{length, getD};
+ghost use lib.ListN.{length};
 ghost use Rattle.laws.specs.Choice.{pick};
 ghost use Rattle.laws.specs.Table.{tab};
 ghost use Rattle.bc7_codec.specs.Numbers.{sheetNumber};

@@ -11,12 +11,12 @@ use lib.ListN.{length, getD}
 use borrow.Author.Tests.{eqb-true, eq-eqb, ne-eqb}
 use Rattle.laws.specs.Choice.{pick}
 use Rattle.laws.specs.Reasons.{reasonAt}
-use Rattle.laws.specs.Table.{tab}
+use Rattle.laws.specs.Table.{tab, Bytes}
 use Rattle.laws.proofs.Filling.{tab-ext, tab-all}
 use Rattle.bits.specs.Field.{field}
 use Rattle.bits.specs.Block.{numberOf, bytesOf}
 use Rattle.bits.proofs.Fields.{field-lt}
-use Rattle.bits.proofs.Blocks.{Bytes, bytes-length, number-bytes, bytes-number, number-lt}
+use Rattle.bits.proofs.Blocks.{bytes-length, number-bytes, bytes-number, number-lt}
 use Rattle.block_answer.specs.declared.Answer.{Answer}
 use Rattle.block_answer.specs.declared.Answer.the-variants.{Refused, Done}
 use Rattle.block_answer.specs.Told.{answerFor, numberTold}
@@ -29,8 +29,8 @@ use Rattle.bc7_block.specs.Picture.{pictureOf, blockTexel}
 use Rattle.bc7_block.specs.Demand.{Demand3}
 use Rattle.bc7_block.proofs.Demand.{demand-3}
 use Rattle.bc7_core.specs.Bytes.{texelBytes, shownBytes}
-use Rattle.bc7_calls.specs.declared.Reading.{Reading}
-use Rattle.bc7_calls.specs.declared.Writing.{Writing}
+use Rattle.bc7_calls.specs.declared.Bc7Reading.{Bc7Reading}
+use Rattle.bc7_calls.specs.declared.Bc7Writing.{Bc7Writing}
 use Rattle.bc7_calls.specs.Calls.{decodeRefusal, decodeAnswer, decodeOut, nothing, readingIn, readingOf, refusedWith, writingOf}
 use Rattle.bc7_calls.proofs.Laws.{in-sound, none-wrong}
 use Rattle.bc7_round_trip.specs.declared.RoundTrip.{RoundTrip}
@@ -59,7 +59,7 @@ module _ (s : Bc7Block) where
     go false e = refl
 
   accepted-answer : Acceptable s → writingOf s .answer ≡ Done
-  accepted-answer a = ap (λ (w : Writing). w .answer) (is-written a)
+  accepted-answer a = ap (λ (w : Bc7Writing). w .answer) (is-written a)
 
   answer-accepted : writingOf s .answer ≡ Done → Acceptable s
   answer-accepted e = sym told ∙ ap numberTold e
@@ -70,11 +70,11 @@ module _ (s : Bc7Block) where
 
   refused-answer : (n : ℕ) → refusalOf s ≡ n → (n ≡ 0 → ⊥) → writingOf s .answer ≡ Refused n
   unfolding refusedWith
-  refused-answer n e h = ap (λ (w : Writing). w .answer) (is-refused n e h)
+  refused-answer n e h = ap (λ (w : Bc7Writing). w .answer) (is-refused n e h)
 
   refused-bytes : (n : ℕ) → refusalOf s ≡ n → (n ≡ 0 → ⊥) → writingOf s .bytes ≡ tab (λ k. 0) 16
   unfolding refusedWith
-  refused-bytes n e h = ap (λ (w : Writing). w .bytes) (is-refused n e h)
+  refused-bytes n e h = ap (λ (w : Bc7Writing). w .bytes) (is-refused n e h)
 
 -- ---- a block without fault
 
@@ -105,7 +105,7 @@ bytes-small v = tab-all (λ (n : ℕ). n < 256) (λ i. field v (8 * i) 8) 0 (λ 
 
 module _ (s : Bc7Block) (z : Sized s) (a : Acceptable s) where
   bytes-are : writingOf s .bytes ≡ bytesOf 16 (blockOf s)
-  bytes-are = ap (λ (w : Writing). w .bytes) (is-written s a)
+  bytes-are = ap (λ (w : Bc7Writing). w .bytes) (is-written s a)
 
   number : numberOf (writingOf s .bytes) ≡ blockOf s
   number = ap numberOf bytes-are ∙ number-bytes 16 (blockOf s) ∙ mod-eq-of-lt (demand-3 .written-fits s z a)
@@ -143,8 +143,8 @@ module _ (s : Bc7Block) (z : Sized s) (old out : List ℕ) where
       written = accepted-answer s a;
       sixteen = sound s z a .sixteen;
       no-fault = sound s z a .no-fault;
-      read = ap (λ (r : Reading). r .answer) (back s z a);
-      same = ap (λ (r : Reading). r .block) (back s z a);
+      read = ap (λ (r : Bc7Reading). r .answer) (back s z a);
+      same = ap (λ (r : Bc7Reading). r .block) (back s z a);
       shown = λ size. sound-answer _ (sound s z a) old size;
       picture = λ size. e ∙ picture s z a old size;
     };
@@ -155,23 +155,23 @@ module _ (s : Bc7Block) (z : Sized s) (old out : List ℕ) where
   demanded r e = subst (λ (q : RoundTrip). out ≡ decodeOut (q .writing .bytes) old → Demanded s old q out) (sym e) definitions-kept
 
 -- the answers one by one are those of the definition
-abbrev answers : Writing → Reading → Answer → RoundTrip
+abbrev answers : Bc7Writing → Bc7Reading → Answer → RoundTrip
 answers w r a = record { writing = w; reading = r; shown = a }
 
-pub together : (s : Bc7Block) (places : ℕ) (w : Writing) (r : Reading) (a : Answer) → w ≡ writingOf s → r ≡ readingOf (w .bytes)
+pub together : (s : Bc7Block) (places : ℕ) (w : Bc7Writing) (r : Bc7Reading) (a : Answer) → w ≡ writingOf s → r ≡ readingOf (w .bytes)
     → a ≡ decodeAnswer (w .bytes) places → answers w r a ≡ roundTripOf s places
 unfolding roundTripOf
 together s places w r a e f g =
-    ap (λ (x : Reading). answers w x a) f ∙ ap (answers w (readingOf (w .bytes))) g
-    ∙ ap (λ (x : Writing). answers x (readingOf (x .bytes)) (decodeAnswer (x .bytes) places)) e
+    ap (λ (x : Bc7Reading). answers w x a) f ∙ ap (answers w (readingOf (w .bytes))) g
+    ∙ ap (λ (x : Bc7Writing). answers x (readingOf (x .bytes)) (decodeAnswer (x .bytes) places)) e
 
 -- ---- a block read and written anew
 
-pub both-answers : (block : List ℕ) (r : Reading) (w : Writing) → r ≡ readingOf block → w ≡ writingOf (r .block)
+pub both-answers : (block : List ℕ) (r : Bc7Reading) (w : Bc7Writing) → r ≡ readingOf block → w ≡ writingOf (r .block)
     → _≡_ {A = Rewriting} (record { reading = r; writing = w }) (rewritingOf block)
 unfolding rewritingOf
 both-answers block r w e f =
-    ap (λ (x : Writing). record { reading = r; writing = x }) f ∙ ap (λ (x : Reading). record { reading = x; writing = writingOf (x .block) }) e
+    ap (λ (x : Bc7Writing). record { reading = r; writing = x }) f ∙ ap (λ (x : Bc7Reading). record { reading = x; writing = writingOf (x .block) }) e
 
 module _ (block : List ℕ) (h : Sound block) where
   b : Bytes block
@@ -199,4 +199,4 @@ module _ (block : List ℕ) (h : Sound block) where
   pub rewritten : (r : Rewriting) → r ≡ rewritingOf block → Rewritten block r
   unfolding rewritingOf
   rewritten r e =
-      subst (Rewritten block) (sym (e ∙ ap (λ (x : Reading). record { reading = x; writing = writingOf (x .block) }) (sound-read block h))) with-sheet
+      subst (Rewritten block) (sym (e ∙ ap (λ (x : Bc7Reading). record { reading = x; writing = writingOf (x .block) }) (sound-read block h))) with-sheet

@@ -1,7 +1,7 @@
 // A BC7 sheet written, read back and shown, and a block read and written anew: demand 3 of what the calls return.
 use bc7_block::Bc7Block;
-use bc7_calls::Reading;
-use bc7_calls::Writing;
+use bc7_calls::Bc7Reading;
+use bc7_calls::Bc7Writing;
 use block_answer::Answer;
 ghost use mathlib.Core.Path.{_≡_};
 ghost use lib.ListN.{length};
@@ -10,8 +10,8 @@ ghost use Rattle.bc7_round_trip.specs.Demand.{roundTripOf, Demanded, rew
 
 // What the writer, the reader and the one-block call answered.
 pub struct RoundTrip {
-    pub writing: Writing,
-    pub reading: Reading,
+    pub writing: Bc7Writing,
+    pub reading: Bc7Reading,
     pub shown: Answer,
 }
 
@@ -33,8 +33,8 @@ pub fn round_trip(s: Bc7Block, out: &mut [u8]) -> RoundTrip
 
 // What the reader and the writer answered.
 pub struct Rewriting {
-    pub reading: Reading,
-    pub writing: Writing,
+    pub reading: Bc7Reading,
+    pub writing: Bc7Writing,
 }
 
 pub fn rewrite(block: &[u8]) -> Rewriting

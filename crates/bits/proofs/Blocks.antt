@@ -9,7 +9,7 @@ use lib.Arith.{digits-lt}
 use lib.Pow.{pow-pos, pow-add, pow-mono, high, low, mod-pow-add, shr-shr, shr-lt, shr-le, shl-shr}
 use lib.ListN.{length, getD}
 use lib.Seq.{ext-getD}
-use Rattle.laws.specs.Table.{tab}
+use Rattle.laws.specs.Table.{tab, Bytes}
 use Rattle.laws.proofs.Filling.{length-tab, getD-tab}
 use Rattle.bits.specs.Field.{field, stream}
 use Rattle.bits.specs.Block.{numberOf, bytesOf, blockNumber}
@@ -18,10 +18,6 @@ use Rattle.bits.proofs.Fields.{field-lt, field-past, field-cut, field-b
 
 next-byte : (i : ℕ) → 8 * suc i ≡ 8 + 8 * i
 next-byte i = omega arith
-
--- every element is a byte
-abbrev pub Bytes : List ℕ → Type 0
-Bytes s = (i : ℕ) → getD s i 0 < 2 ^ 8
 
 pub number-lt : (s : List ℕ) → Bytes s → numberOf s < 2 ^ (8 * length s)
 unfolding numberOf

@@ -13,7 +13,8 @@ use lib.ListN.{length}
 use Rattle.bits.specs.Block.{blockNumber, numberOf}
 use Rattle.bits.specs.declared.PhysicalBlock.{PhysicalBlock}
 use Rattle.bits.proofs.Fields.{field-lt, field-past, field-in, field-above, field-below}
-use Rattle.bits.proofs.Blocks.{Bytes, number-lt, spliced, block-lt}
+use Rattle.bits.proofs.Blocks.{number-lt, spliced, block-lt}
+use Rattle.laws.specs.Table.{Bytes}
 
 pub one-shl : (w : ℕ) → w < 64 → 1 * 2 ^ w % 2 ^ 64 ≡ 2 ^ w
 one-shl w h = rw one-mul (mod-eq-of-lt (pow-lt {j = 64} h))

@@ -11,7 +11,7 @@ use lib.ListN.{length, getD}
 use Rattle.laws.specs.Table.{putFour}
 use Rattle.laws.proofs.Filling.{Replacing, replacing-start, replacing-four, replacing-done, replaced-ext}
 use Rattle.interpolation.specs.declared.Texel.{Texel}
-use Rattle.block_buffer.specs.Painted.{fourOf, texelNumber, painted}
+use Rattle.block_buffer.specs.inner.Painted.{fourOf, texelNumber, painted}
 
 -- the buffer `old` with the first n numbers of texels given by their place: the invariant of painting
 abbrev pub Laid : ℕ → (ℕ → ℕ → Texel) → List ℕ → List ℕ → ℕ → Type 0

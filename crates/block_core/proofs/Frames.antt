@@ -17,7 +17,7 @@ use Rattle.block_mode.specs.declared.WeightGrid.{WeightGrid}
 use Rattle.block_mode.specs.Back2D.{Limits}
 use Rattle.block_header.specs.Counts.{weightCount}
 use Rattle.block_levels.proofs.Levels.{points-le}
-use Rattle.volume_paint.specs.Volume.{InVolume}
+use Rattle.volume_paint.specs.inner.Volume.{InVolume}
 use Rattle.block_core.specs.inner.Prepared.{frameOf, volumeFrameOf, Inside}
 
 -- a block's texels, layer by layer

@@ -20,7 +20,7 @@ use Rattle.partition.proofs.Rows.{which-told}
 use Rattle.footprint.specs.Footprint.{widthOf, heightOf, isVolume}
 use Rattle.weight_grid.specs.Place.{gridPlace}
 use Rattle.encoding.specs.declared.LevelPair.{LevelPair}
-use Rattle.encoding.specs.Levels.{firstLevel, secondLevel}
+use Rattle.encoding.specs.inner.Levels.{firstLevel, secondLevel}
 use Rattle.weight_grid.specs.Bilinear.{w00, w01, w10, w11, blendOf}
 use Rattle.weight_grid.specs.inner.Points.{neighbourStep, noPoint, readOf}
 use Rattle.weight_grid.specs.inner.Columns.{columnOf}
@@ -31,7 +31,7 @@ use Rattle.weight_grid.proofs.Reading.{read-lt}
 use Rattle.interpolation.specs.declared.Texel.{Texel}
 use Rattle.interpolation.specs.declared.Kind.{Kind}
 use Rattle.half_line.specs.inner.Line.{texelOn}
-use Rattle.block_core.specs.declared.Frame.{Frame}
+use Rattle.block_core.specs.declared.FlatFrame.{FlatFrame}
 use Rattle.block_core.specs.inner.Prepared.{frameOf, texelOnGrid, preparedTexel, pointTexel}
 use Rattle.block_buffer.proofs.Painting.{one-of}
 use Rattle.block_core.proofs.Frames.{on-column, on-row}
@@ -42,7 +42,7 @@ pub reach : (g : WeightGrid) (gs gt : ℕ) → Limits g → weightCount g ≤ 64
 reach g gs gt l n hs ht =
     omega (arith, layer-le g l n, read-lt (g .width) (g .height) gs gt (omega (arith, l .width-low)) (omega (arith, l .height-low)) hs ht)
 
-module _ (g : WeightGrid) (f : Frame) (x : ℕ) {gt upper lower : ℕ} (col : Column) (ec : col ≡ columnOf (f .across) (g .width) x) (eu : upper ≡ gt / 16 * g .width) (eo : lower ≡ upper + neighbourStep gt (g .height) (g .width)) where
+module _ (g : WeightGrid) (f : FlatFrame) (x : ℕ) {gt upper lower : ℕ} (col : Column) (ec : col ≡ columnOf (f .across) (g .width) x) (eu : upper ≡ gt / 16 * g .width) (eo : lower ≡ upper + neighbourStep gt (g .height) (g .width)) where
   -- by a column: the last point that is read, and where the others stand before it
   pub reach-column : Limits g → weightCount g ≤ 64 → gridPlace (f .across) x (g .width) ≤ 16 * (g .width - 1) → gt ≤ 16 * (g .height - 1)
       → (lower + col .next < 64) × (col .at ≤ col .next) × (upper ≤ lower)

@@ -10,7 +10,7 @@ use lib.Dec.{eqb, ltb}
 use lib.ListN.{length, getD}
 use borrow.Author.Tests.{eq-eqb, ne-eqb, eqb-true, ltb-false}
 use Rattle.laws.specs.Choice.{pick}
-use Rattle.laws.specs.Table.{tab, padded, replaced}
+use Rattle.laws.specs.Table.{tab, padded, replaced, byRows}
 use Rattle.laws.proofs.Filling.{length-tab, getD-tab, tab-all, replaced-here, replaced-ext}
 use Rattle.encoding.specs.declared.Level.{Level}
 use Rattle.quantization.specs.Unquantise.{unquantEndpoint, unquantWeight}
@@ -21,16 +21,16 @@ use Rattle.weight_grid.specs.Place.{scaleOf, gridPlace}
 use Rattle.weight_grid.specs.Cell as cell
 use Rattle.weight_grid.specs.Cell.{level}
 use Rattle.encoding.specs.declared.LevelPair.{LevelPair}
-use Rattle.encoding.specs.Levels.{firstLevel, secondLevel, levelPair}
-use Rattle.encoding.specs.Levels as pairs
+use Rattle.encoding.specs.inner.Levels.{firstLevel, secondLevel, levelPair}
+use Rattle.encoding.specs.inner.Levels as pairs
 use Rattle.weight_grid.specs.Bilinear.{infillOf}
 use Rattle.weight_grid.specs.inner.Points.{noPoint, readOf, pointOf, pointsOf}
 use Rattle.weight_grid.proofs.Reading.{first-read, second-read, first-le, second-most}
 use Rattle.volume_infill.specs.Simplex.{volumeInfill}
-use Rattle.volume_infill.specs.inner.Way.{WithinGrid}
+use Rattle.volume_infill.specs.inner.Way.{WithinGrid, ByteLevels}
 use Rattle.volume_infill.proofs.Reading.{first-volume, second-volume, first-volume-le, second-volume-le}
 use Rattle.volume_paint.specs.declared.VolumeFrame.{VolumeFrame}
-use Rattle.volume_paint.specs.Volume.{byRows, volumeTexelAt, volumeTexel}
+use Rattle.volume_paint.specs.inner.Volume.{volumeTexelAt, volumeTexel}
 use Rattle.volume_paint.proofs.Painting.{on-grid}
 use Rattle.block_mode.specs.Back2D.{Limits}
 use Rattle.partition.specs.declared.Seeds.{Seeds}
@@ -70,9 +70,9 @@ use Rattle.block_fault.proofs.Stages.{settled-reserved}
 use Rattle.block_fault.proofs.Verdicts.{settings-verdict, told-fault, coded-limits}
 use Rattle.texel.specs.Meaning.{endpointLevels, weightLevels, planeWeight, secondWeight, secondComponent, partitionTexel, mixedTexel, texelFrom, solidTexel, errorTexel, channel}
 use Rattle.texel.specs.BlockTexel.{soundTexel, blockTexel, inRow, blockChannel, blockInto}
-use Rattle.block_core.specs.declared.Frame.{Frame}
-use Rattle.block_core.specs.inner.Prepared.{frameOf, volumeFrameOf, texelOnGrid, preparedTexel, ByteLevels}
-use Rattle.block_buffer.specs.Painted.{texelNumber, painted}
+use Rattle.block_core.specs.declared.FlatFrame.{FlatFrame}
+use Rattle.block_core.specs.inner.Prepared.{frameOf, volumeFrameOf, texelOnGrid, preparedTexel}
+use Rattle.block_buffer.specs.inner.Painted.{texelNumber, painted}
 use Rattle.block_buffer.proofs.Painting.{painted-ext, one-of}
 use Rattle.block_core.specs.inner.Held.{Held}
 use Rattle.block_core.proofs.Frames.{texels-by-layers, inside, in-volume}
@@ -298,7 +298,7 @@ module _ (fp : ℕ) (kind : Kind) (B : ℕ) (h : BlockHeader) (old : List ℕ) {
     (el : points ≡ pointsOf (weightLevels (h .grid .range) (weightAt B h)) (h .grid .planes) (h .grid .width * h .grid .height * h .grid .depth))
     (et : lines ≡ linesIn kind h (endpointLevels (endpointRangeOf h) (endpointAt B h)))
     (em : small ≡ isSmall fp) (ec : component ≡ pick (eqb (h .grid .planes) 2) (h .component) 4) where
-  pub flat-told : isVolume fp ≡ false → h .grid .depth ≡ 1 → {seeds : Seeds} {f : Frame} → seeds ≡ seedsOf (h .index) (h .partitions) small → f ≡ frameOf fp
+  pub flat-told : isVolume fp ≡ false → h .grid .depth ≡ 1 → {seeds : Seeds} {f : FlatFrame} → seeds ≡ seedsOf (h .index) (h .partitions) small → f ≡ frameOf fp
       → l ≡ painted (f .width) (preparedTexel kind (h .grid) component points lines seeds (h .partitions) f) (f .height * f .width) old
       → l ≡ painted (widthOf fp) (inRow fp (texelFrom fp kind h (endpointAt B h) (weightAt B h))) (texelsOf fp) old
   unfolding texelFrom secondComponent frameOf
@@ -306,7 +306,7 @@ module _ (fp : ℕ) (kind : Kind) (B : ℕ) (h : BlockHeader) (old : List ℕ) {
       let d = one-deep fp flat in
       let count : heightOf fp * widthOf fp ≡ texelsOf fp = sym (texels-by-layers fp ∙ ap (λ (k : ℕ). k * heightOf fp * widthOf fp) d ∙ ap (λ (k : ℕ). k * widthOf fp) (one-mul (heightOf fp))) in
       w
-      ∙ ap (λ (k : Frame). painted (k .width) (preparedTexel kind (h .grid) component points lines seeds (h .partitions) k) (k .height * k .width) old) ef
+      ∙ ap (λ (k : FlatFrame). painted (k .width) (preparedTexel kind (h .grid) component points lines seeds (h .partitions) k) (k .height * k .width) old) ef
       ∙ ap (λ (k : ℕ). painted (widthOf fp) (preparedTexel kind (h .grid) component points lines seeds (h .partitions) (frameOf fp)) k old) count
       ∙ painted-as fp _ _ old (λ x q hx hq.
       let hy : q < heightOf fp = subst (λ (k : ℕ). q < k) (ap (λ (k : ℕ). heightOf fp * k) d ∙ mul-one (heightOf fp)) hq in

@@ -25,25 +25,26 @@ ghost use Rattle.texel.specs.Meaning.{errorTexel, texelFrom};
 ghost use Rattle.texel.specs.BlockTexel.{inRow, blockInto};
 ghost use Rattle.block_fault.specs.Bits.{endpointAt, weightAt};
 ghost use Rattle.block_fault.specs.Faults.{faultOf};
-ghost use Rattle.block_buffer.specs.Painted.{painted};
+ghost use Rattle.block_buffer.specs.inner.Painted.{painted};
 ghost use mathlib.Core.List.{List};
 ghost use Rattle.block_core.specs.inner.Shows.{Shows};
-ghost use Rattle.block_core.specs.inner.Prepared.{frameOf, volumeFrameOf, preparedTexel, pointTexel, Inside, ByteLevels, halves};
+ghost use Rattle.block_core.specs.inner.Prepared.{frameOf, volumeFrameOf, preparedTexel, pointTexel, Inside, halves};
+ghost use Rattle.volume_infill.specs.inner.Way.{ByteLevels};
 
 // A footprint's sides and the scale factors of a weight grid along them, once for each block.
-struct Frame {
+struct FlatFrame {
     width: u8,
     height: u8,
     across: u16,
     down: u16,
 }
 
-fn frame_of(fp: u8) -> Frame
+fn frame_of(fp: u8) -> FlatFrame
     ensures { λ r. ⌜ r ≡ frameOf fp ⌝ }
 {
     let width = footprint::width(fp);
     let height = footprint::height(fp);
-    Frame {
+    FlatFrame {
         width,
         height,
         across: weight_grid::scale(width),
@@ -98,7 +99,7 @@ fn paint(
     lines: &[[u16; 10]; 4],
     seeds: Seeds,
     partitions: u8,
-    f: Frame,
+    f: FlatFrame,
     out: &mut [u16; 864],
 )
     requires { ⌜ Inside g f ⌝ }
@@ -133,7 +134,7 @@ fn paint(
 }
 
 // Whether a block has one partition and its grid a point for each texel.
-fn on_points(g: WeightGrid, f: Frame, partitions: u8) -> bool
+fn on_points(g: WeightGrid, f: FlatFrame, partitions: u8) -> bool
     ensures { λ r. ⌜ r ≡ both (eqb partitions 1) (both (eqb (g .width) (f .width)) (eqb (g .height) (f .height))) ⌝ }
 {
     if partitions != 1 {

@@ -14,11 +14,11 @@ use Rattle.block_mode.specs.declared.BlockMode.the-variants.{VoidExtent, Reserv
 use Rattle.block_header.specs.declared.BlockHeader.{BlockHeader}
 use Rattle.quantization.specs.Ranges.{endpointRange}
 use Rattle.block_header.specs.Counts.{endpointCount, bitsLeft, endpointRangeOf}
-use Rattle.block_header.specs.Reasons.{gridTooLarge, tooManyWeights, weightBitsOutside, fourWithTwoPlanes, tooManyEndpoints, tooFewEndpointBits, someHdr, gridFault, endpointFault, gridReasons, endpointReasons}
+use Rattle.block_header.specs.Reasons.{gridTooLarge, tooManyWeights, weightBitsOutside, fourWithTwoPlanes, tooManyEndpoints, tooFewEndpointBits, someHdr, gridReasons, endpointReasons}
+use Rattle.block_header.specs.inner.Stages.{gridFault, endpointFault, stageOf}
 use Rattle.laws.specs.Reasons.{Reason, when, firstOf}
 use Rattle.block_header.specs.declared.Stage.{Stage}
 use Rattle.block_header.specs.declared.Stage.the-variants.{Passed, Stopped}
-use Rattle.block_header.specs.Stages.{stageOf}
 use Rattle.block_header.proofs.Stages.{stage-passed, stage-stopped}
 use Rattle.block_fault.specs.declared.Verdict.{Verdict}
 use Rattle.block_fault.specs.declared.Verdict.the-variants as verdict
@@ -26,7 +26,7 @@ use Rattle.block_fault.specs.declared.Settings.{Settings}
 use Rattle.block_fault.specs.Bits.{modeAt, isVoid, isReserved, gridIn, partitionsAt, selectorAt, headerWith, headerAt}
 use Rattle.block_fault.specs.Faults.{voidReasons, modeReasons, faultOf}
 use Rattle.block_fault.proofs.Laws.{made-grid}
-use Rattle.block_fault.specs.Settings.{verdictOf, bareOf, withHeader, settingsOf}
+use Rattle.block_fault.specs.inner.Settings.{verdictOf, bareOf, withHeader, settingsOf}
 use Rattle.block_fault.specs.inner.Stages.{verdictFrom, voidSettings}
 
 -- ---- what the settings of a coded block carry

@@ -22,7 +22,7 @@ use Rattle.block_fault.specs.declared.Verdict.{Verdict}
 use Rattle.block_fault.specs.declared.Verdict.the-variants as verdict
 use Rattle.block_fault.specs.Bits.{modeAt, isVoid, isReserved, gridIn, headerWith, headerAt}
 use Rattle.block_fault.specs.Faults.{modeReasons, faultOf}
-use Rattle.block_fault.specs.Settings.{verdictOf, withHeader, settingsOf}
+use Rattle.block_fault.specs.inner.Settings.{verdictOf, withHeader, settingsOf}
 
 header-verdict : (v : Verdict) (h : BlockHeader) → withHeader v h .verdict ≡ v
 header-verdict verdict.Coded h = refl

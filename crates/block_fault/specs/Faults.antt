@@ -4,7 +4,7 @@ use Prim.Native.Nat.{ℕ}
 use mathlib.Core.Bool.{Bool, not}
 use mathlib.Core.List.{List, [], _∷_}
 use Rattle.laws.specs.Choice.{pick, both}
-use Rattle.block_header.specs.Reasons.{someHdr, gridReasons, endpointReasons}
+use Rattle.block_header.specs.Reasons.{gridReasons, endpointReasons}
 use Rattle.laws.specs.Reasons.{Reason, when, firstOf}
 use Rattle.footprint.specs.Footprint.{isVolume}
 use Rattle.void_extent.specs.Layout.{badVoidExtent, hdrVoidExtent}
@@ -22,7 +22,3 @@ modeReasons hdr fp B = when (isReserved (modeAt fp B)) 11 ∷ gridReasons fp (he
 unfoldable pub faultOf : Bool → ℕ → ℕ → ℕ
 unfolding modeAt voidReasons modeReasons
 faultOf hdr fp B = pick (isVoid (modeAt fp B)) (firstOf (voidReasons hdr fp B)) (firstOf (modeReasons hdr fp B))
-
--- what makes a block HDR: bit 9 of a void extent, or a mode
-unfoldable pub hdrBlock : ℕ → ℕ → Bool
-hdrBlock fp B = pick (isVoid (modeAt fp B)) (hdrVoidExtent B) (someHdr (headerAt fp B))

@@ -5,23 +5,21 @@ use block_header::Stage;
 use block_mode::BlockMode;
 use block_mode::WeightGrid;
 ghost use mathlib.Core.Path.{_≡_};
-ghost use Prim.Native.Nat.{_+_, _*_, _^_, _≤_, _<_};
+ghost use Prim.Native.Nat.{_+_, _*_, _≤_, _<_};
 ghost use mathlib.Core.Bool.{not};
 ghost use lib.Dec.{eqb, ltb};
 ghost use Rattle.laws.specs.Choice.{pick, both};
 ghost use Rattle.laws.specs.Table.{padded};
-ghost use Rattle.bits.specs.Field.{field};
 ghost use Rattle.bits.specs.Block.{blockNumber};
 ghost use Rattle.block_header.specs.Counts.{weightBits};
-ghost use Rattle.block_mode.specs.Back2D.{Limits};
 ghost use Rattle.block_mode.specs.declared.BlockMode.the-variants.{Grid};
 ghost use Rattle.laws.specs.Reasons.{firstOf};
 ghost use Rattle.block_fault.specs.Bits.{modeAt, modeOf, headerWith, selectorAt, endpointsFrom};
 ghost use Rattle.block_fault.specs.Faults.{voidReasons};
 ghost use Rattle.footprint.specs.Footprint.{isVolume};
 ghost use Rattle.void_extent.specs.Layout.{hdrVoidExtent};
-ghost use Rattle.block_header.specs.Stages.{stageOf};
-ghost use Rattle.block_fault.specs.Settings.{bareOf, settingsOf};
+ghost use Rattle.block_header.specs.inner.Stages.{stageOf};
+ghost use Rattle.block_fault.specs.inner.Settings.{bareOf, settingsOf};
 ghost use Rattle.block_fault.specs.inner.Stages.{verdictFrom, stageIn, voidSettings};
 
 // What a block is: coded, of one colour (01: solid), or with a fault, 01's number of it.

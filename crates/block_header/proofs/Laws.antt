@@ -20,7 +20,8 @@ use Rattle.block_mode.specs.declared.WeightGrid.{WeightGrid}
 use Rattle.block_header.specs.declared.BlockHeader.{BlockHeader}
 use Rattle.block_header.specs.Counts.{weightCount, weightBits, endpointCount, bitsLeft}
 use Rattle.color_endpoint.specs.Modes.{isHdr}
-use Rattle.block_header.specs.Reasons.{gridTooLarge, tooManyWeights, weightBitsOutside, tooManyEndpoints, tooFewEndpointBits, someHdr, hdrRefused, gridFault, endpointFault}
+use Rattle.block_header.specs.Reasons.{gridTooLarge, tooManyWeights, weightBitsOutside, tooManyEndpoints, tooFewEndpointBits, someHdr, hdrRefused}
+use Rattle.block_header.specs.inner.Stages.{gridFault, endpointFault}
 use Rattle.laws.specs.Reasons.{some}
 
 -- a number takes at most eleven bits

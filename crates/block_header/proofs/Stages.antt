@@ -9,7 +9,7 @@ use borrow.Author.Tests.{eqb-true, eqb-false}
 use Rattle.laws.specs.Choice.{pick}
 use Rattle.block_header.specs.declared.Stage.{Stage}
 use Rattle.block_header.specs.declared.Stage.the-variants.{Passed, Stopped}
-use Rattle.block_header.specs.Stages.{stageOf, stageTold}
+use Rattle.block_header.specs.inner.Stages.{stageOf, stageTold}
 
 pub told-back : (n : ℕ) → stageTold (stageOf n) ≡ n
 unfolding stageOf

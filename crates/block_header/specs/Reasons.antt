@@ -2,11 +2,11 @@
 -- Assumes nothing.
 use Prim.Native.Nat.{ℕ, _+_, _*_, _/_}
 use mathlib.Core.Bool.{Bool, not}
-use mathlib.Core.List.{List, [], _∷_}
+use mathlib.Core.List.{List, _∷_}
 use lib.Dec.{ltb, eqb}
 use lib.ListN.{getD}
 use Rattle.laws.specs.Choice.{both, either}
-use Rattle.laws.specs.Reasons.{Reason, when, firstOf, some}
+use Rattle.laws.specs.Reasons.{Reason, when, some}
 use Rattle.footprint.specs.Footprint.{widthOf, heightOf, depthOf}
 use Rattle.color_endpoint.specs.Modes.{isHdr}
 use Rattle.block_mode.specs.declared.WeightGrid.{WeightGrid}
@@ -44,14 +44,6 @@ someHdr h = some (λ p. isHdr (getD (h .modes) p 0)) (h .partitions)
 -- 20 where HDR is not taken; where it is taken (02, i: "In kind 2 faults 13 and 20 don't exist") there is no such reason
 unfoldable pub hdrRefused : Bool → BlockHeader → Bool
 hdrRefused hdr h = both (not hdr) (someHdr h)
-
--- 14 to 16, which speak of the grid alone
-unfoldable pub gridFault : ℕ → WeightGrid → ℕ
-gridFault fp g = firstOf (when (gridTooLarge fp g) 14 ∷ when (tooManyWeights g) 15 ∷ when (weightBitsOutside g) 16 ∷ [])
-
--- 18 to 20, HDR taken or not
-unfoldable pub endpointFault : Bool → BlockHeader → ℕ
-endpointFault hdr h = firstOf (when (tooManyEndpoints h) 18 ∷ when (tooFewEndpointBits h) 19 ∷ when (hdrRefused hdr h) 20 ∷ [])
 
 -- 14 to 17, in front of others
 abbrev pub gridReasons : ℕ → BlockHeader → List Reason → List Reason

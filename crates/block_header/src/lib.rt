@@ -5,8 +5,8 @@ ghost use Prim.Native.Nat.{_≤_, min};
 ghost use lib.Dec.{eqb};
 ghost use Rattle.laws.specs.Choice.{pick};
 ghost use Rattle.color_endpoint.specs.Table.{numberCount};
-ghost use Rattle.block_header.specs.Reasons.{someHdr, hdrRefused, gridFault, endpointFault};
-ghost use Rattle.block_header.specs.Stages.{stageOf, stageTold};
+ghost use Rattle.block_header.specs.Reasons.{someHdr, hdrRefused};
+ghost use Rattle.block_header.specs.inner.Stages.{gridFault, endpointFault, stageOf, stageTold};
 ghost use Rattle.block_header.specs.Counts.{weightCount, weightBits, componentBits, partitionIndexBits, selectorBits, extraBits, endpointCount, bitsLeft, endpointRangeOf};
 
 // The settings of a block that is no void extent: 01's fields of a mode sheet, without its numbers.

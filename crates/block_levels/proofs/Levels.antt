@@ -17,7 +17,7 @@ use Rattle.laws.proofs.Filling.{getD-tab, tab-ext, padded-none, padded-more, pa
 use Rattle.encoding.specs.declared.Encoding.{Encoding}
 use Rattle.encoding.specs.declared.Level.{Level}
 use Rattle.encoding.specs.declared.LevelPair.{LevelPair}
-use Rattle.encoding.specs.Levels.{levelPair}
+use Rattle.encoding.specs.inner.Levels.{levelPair}
 use Rattle.encoding.specs.declared.Stored.{Stored}
 use Rattle.integer_sequence.specs.Reading.{number, numbers, sequenceAt, stored}
 use Rattle.quantization.specs.Ranges.{encodingAt, bitsAt, mostAt}

@@ -9,11 +9,11 @@ use native.Mathlib.Decide.{decLt, ℕ-discrete}
 use native.Mathlib.Omega.{arith}
 use lib.ListN.{length, getD, List·getD-eq-default}
 use lib.Seq.{ext-getD}
-use Rattle.laws.specs.Table.{tab}
+use Rattle.laws.specs.Table.{tab, Bytes}
 use Rattle.laws.proofs.Filling.{length-tab, getD-tab, tab-ext}
 use Rattle.bits.specs.Field.{field}
 use Rattle.bits.specs.Block.{numberOf, bytesOf}
-use Rattle.bits.proofs.Blocks.{Bytes, number-lt, bytes-number, number-bytes, bytes-length}
+use Rattle.bits.proofs.Blocks.{number-lt, bytes-number, number-bytes, bytes-length}
 use Rattle.footprint.specs.Footprint.{widthOf, heightOf}
 use Rattle.image_size.specs.Sides.{blocksOf}
 use Rattle.interpolation.specs.declared.Kind.{Kind}

@@ -6,13 +6,13 @@ use mathlib.Core.Bool.{true}
 use mathlib.Core.List.{List}
 use Prim.Native.Nat.{ℕ, _<_}
 use lib.ListN.{length}
-use Rattle.bits.proofs.Blocks.{Bytes}
+use Rattle.laws.specs.Table.{Bytes}
 use Rattle.image_size.specs.Sides.{blocksOf}
 use Rattle.interpolation.specs.declared.Kind.{Kind}
 use Rattle.block_fault.specs.Faults.{faultOf}
 use Rattle.block_reading.specs.declared.Reading.the-variants.{Strict}
 use Rattle.image_layout.specs.Numbers.{blockBytes, blockAt, faultAt, faultAtIn, imageNumberAt, imageNumberAtIn}
-use Rattle.canonical_image.specs.Frames.{canonicalBytes, canonicalRefusal, canonicalOut}
+use Rattle.canonical_image.specs.Frames.{canonicalBytes, canonicalRefusal}
 
 -- of blocks s that a call takes
 pub record Agreed (fp w h : ℕ) (s : List ℕ) : Type 0 where

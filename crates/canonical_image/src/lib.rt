@@ -41,7 +41,7 @@ pub fn canonical_block(fp: u8, block: &[u8], out: &mut [u8]) -> Answer
 }
 
 // The refusals of an image, 0 for none.
-pub fn frame_refusal(fp: u8, width: u32, height: u32, bytes: usize, places: usize) -> u8
+pub fn canonical_refusal(fp: u8, width: u32, height: u32, bytes: usize, places: usize) -> u8
     ensures { λ r. ⌜ r ≡ canonicalRefusal fp width height bytes places ⌝ }
 {
     let n = image_size::size_refusal(fp, width, height);
@@ -103,7 +103,7 @@ pub fn canonical_frame(
     ensures { λ r. ⌜ r ≡ canonicalAnswer fp width height (now (blocks .entry)) (length (now (out .entry))) ⌝ }
     ensures { λ r. ⌜ now (out .exit) ≡ canonicalOut fp width height (now (blocks .entry)) (now (out .entry)) ⌝ }
 {
-    let n = frame_refusal(fp, width, height, blocks.len(), out.len());
+    let n = canonical_refusal(fp, width, height, blocks.len(), out.len());
     if n != 0 {
         return ImageAnswer::Refused(n);
     }
@@ -116,7 +116,7 @@ pub fn canonical_in_place(fp: u8, width: u32, height: u32, blocks: &mut [u8]) ->
     ensures { λ r. ⌜ r ≡ canonicalAnswer fp width height (now (blocks .entry)) (length (now (blocks .entry))) ⌝ }
     ensures { λ r. ⌜ now (blocks .exit) ≡ canonicalOut fp width height (now (blocks .entry)) (now (blocks .entry)) ⌝ }
 {
-    let n = frame_refusal(fp, width, height, blocks.len(), blocks.len());
+    let n = canonical_refusal(fp, width, height, blocks.len(), blocks.len());
     if n != 0 {
         return ImageAnswer::Refused(n);
     }

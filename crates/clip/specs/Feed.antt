@@ -1,14 +1,13 @@
 -- 02, j: what some bytes do, what a feed takes of a piece, and the end.
 -- Assumes nothing.
 use Prim.Native.Nat.{ℕ, suc}
-use mathlib.Core.Bool.{Bool, true, false}
 use mathlib.Core.List.{List, [], _∷_, _++_}
 use lib.Dec.{eqb}
 use Rattle.laws.specs.Choice.{pick}
 use Rattle.clip.specs.declared.Phase.{Phase}
 use Rattle.clip.specs.declared.Phase.the-variants.{Version, Header, Blocks, Over}
 use Rattle.clip.specs.declared.Event.{Event}
-use Rattle.clip.specs.declared.Event.the-variants.{Nothing, Block, Told}
+use Rattle.clip.specs.declared.Event.the-variants.{Nothing, Told}
 use Rattle.clip.specs.declared.Clip.{Clip}
 use Rattle.clip.specs.declared.Step.{Step}
 use Rattle.clip.specs.declared.Fed.{Fed}

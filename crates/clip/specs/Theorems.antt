@@ -1,21 +1,21 @@
 -- 02, j: what is proved of the reader's rules. Theorems: proofs/Cut.antt, `one-feed`, `cut`, `fixed`, `for-good`; proofs/Timely.antt, `timely`;
 -- proofs/ReadBack.antt, `ends`, `read-back`.
 -- Assumes nothing.
-use Prim.Native.Nat.{ℕ, _+_, _*_, _%_, _^_, _≤_, _<_}
+use Prim.Native.Nat.{ℕ, _+_, _%_, _^_, _≤_, _<_}
 use mathlib.Core.Path.{_≡_}
 use mathlib.Core.Bool.{true, false}
 use mathlib.Core.List.{List, [], _∷_, _++_}
 use lib.Dec.{eqb}
-use lib.ListN.{length, take, drop}
+use lib.ListN.{length, take}
 use Rattle.laws.specs.Choice.{pick}
 use Rattle.clip_frame.specs.declared.Frame.{Frame}
-use Rattle.clip_frame.specs.Frame.{blocksIn, lengthIn, frameIn, frameRefusal, frameBytes, writeRefusal}
+use Rattle.clip_frame.specs.Frame.{blocksIn, lengthIn, frameIn, frameRefusal, frameBytes}
 use Rattle.clip.specs.declared.Phase.the-variants.{Over}
 use Rattle.clip.specs.declared.Event.the-variants.{Told}
 use Rattle.clip.specs.declared.Clip.{Clip}
 use Rattle.clip.specs.declared.Fed.{Fed}
 use Rattle.clip.specs.Step.{zeros, freshOf, isHanded}
-use Rattle.clip.specs.Feed.{Handed, handedOut, run, told, feedOf, finishOf}
+use Rattle.clip.specs.Feed.{handedOut, run, told, feedOf, finishOf}
 use Rattle.clip.specs.Pieces.{isOver, endBy, takenBy, outBy, piecesRead, joined}
 use Rattle.clip.specs.Frames.{ready, waits, handedBlock, blocksHanded, Shot, framesBytes, framesHanded}
 

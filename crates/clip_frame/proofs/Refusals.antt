@@ -18,7 +18,8 @@ use Rattle.footprint.proofs.Laws.{flat-bounds}
 use Rattle.image_size.specs.Sides.{sizeRefusal, badSide, blocksAcross, blocksOf}
 use Rattle.image_size.proofs.Laws.{limit-le, sized, side-fine}
 use Rattle.clip_frame.specs.declared.Frame.{Frame}
-use Rattle.clip_frame.specs.Frame.{blocksIn, frameReasons, ownRefusal, frameRefusal, writeRefusal}
+use Rattle.clip_frame.specs.Frame.{blocksIn, frameReasons, frameRefusal, writeRefusal}
+use Rattle.clip_frame.specs.inner.Frame.{ownRefusal}
 
 -- ---- 1, 2 and 3, and what comes behind them
 

@@ -2,7 +2,7 @@
 -- Assumes nothing.
 use Prim.Native.Nat.{ℕ, _+_, _*_, _/_, _%_}
 use mathlib.Core.Path.{_≡_}
-use mathlib.Core.Bool.{Bool, not}
+use mathlib.Core.Bool.{not}
 use mathlib.Core.List.{List, [], _∷_, _++_}
 use lib.Dec.{eqb, ltb}
 use lib.ListN.{length, getD}
@@ -46,9 +46,6 @@ frameBytes f blocks = headBytes (6 + length blocks) f ++ blocks
 abbrev pub frameReasons : Frame → List Reason → List Reason
 frameReasons f rest =
     when (ltb 13 (f .footprint)) 1 ∷ when (ltb 2 (f .kind)) 2 ∷ when (either (badSide (f .width)) (badSide (f .height))) 3 ∷ rest
-
-unfoldable pub ownRefusal : Frame → ℕ
-ownRefusal f = firstOf (frameReasons f [])
 
 -- of a reader: "1, 2 and 3 .., tested before 52"; "Length must be 6 plus 16 for each block"
 unfoldable pub frameRefusal : Frame → ℕ → ℕ

@@ -1,7 +1,8 @@
 // A frame of a clip (02, j): what its ten bytes say, and the refusals of its reader and its writer.
 ghost use mathlib.Core.Path.{_≡_};
 ghost use Prim.Native.Nat.{_<_};
-ghost use Rattle.clip_frame.specs.Frame.{lengthIn, frameIn, ownRefusal, frameRefusal, writeRefusal};
+ghost use Rattle.clip_frame.specs.Frame.{lengthIn, frameIn, frameRefusal, writeRefusal};
+ghost use Rattle.clip_frame.specs.inner.Frame.{ownRefusal};
 
 // What a frame says of itself.
 pub struct Frame {

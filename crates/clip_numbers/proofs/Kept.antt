@@ -10,7 +10,7 @@ use lib.Dec.{eqb, ltb}
 use lib.ListN.{length, getD, set, length-set}
 use borrow.Author.Tests.{ltb-true}
 use Rattle.laws.specs.Choice.{pick, either}
-use Rattle.laws.specs.Table.{tabFrom, tab}
+use Rattle.laws.specs.Table.{tabFrom, tab, Bytes}
 use Rattle.laws.proofs.Filling.{length-tab}
 use Rattle.clip_frame.specs.declared.Frame.{Frame}
 use Rattle.image_size.specs.Sides.{badSide}
@@ -25,31 +25,32 @@ use Rattle.clip.specs.Feed.{usedUp, fedBy, oneMore, goOn, feedIn, feedOf, finis
 use Rattle.clip.proofs.Timely.{first}
 use Rattle.clip.proofs.Whole.{spelt-16}
 use Rattle.clip_numbers.specs.Numbers.{phaseNumber, phaseTold, stateNumbers, phaseOf, frameFrom, heldOf, clipOf}
-use Rattle.clip_numbers.specs.Kept.{Bytes, StateKept}
+use Rattle.clip_numbers.specs.Kept.{StateKept}
 
 -- ---- lists of bytes
 
-byte-at : (l : List ℕ) (k : ℕ) → Bytes l → getD l k 0 < 256
-byte-at [] zero h = omega arith
-byte-at [] (suc k) h = omega arith
-byte-at (x ∷ l) zero h = h .0
-byte-at (x ∷ l) (suc k) h = byte-at l k (h .1)
+bytes-none : Bytes []
+bytes-none zero = omega arith
+bytes-none (suc k) = omega arith
+
+bytes-more : (b : ℕ) (l : List ℕ) → b < 256 → Bytes l → Bytes (b ∷ l)
+bytes-more b l p h zero = p
+bytes-more b l p h (suc k) = h k
 
 bytes-set : (l : List ℕ) (k b : ℕ) → Bytes l → b < 256 → Bytes (set l k b)
-bytes-set [] zero b h p = tt
-bytes-set [] (suc k) b h p = tt
-bytes-set (x ∷ l) zero b h p = (p, h .1)
-bytes-set (x ∷ l) (suc k) b h p = (h .0, bytes-set l k b (h .1) p)
+bytes-set [] zero b h p = h
+bytes-set [] (suc k) b h p = h
+bytes-set (x ∷ l) zero b h p = bytes-more b l p (λ i. h (suc i))
+bytes-set (x ∷ l) (suc k) b h p = bytes-more x (set l k b) (h 0) (bytes-set l k b (λ i. h (suc i)) p)
 
 bytes-from : (f : ℕ → ℕ) (i n : ℕ) → ((k : ℕ) → f k < 256) → Bytes (tabFrom f i n)
 unfolding tabFrom
-bytes-from f i zero h = tt
-bytes-from f i (suc n) h = (h i, bytes-from f (suc i) n h)
+bytes-from f i zero h = bytes-none
+bytes-from f i (suc n) h = bytes-more (f i) (tabFrom f (suc i) n) (h i) (bytes-from f (suc i) n h)
 
 bytes-zeros : Bytes zeros
-bytes-zeros = (n, (n, (n, (n, (n, (n, (n, (n, (n, (n, (n, (n, (n, (n, (n, (n, tt)))))))))))))))) where
-  n : 0 < 256
-  n = omega arith
+unfolding tabFrom
+bytes-zeros = bytes-from (λ k. 0) 0 16 (λ k. omega arith)
 
 -- ---- states whose bytes are bytes
 
@@ -102,7 +103,7 @@ module _ (c : Clip) (w : Fine c) where
   unfolding checked
   fine-checked s h = go (eqb (frameRefusal (frameIn s) (lengthIn s)) 0) where
     go : (t : Bool) → Fine (pick t (quiet (begun c (frameIn s))) (over c (frameRefusal (frameIn s) (lengthIn s))) .clip)
-    go true = fine-empty Blocks (c .index) 0 (begun c (frameIn s) .last) (frameIn s) (byte-at s 4 h) (byte-at s 5 h) (omega arith)
+    go true = fine-empty Blocks (c .index) 0 (begun c (frameIn s) .last) (frameIn s) (h 4) (h 5) (omega arith)
     go false = fine-entered (Over (frameRefusal (frameIn s) (lengthIn s))) (refusal-small (frameIn s) (lengthIn s))
 
   module _ (b : ℕ) (p : b < 256) where
@@ -140,7 +141,7 @@ module _ (c : Clip) (w : Fine c) where
 fine-fed : (c : Clip) (s : List ℕ) → Fine c → Bytes s → Fine (goOn c s .clip)
 unfolding goOn
 fine-fed c [] w h = w
-fine-fed c (b ∷ s) w h = go (isHanded (stepOf c b .event)) (fine-step c w b (h .0)) (fine-fed (stepOf c b .clip) s (fine-step c w b (h .0)) (h .1)) where
+fine-fed c (b ∷ s) w h = go (isHanded (stepOf c b .event)) (fine-step c w b (h 0)) (fine-fed (stepOf c b .clip) s (fine-step c w b (h 0)) (λ i. h (suc i))) where
   go : (t : Bool) → Fine (stepOf c b .clip) → Fine (goOn (stepOf c b .clip) s .clip) → Fine (pick t (fedBy (stepOf c b) 1) (oneMore (goOn (stepOf c b .clip) s)) .clip)
   go true x y = x
   go false x y = y
@@ -200,7 +201,7 @@ phase-back (Over n) h = ap Over (mod-eq-of-lt h)
 held-back : (c : Clip) → length (c .held) ≡ 16 → Bytes (c .held) → heldOf (stateNumbers c) ≡ c .held
 unfolding heldOf stateNumbers tab tabFrom first
 held-back c e h =
-    let m : (k : ℕ) → getD (c .held) k 0 % 256 ≡ getD (c .held) k 0 = λ k. mod-eq-of-lt (byte-at (c .held) k h) in
+    let m : (k : ℕ) → getD (c .held) k 0 % 256 ≡ getD (c .held) k 0 = λ k. mod-eq-of-lt (h k) in
     (λ t. m 0 t ∷ m 1 t ∷ m 2 t ∷ m 3 t ∷ m 4 t ∷ m 5 t ∷ m 6 t ∷ m 7 t ∷ m 8 t ∷ m 9 t ∷ m 10 t ∷ m 11 t ∷ m 12 t ∷ m 13 t ∷ m 14 t ∷ m 15 t ∷ [])
     ∙ sym (spelt-16 (c .held) e)
 

@@ -1,11 +1,11 @@
 -- 02, j: a reader's state as a flat list of 26 numbers, and the calls over it.
 -- Assumes nothing.
 use Prim.Native.Nat.{ℕ, _+_, _%_}
-use mathlib.Core.Bool.{Bool, not}
+use mathlib.Core.Bool.{not}
 use mathlib.Core.List.{List, [], _∷_}
 use lib.Dec.{eqb}
 use lib.ListN.{length, getD}
-use Rattle.laws.specs.Choice.{pick, either}
+use Rattle.laws.specs.Choice.{pick}
 use Rattle.laws.specs.Table.{tab}
 use Rattle.laws.specs.Reasons.{when, firstOf}
 use Rattle.clip_frame.specs.declared.Frame.{Frame}

@@ -20,7 +20,7 @@ use Rattle.endpoint_arithmetic.specs.Signed.{bitTransfer, plainEnd, blueEnd}
 use Rattle.endpoint_arithmetic.specs.Pair.{zeroPair, luminancePair, scaledPair, rgbSum, blueOf, directPair, raisedPair, contractedPair, offsetPair}
 use Rattle.endpoint_arithmetic.proofs.Laws.{clamped-le}
 use Rattle.color_endpoint.specs.Modes.{levelAt, noLevel, lowLuminance, highLuminance, opaque, mode0, mode1, mode4, mode5, mode6, mode8, mode9, mode10, mode12, mode13, pairOf}
-use Rattle.color_endpoint.specs.Table.{startOf, numbersFrom, entryBy, entryOf, tableOf}
+use Rattle.color_endpoint.specs.Table.{startOf, numbersFrom, entryBy, tableOf}
 use Rattle.color_endpoint.proofs.Laws.{table-at}
 
 -- ---- the numbers that a mode takes
@@ -170,7 +170,7 @@ module _ (modes : List ℕ) (count : ℕ) (levels : List Level) (l : (i : ℕ) �
   unfolding numbersFrom
   numbers-le start i = tab-all (λ x. x .0 ≤ 255) (λ k. getD levels (start + k) noLevel) noLevel (λ k. l (start + k)) (omega arith) 8 i
 
-  entry-bytes : (p : ℕ) → Bytes (entryOf modes count levels p)
+  entry-bytes : (p : ℕ) → Bytes (entryBy pairOf zeroPair modes count levels p)
   unfolding entryBy
   entry-bytes p = pick-bytes (ltb p count) (pairOf (getD modes p 0) (numbersFrom levels (startOf modes p))) zeroPair (pair-bytes (numbersFrom levels (startOf modes p)) (numbers-le (startOf modes p)) (getD modes p 0)) zero-bytes
 

@@ -34,10 +34,6 @@ tableBy make none modes count levels =
     entryBy make none modes count levels 0 ∷ entryBy make none modes count levels 1 ∷ entryBy make none modes count levels 2
     ∷ entryBy make none modes count levels 3 ∷ []
 
--- the pair of partition p; past the count the pair of zeros
-abbrev pub entryOf : List ℕ → ℕ → List Level → ℕ → EndpointPair
-entryOf modes count levels p = entryBy pairOf zeroPair modes count levels p
-
--- 01: "Four partitions may each hold a pair of four channels."
+-- 01: "Four partitions may each hold a pair of four channels."; past the count the pair of zeros
 abbrev pub tableOf : List ℕ → ℕ → List Level → List EndpointPair
 tableOf modes count levels = tableBy pairOf zeroPair modes count levels

@@ -8,7 +8,8 @@ use lib.Dec.{ltb}
 use lib.IntN.{ℤ, pos, negsuc, _-ℤ_}
 use borrow.Author.Tests.{lt-ltb, ltb-true, ltb-false}
 use Rattle.laws.specs.Choice.{pick}
-use Rattle.endpoint_arithmetic.specs.Signed.{Within, baseOf, offsetOf, clamped}
+use Rattle.endpoint_arithmetic.specs.Signed.{baseOf, offsetOf, clamped}
+use Rattle.endpoint_arithmetic.specs.inner.Bounds.{Within}
 
 -- 01: "transfers give an offset from -32 to 31"
 pub offset-within : (a : ℕ) → Within 32 31 (offsetOf a)

@@ -1,7 +1,7 @@
 -- 000, "LDR Endpoint Decoding": the procedures that its modes share, over signed numbers. 01: "Transfers give an offset from -32 to 31; blue
 -- contraction halves sums that may be negative, rounding down, and clamping comes last."
 -- Assumes nothing.
-use Prim.Native.Nat.{ℕ, _+_, _*_, _/_, _%_, _≤_, _<_, min}
+use Prim.Native.Nat.{ℕ, _+_, _*_, _/_, _%_, min}
 use mathlib.Core.List.{List, [], _∷_}
 use lib.Dec.{ltb}
 use lib.IntN.{ℤ, pos, negsuc, _+ℤ_, _-ℤ_}
@@ -41,11 +41,3 @@ plainEnd r g b a = clamped r ∷ clamped g ∷ clamped b ∷ clamped a ∷ []
 -- an end (r, g, b, a) after blue_contract and then clamp_unorm8
 unfoldable pub blueEnd : ℤ → ℤ → ℤ → ℤ → List ℕ
 blueEnd r g b a = plainEnd (contracted r b) (contracted g b) b a
-
-abbrev pub Near : ℕ → ℕ → ℤ → Type 0
-Near lo hi (pos n) = n ≤ hi
-Near lo hi (negsuc n) = n < lo
-
--- z is from -lo to hi
-pub record Within (lo hi : ℕ) (z : ℤ) : Type 0 where
-  pub near : Near lo hi z

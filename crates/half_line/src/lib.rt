@@ -7,7 +7,7 @@ ghost use mathlib.Core.Path.{_≡_};
 ghost use Prim.Native.Nat.{_-_, _%_, _≤_};
 ghost use lib.Dec.{eqb};
 ghost use Rattle.laws.specs.Choice.{pick};
-ghost use Rattle.encoding.specs.Levels.{firstLevel, secondLevel};
+ghost use Rattle.encoding.specs.inner.Levels.{firstLevel, secondLevel};
 ghost use Rattle.interpolation.specs.Texel.{mixOf};
 ghost use Rattle.half_float.specs.Half.{halfOf};
 ghost use Rattle.half_line.specs.inner.Line.{flagOf, halfLineOf, halfTexelOn, texelOn};

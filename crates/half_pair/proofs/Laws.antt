@@ -12,8 +12,8 @@ use Rattle.laws.specs.Choice.{pick}
 use Rattle.hdr_endpoint.specs.declared.HdrPair.{HdrPair}
 use Rattle.hdr_endpoint.specs.Parts.{swizzledEnd}
 use Rattle.hdr_endpoint.specs.Direct.{fieldEnds, fieldsShifted, plainEnds, majorBits, directMode, direct}
-use Rattle.hdr_endpoint.proofs.Bounds.{Twelve}
-use Rattle.half_pair.specs.Pair.{Room}
+use Rattle.hdr_endpoint.specs.inner.Bounds.{Twelve}
+use Rattle.half_pair.specs.inner.Room.{Room}
 
 -- ---- room
 

@@ -16,12 +16,14 @@ use Rattle.hdr_endpoint.specs.Parts.{oneHdr}
 use Rattle.hdr_endpoint.specs.Luminance.{largeRange, smallRange}
 use Rattle.hdr_endpoint.specs.Scale.{baseScale}
 use Rattle.hdr_endpoint.specs.Direct.{direct, alphasOf}
-use Rattle.hdr_endpoint.proofs.Bounds.{Twelve, four, large-twelve, small-twelve, scale-twelve, direct-twelve, alphas-twelve}
+use Rattle.hdr_endpoint.proofs.Bounds.{four, large-twelve, small-twelve, scale-twelve, direct-twelve, alphas-twelve}
+use Rattle.hdr_endpoint.specs.inner.Bounds.{Twelve}
 use Rattle.color_endpoint.specs.Modes.{levelAt, pairOf, isHdr}
 use Rattle.color_endpoint.proofs.Pairs.{Bytes, pair-same, pair-bytes}
 use Rattle.interpolation.specs.Expansion.{replicated}
 use Rattle.half_pair.specs.declared.HalfPair.{HalfPair}
-use Rattle.half_pair.specs.Pair.{Room, mode11, mode14, mode15, hdrPairOf, expandHalf, halfEnd, expandedHdr, expandedLdr, halfPairOf}
+use Rattle.half_pair.specs.Pair.{mode11, mode14, mode15, hdrPairOf, expandHalf, halfEnd, expandedHdr, expandedLdr, halfPairOf}
+use Rattle.half_pair.specs.inner.Room.{Room}
 use Rattle.half_pair.proofs.Laws.{room-12, room-8, direct-alpha}
 
 -- ---- the numbers that a mode takes

@@ -1,7 +1,6 @@
 -- Kind 2: from any of 000's sixteen endpoint modes and its unquantised numbers to two ends of 16 bits, and which channels are HDR.
 -- Assumes nothing.
-use mathlib.Core.Path.{_≡_}
-use Prim.Native.Nat.{ℕ, _*_, _≤_}
+use Prim.Native.Nat.{ℕ, _*_}
 use mathlib.Core.Bool.{Bool, true, false, not}
 use mathlib.Core.List.{List, [], _∷_}
 use lib.Dec.{eqb}
@@ -19,11 +18,6 @@ use Rattle.color_endpoint.specs.Table.{tableBy}
 use Rattle.endpoint_arithmetic.specs.Pair.{zeroPair}
 use Rattle.interpolation.specs.Expansion.{replicated}
 use Rattle.half_pair.specs.declared.HalfPair.{HalfPair}
-
--- the channels of an end have 12 bits, and an alpha that is LDR has 8
-pub record Room (alpha : Bool) (e : List ℕ) : Type 0 where
-  pub twelve : (c : ℕ) → getD e c 0 ≤ 4095
-  pub last : alpha ≡ false → getD e 3 0 ≤ 255
 
 -- 000, "HDR Endpoint Mode 14": "fill in the alphas", e0.alpha = v6, e1.alpha = v7
 unfoldable pub mode14 : List Level → HdrPair

@@ -5,7 +5,7 @@ use hdr_endpoint::Alphas;
 use hdr_endpoint::HdrPair;
 ghost use mathlib.Core.Path.{_≡_};
 ghost use mathlib.Core.Bool.{true, false, not};
-ghost use Prim.Native.Nat.{_*_, _-_, _%_, _≤_};
+ghost use Prim.Native.Nat.{_*_, _≤_};
 ghost use lib.Dec.{eqb};
 ghost use lib.ListN.{getD};
 ghost use Rattle.color_endpoint.specs.Modes.{pairOf};
@@ -13,8 +13,9 @@ ghost use Rattle.color_endpoint.specs.Table.{tableOf};
 ghost use Rattle.hdr_endpoint.specs.Luminance.{largeRange, smallRange};
 ghost use Rattle.hdr_endpoint.specs.Scale.{baseScale};
 ghost use Rattle.hdr_endpoint.specs.Direct.{direct, alphasOf};
-ghost use Rattle.hdr_endpoint.proofs.Bounds.{Twelve};
-ghost use Rattle.half_pair.specs.Pair.{Room, mode11, mode14, mode15, hdrPairOf, expandHalf, halfEnd, expandedHdr, expandedLdr, halfPairOf, zeroHalf, halfTableOf};
+ghost use Rattle.hdr_endpoint.specs.inner.Bounds.{Twelve};
+ghost use Rattle.half_pair.specs.Pair.{mode11, mode14, mode15, hdrPairOf, expandHalf, halfEnd, expandedHdr, expandedLdr, halfPairOf, zeroHalf, halfTableOf};
+ghost use Rattle.half_pair.specs.inner.Room.{Room};
 
 // Two ends in 16 bits, each R, G, B, A, and whether the colours and the alpha are HDR.
 pub struct HalfPair {

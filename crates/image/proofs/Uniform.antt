@@ -10,20 +10,21 @@ use Rattle.footprint.specs.Footprint.{widthOf, texelsOf}
 use Rattle.footprint.proofs.Laws.{texels-le}
 use Rattle.interpolation.specs.declared.Kind.{Kind}
 use Rattle.interpolation.specs.declared.Texel.{Texel}
-use Rattle.block_buffer.specs.Painted.{texelNumber, painted}
+use Rattle.block_buffer.specs.inner.Painted.{texelNumber, painted}
 use Rattle.block_reading.specs.declared.Reading.{Reading}
 use Rattle.block_reading.specs.Shown.{channelIn, intoIn}
 use Rattle.block_reading.proofs.Shows.{held}
-use Rattle.picture_regions.proofs.Regions.{Pasted}
+use Rattle.picture_regions.specs.inner.Regions.{Pasted}
 use Rattle.image_layout.specs.declared.ImageGrid.{ImageGrid}
 use Rattle.image_layout.specs.declared.Part.{Part}
 use Rattle.image_layout.specs.declared.Run.{Run}
-use Rattle.image_layout.proofs.Parts.{Fits, RunOf, RunFits, PlacedRows, placed-row}
-use Rattle.texel_fill.specs.Everywhere.{everywhere}
+use Rattle.image_layout.proofs.Parts.{placed-row}
+use Rattle.image_layout.specs.inner.Parts.{PartFits, RunOf, RunFits, PlacedRows}
+use Rattle.texel_fill.specs.inner.Everywhere.{everywhere}
 use Rattle.texel_fill.proofs.Filling.{number-at, from-any}
 
 -- a row more
-pub row-filled : (show : ℕ → ℕ) (t : Texel) (g : ImageGrid) (p : Part) (dy : ℕ) (r : Run) (m : ℕ) (old l new : List ℕ) → Fits g p → RunOf g p dy r → RunFits r 864 m
+pub row-filled : (show : ℕ → ℕ) (t : Texel) (g : ImageGrid) (p : Part) (dy : ℕ) (r : Run) (m : ℕ) (old l new : List ℕ) → PartFits g p → RunOf g p dy r → RunFits r 864 m
     → PlacedRows show g p dy (everywhere t) old l → Pasted show (everywhere t) 0 (4 * p .columns) l (r .at) new → PlacedRows show g p (dy + 1) (everywhere t) old new
 row-filled show t g p dy r m old l new f o s pl q =
     placed-row show g p dy r (everywhere t) old l new f o pl (from-any show t (r .from) (r .n) l (r .at) new (omega (arith, o .from)) (s .in-source) (rw (← o .n) at q))

@@ -19,17 +19,16 @@ ghost use Rattle.image_layout.specs.Numbers.{faultAtIn, imageNumberAtIn, imageN
 ghost use Rattle.image_layout.specs.Faulty.{tallyOf};
 ghost use Rattle.image_layout.specs.Call.{checkedOf, imageAnswer, imageOut, imageTold, imageAnswerIn, imageOutIn, imageToldIn, toldOf};
 ghost use Rattle.image_layout.specs.inner.Rows.{flatPicture};
-ghost use Rattle.picture_regions.proofs.Blocks.{Tile};
-ghost use Rattle.texel_fill.specs.Everywhere.{everywhere};
-ghost use Rattle.image_layout.proofs.Calls.{Sound};
-ghost use Rattle.image_layout.proofs.Parts.{Fits, PlacedRows};
+ghost use Rattle.picture_regions.specs.inner.Regions.{Tile};
+ghost use Rattle.texel_fill.specs.inner.Everywhere.{everywhere};
+ghost use Rattle.image_layout.specs.inner.Parts.{SoundGrid, PartFits, PlacedRows};
 
 // ---- kinds 0 and 2: 16-bit numbers
 
 // Copies a block's rows to its part of the image.
 fn place_numbers(buf: &[u16; 864], g: ImageGrid, p: Part, out: &mut [u16])
-    requires { ⌜ Sound g ⌝ }
-    requires { ⌜ Fits g p ⌝ }
+    requires { ⌜ SoundGrid g ⌝ }
+    requires { ⌜ PartFits g p ⌝ }
     requires { ⌜ length (now out) ≡ 4 * (g .height * g .width) ⌝ }
     ensures { λ _. ⌜ PlacedRows (shownOf Unorm16) g p (p .rows) (now (buf .entry)) (now (out .entry)) (now (out .exit)) ⌝ }
 {
@@ -40,8 +39,8 @@ fn place_numbers(buf: &[u16; 864], g: ImageGrid, p: Part, out: &mut [u16])
 
 // Puts one texel at every place of a block's part of the image.
 fn flood_numbers(t: Texel, g: ImageGrid, p: Part, out: &mut [u16])
-    requires { ⌜ Sound g ⌝ }
-    requires { ⌜ Fits g p ⌝ }
+    requires { ⌜ SoundGrid g ⌝ }
+    requires { ⌜ PartFits g p ⌝ }
     requires { ⌜ length (now out) ≡ 4 * (g .height * g .width) ⌝ }
     ensures { λ _. ⌜ PlacedRows (shownOf Unorm16) g p (p .rows) (everywhere t) (now (out .entry)) (now (out .exit)) ⌝ }
 {
@@ -62,7 +61,7 @@ fn show_numbers(
     out: &mut [u16],
 ) -> u8
     requires { ⌜ Words kind ⌝ }
-    requires { ⌜ Sound g ⌝ }
+    requires { ⌜ SoundGrid g ⌝ }
     requires { ⌜ b < g .down * g .across ⌝ }
     requires { ⌜ length (now s) ≡ 16 * (g .down * g .across) ⌝ }
     requires { ⌜ length (now out) ≡ 4 * (g .height * g .width) ⌝ }
@@ -89,7 +88,7 @@ fn show_numbers(
 // Shows every block, in raster order, and counts the faults.
 fn decode_numbers(reading: Reading, g: ImageGrid, kind: Kind, s: &[u8], out: &mut [u16]) -> Tally
     requires { ⌜ Words kind ⌝ }
-    requires { ⌜ Sound g ⌝ }
+    requires { ⌜ SoundGrid g ⌝ }
     requires { ⌜ length (now s) ≡ 16 * (g .down * g .across) ⌝ }
     requires { ⌜ length (now out) ≡ 4 * (g .height * g .width) ⌝ }
     ensures { λ r. ⌜ r ≡ tallyOf (faultAtIn reading (g .footprint) kind (now (s .entry))) (g .down * g .across) ⌝ }
@@ -216,8 +215,8 @@ pub fn decode_image_float16(
 
 // Copies a block's rows to its part of the image.
 fn place_bytes(buf: &[u16; 864], g: ImageGrid, p: Part, out: &mut [u8])
-    requires { ⌜ Sound g ⌝ }
-    requires { ⌜ Fits g p ⌝ }
+    requires { ⌜ SoundGrid g ⌝ }
+    requires { ⌜ PartFits g p ⌝ }
     requires { ⌜ length (now out) ≡ 4 * (g .height * g .width) ⌝ }
     ensures { λ _. ⌜ PlacedRows (shownOf Srgb8) g p (p .rows) (now (buf .entry)) (now (out .entry)) (now (out .exit)) ⌝ }
 {
@@ -228,8 +227,8 @@ fn place_bytes(buf: &[u16; 864], g: ImageGrid, p: Part, out: &mut [u8])
 
 // Puts one texel at every place of a block's part of the image.
 fn flood_bytes(t: Texel, g: ImageGrid, p: Part, out: &mut [u8])
-    requires { ⌜ Sound g ⌝ }
-    requires { ⌜ Fits g p ⌝ }
+    requires { ⌜ SoundGrid g ⌝ }
+    requires { ⌜ PartFits g p ⌝ }
     requires { ⌜ length (now out) ≡ 4 * (g .height * g .width) ⌝ }
     ensures { λ _. ⌜ PlacedRows (shownOf Srgb8) g p (p .rows) (everywhere t) (now (out .entry)) (now (out .exit)) ⌝ }
 {
@@ -248,7 +247,7 @@ fn show_bytes(
     buf: &mut [u16; 864],
     out: &mut [u8],
 ) -> u8
-    requires { ⌜ Sound g ⌝ }
+    requires { ⌜ SoundGrid g ⌝ }
     requires { ⌜ b < g .down * g .across ⌝ }
     requires { ⌜ length (now s) ≡ 16 * (g .down * g .across) ⌝ }
     requires { ⌜ length (now out) ≡ 4 * (g .height * g .width) ⌝ }
@@ -274,7 +273,7 @@ fn show_bytes(
 
 // Shows every block, in raster order, and counts the faults.
 fn decode_bytes(reading: Reading, g: ImageGrid, s: &[u8], out: &mut [u8]) -> Tally
-    requires { ⌜ Sound g ⌝ }
+    requires { ⌜ SoundGrid g ⌝ }
     requires { ⌜ length (now s) ≡ 16 * (g .down * g .across) ⌝ }
     requires { ⌜ length (now out) ≡ 4 * (g .height * g .width) ⌝ }
     ensures { λ r. ⌜ r ≡ tallyOf (faultAtIn reading (g .footprint) Srgb8 (now (s .entry))) (g .down * g .across) ⌝ }

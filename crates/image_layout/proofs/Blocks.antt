@@ -10,7 +10,7 @@ use lib.ListN.{length, getD, take, drop, length-drop, List·getD-eq-default}
 use lib.Seq.{getD-take, getD-drop, length-take-le}
 use Rattle.bits.specs.Field.{field}
 use Rattle.bits.specs.Block.{numberOf}
-use Rattle.bits.proofs.Blocks.{Bytes}
+use Rattle.laws.specs.Table.{Bytes}
 use Rattle.bits.proofs.Halves.{loaded}
 use Rattle.footprint.specs.Footprint.{widthOf, heightOf, texelsOf}
 use Rattle.footprint.proofs.Laws.{flat-depth}
@@ -22,13 +22,14 @@ use Rattle.block_reading.proofs.Shows.{number-at}
 use Rattle.image_size.specs.Sides.{blocksAcross}
 use Rattle.picture_regions.specs.Picture.{place}
 use Rattle.picture_regions.proofs.Covering.{place-within, quotient, remainder}
-use Rattle.picture_regions.proofs.Regions.{Placed}
-use Rattle.picture_regions.proofs.Blocks.{Cropped, Reached, Tile, tile-of}
+use Rattle.picture_regions.specs.inner.Regions.{RowsCopied, Cropped, Tile}
+use Rattle.picture_regions.proofs.Blocks.{Reached, tile-of}
 use Rattle.image_layout.specs.declared.ImageGrid.{ImageGrid}
 use Rattle.image_layout.specs.Geometry.{blockIndex}
 use Rattle.image_layout.specs.Numbers.{blockBytes, blockAt, imageNumberAtIn}
 use Rattle.image_layout.specs.inner.Rows.{flatPicture}
-use Rattle.image_layout.proofs.Calls.{Sound, covered}
+use Rattle.image_layout.proofs.Calls.{covered}
+use Rattle.image_layout.specs.inner.Parts.{SoundGrid}
 
 -- the numbers of a block one layer thick, by column and row
 pub flat-texels : (fp : ℕ) → fp < 14 → texelsOf fp ≡ widthOf fp * heightOf fp
@@ -72,7 +73,7 @@ module _ (s : List ℕ) (b : ℕ) (h : 16 * b + 16 ≤ length s) where
 
 -- ---- block bx of row by of an image's blocks
 
-module _ (g : ImageGrid) (sound : Sound g) (bx by cols rows : ℕ) (crop : Cropped (g .height) (by * g .rows) (g .rows) rows) where
+module _ (g : ImageGrid) (sound : SoundGrid g) (bx by cols rows : ℕ) (crop : Cropped (g .height) (by * g .rows) (g .rows) rows) where
   -- its rows are those that are copied
   pub row-in : (y : ℕ) → y < g .height → y / g .rows ≡ by → Reached (λ i. by * g .rows + i) rows y
   row-in y hy e =
@@ -84,7 +85,7 @@ module _ (g : ImageGrid) (sound : Sound g) (bx by cols rows : ℕ) (crop : Cropp
 
   -- its numbers, copied as far as they are within the image
   pub tile-shown : (reading : Reading) (kind : Kind) (s buf old new : List ℕ) → bx < g .across → Cropped (g .width) (bx * g .columns) (g .columns) cols
-      → Placed (shownOf kind) (g .width) (bx * g .columns) cols (g .columns) (λ i. by * g .rows + i) (λ i. i) rows buf old new
+      → RowsCopied (shownOf kind) (g .width) (bx * g .columns) cols (g .columns) (λ i. by * g .rows + i) (λ i. i) rows buf old new
       → ((k : ℕ) → k < 4 * texelsOf (g .footprint) → getD buf k 0 ≡ channelIn reading (g .footprint) kind (blockAt s (by * g .across + bx)) k)
       → Tile (flatPicture g) (by * g .across + bx) (imageNumberAtIn reading (g .footprint) kind (g .width) s) old new
   tile-shown reading kind s buf old new hb cc p held =

@@ -27,6 +27,7 @@ use Rattle.image_size.proofs.Laws.{limit-le, side-fine, across-covers, across-l
 use Rattle.picture_regions.proofs.Covering.{mul-bound}
 use Rattle.picture_regions.proofs.Blocks.{Covered}
 use Rattle.image_layout.specs.inner.Rows.{flatPicture}
+use Rattle.image_layout.specs.inner.Parts.{SoundGrid}
 
 -- ---- the refusals in their order
 
@@ -61,26 +62,7 @@ module _ (fp w h bytes places : ℕ) where
 
 -- ---- what holds past the refusals
 
--- a layout of an accepted image
-pub record Sound (g : ImageGrid) : Type 0 where
-  pub footprint : g .footprint < 14
-  pub width-least : 0 < g .width
-  pub width-most : g .width ≤ 16384
-  pub height-least : 0 < g .height
-  pub height-most : g .height ≤ 16384
-  pub columns : g .columns ≡ widthOf (g .footprint)
-  pub columns-least : 0 < g .columns
-  pub columns-most : g .columns ≤ 12
-  pub rows : g .rows ≡ heightOf (g .footprint)
-  pub rows-least : 0 < g .rows
-  pub rows-most : g .rows ≤ 12
-  pub across : g .across ≡ blocksAcross (g .width) (g .columns)
-  pub across-least : 0 < g .across
-  pub across-most : g .across ≤ 16384
-  pub down : g .down ≡ blocksAcross (g .height) (g .rows)
-  pub down-most : g .down ≤ 16384
-
-pub sound : (fp w h : ℕ) → fp < 14 → badSide w ≡ false → badSide h ≡ false → Sound (imageGrid fp w h)
+pub sound : (fp w h : ℕ) → fp < 14 → badSide w ≡ false → badSide h ≡ false → SoundGrid (imageGrid fp w h)
 unfolding imageGrid
 sound fp w h f a b =
     let s = flat-bounds fp f in
@@ -109,7 +91,7 @@ sound fp w h f a b =
     }
 
 -- its blocks cover it
-pub covered : (g : ImageGrid) → Sound g → Covered (flatPicture g)
+pub covered : (g : ImageGrid) → SoundGrid g → Covered (flatPicture g)
 covered g s = record {
   width-least = s .width-least;
   columns-least = s .columns-least;
@@ -122,7 +104,7 @@ pub record Sizes (g : ImageGrid) : Type 0 where
   pub blocks : g .down * g .across ≤ 16384 * 16384
   pub texels : g .height * g .width ≤ 16384 * 16384
 
-pub sizes : (g : ImageGrid) → Sound g → Sizes g
+pub sizes : (g : ImageGrid) → SoundGrid g → Sizes g
 sizes g s = record {
   blocks = mul-bound (g .down) (g .across) 16384 16384 (s .down-most) (s .across-most);
   texels = mul-bound (g .height) (g .width) 16384 16384 (s .height-most) (s .width-most);
@@ -199,7 +181,7 @@ module _ (fp w h bytes places : ℕ) where
   pub record Passed (g : ImageGrid) : Type 0 where
     pub none : imageRefusal fp w h bytes places ≡ 0
     pub layout : g ≡ imageGrid fp w h
-    pub is-sound : Sound g
+    pub is-sound : SoundGrid g
     pub exact-bytes : bytes ≡ 16 * (g .down * g .across)
     pub exact-places : places ≡ 4 * (g .height * g .width)
 

@@ -13,8 +13,8 @@ use Rattle.block_reading.specs.declared.Reading.{Reading}
 use Rattle.block_reading.specs.Shown.{channelIn}
 use Rattle.image_size.proofs.Laws.{across-inside}
 use Rattle.picture_regions.proofs.Covering.{mul-bound, below-row}
-use Rattle.picture_regions.proofs.Regions.{Pasted, Placed, placed-none, placed-more}
-use Rattle.picture_regions.proofs.Blocks.{Cropped, Tile}
+use Rattle.picture_regions.proofs.Regions.{placed-none, placed-more}
+use Rattle.picture_regions.specs.inner.Regions.{Pasted, RowsCopied, Cropped, Tile}
 use Rattle.image_layout.specs.declared.ImageGrid.{ImageGrid}
 use Rattle.image_layout.specs.declared.Part.{Part}
 use Rattle.image_layout.specs.declared.Run.{Run}
@@ -24,30 +24,9 @@ use Rattle.image_layout.specs.Faulty.{tallyOf}
 use Rattle.image_layout.specs.inner.Noted.{noted}
 use Rattle.image_layout.specs.inner.Rows.{flatPicture}
 use Rattle.image_layout.proofs.Blocks.{tile-shown}
-use Rattle.image_layout.proofs.Calls.{Sound, covered}
+use Rattle.image_layout.proofs.Calls.{covered}
+use Rattle.image_layout.specs.inner.Parts.{SoundGrid, PartFits, PartOf, RunOf, RunFits, PlacedRows}
 use Rattle.image_layout.proofs.Walking.{Walking, walking-start, walking-more, walking-done}
-
--- the part is as much of a block as is within the image
-pub record Fits (g : ImageGrid) (p : Part) : Type 0 where
-  pub columns : Cropped (g .width) (p .x) (g .columns) (p .columns)
-  pub rows : Cropped (g .height) (p .y) (g .rows) (p .rows)
-
--- the part of block b
-pub record PartOf (g : ImageGrid) (b : ℕ) (p : Part) : Type 0 where
-  pub x : p .x ≡ b % g .across * g .columns
-  pub y : p .y ≡ b / g .across * g .rows
-  pub fits : Fits g p
-
--- the run of row dy
-pub record RunOf (g : ImageGrid) (p : Part) (dy : ℕ) (r : Run) : Type 0 where
-  pub from : r .from ≡ 4 * (dy * g .columns)
-  pub at : r .at ≡ 4 * ((p .y + dy) * g .width + p .x)
-  pub n : r .n ≡ 4 * p .columns
-
--- the run lies within a source and a result of so many numbers
-pub record RunFits (r : Run) (source result : ℕ) : Type 0 where
-  pub in-source : r .from + r .n ≤ source
-  pub in-result : r .at + r .n ≤ result
 
 -- the products of a row, none of which wraps
 pub record Products (g : ImageGrid) (p : Part) (dy : ℕ) : Type 0 where
@@ -55,7 +34,7 @@ pub record Products (g : ImageGrid) (p : Part) (dy : ℕ) : Type 0 where
   pub in-image : 4 * ((p .y + dy) * g .width + p .x) + 4 * p .columns ≤ 4 * (g .height * g .width)
   pub small : g .height * g .width ≤ 16384 * 16384
 
-pub products : (g : ImageGrid) (p : Part) (dy : ℕ) → Sound g → Fits g p → dy < p .rows → Products g p dy
+pub products : (g : ImageGrid) (p : Part) (dy : ℕ) → SoundGrid g → PartFits g p → dy < p .rows → Products g p dy
 products g p dy s f h =
     let a = f .columns .in-block in
     let b = f .columns .in-side in
@@ -66,7 +45,7 @@ products g p dy s f h =
     let m = mul-bound (g .height) (g .width) 16384 16384 (s .height-most) (s .width-most) in
     record { in-block = let z = s .columns-most in omega arith; in-image = omega arith; small = m }
 
-pub run-fits : (g : ImageGrid) (p : Part) (dy : ℕ) (r : Run) (m : ℕ) → Sound g → Fits g p → dy < p .rows → RunOf g p dy r → m ≡ 4 * (g .height * g .width) → RunFits r 864 m
+pub run-fits : (g : ImageGrid) (p : Part) (dy : ℕ) (r : Run) (m : ℕ) → SoundGrid g → PartFits g p → dy < p .rows → RunOf g p dy r → m ≡ 4 * (g .height * g .width) → RunFits r 864 m
 run-fits g p dy r m s f h o e =
     let q = products g p dy s f h in
     record { in-source = omega (arith, o, q); in-result = omega (arith, o, q) }
@@ -76,7 +55,7 @@ pub record Begins (g : ImageGrid) (b : ℕ) : Type 0 where
   pub x : b % g .across * g .columns < g .width
   pub y : b / g .across * g .rows < g .height
 
-pub begins : (g : ImageGrid) (b : ℕ) → Sound g → b < g .down * g .across → Begins g b
+pub begins : (g : ImageGrid) (b : ℕ) → SoundGrid g → b < g .down * g .across → Begins g b
 begins g b s h = record {
   x = across-inside (g .width) (g .columns) (b % g .across) (s .columns-least) (omega (arith, s .across, mod-lt b (s .across-least)));
   y = across-inside (g .height) (g .rows) (b / g .across) (s .rows-least) (let l : b / g .across < g .down = div-lt-iff-lt-mul (s .across-least) .1 h in omega (arith, s .down));
@@ -84,17 +63,13 @@ begins g b s h = record {
 
 -- ---- what a turn of each loop does
 
--- n rows of a part are copied
-abbrev pub PlacedRows : (ℕ → ℕ) → ImageGrid → Part → ℕ → List ℕ → List ℕ → List ℕ → Type 0
-PlacedRows show g p n buf old new = Placed show (g .width) (p .x) (p .columns) (g .columns) (λ i. p .y + i) (λ i. i) n buf old new
-
 -- the first b blocks of an ASTC image are decoded
 abbrev pub Decoding : Reading → Kind → ImageGrid → List ℕ → List ℕ → List ℕ → List ℕ → Tally → ℕ → Type 0
 Decoding reading kind g s old new buf t b =
     Walking (imageNumberAtIn reading (g .footprint) kind (g .width) s) (faultAtIn reading (g .footprint) kind s) 864 (flatPicture g) old new buf t b
 
 -- a row of a part
-pub placed-row : (show : ℕ → ℕ) (g : ImageGrid) (p : Part) (dy : ℕ) (r : Run) (buf old l new : List ℕ) → Fits g p → RunOf g p dy r
+pub placed-row : (show : ℕ → ℕ) (g : ImageGrid) (p : Part) (dy : ℕ) (r : Run) (buf old l new : List ℕ) → PartFits g p → RunOf g p dy r
     → PlacedRows show g p dy buf old l → Pasted show buf (r .from) (r .n) l (r .at) new → PlacedRows show g p (dy + 1) buf old new
 placed-row show g p dy r buf old l new f o pl q =
     placed-more show (g .width) (p .x) (p .columns) (g .columns) (λ i. p .y + i) (λ i. i) buf old dy l new (f .columns .in-side) (λ i h e. omega arith) pl
@@ -110,7 +85,7 @@ module _ (show : ℕ → ℕ) (g : ImageGrid) (p : Part) (buf old : List ℕ) wh
   pub placing-none : Placing old 0
   placing-none = record { most = omega arith; same = refl; placed = placed-none show (g .width) (p .x) (p .columns) (g .columns) _ _ buf old }
 
-  pub placing-more : (r : Run) {l new : List ℕ} {dy : ℕ} → Fits g p → dy < p .rows → RunOf g p dy r → length new ≡ length l → Placing l dy
+  pub placing-more : (r : Run) {l new : List ℕ} {dy : ℕ} → PartFits g p → dy < p .rows → RunOf g p dy r → length new ≡ length l → Placing l dy
       → Pasted show buf (r .from) (r .n) l (r .at) new → Placing new (dy + 1)
   placing-more r {l = l} {new = new} {dy = dy} f h o e t q =
       record { most = omega arith; same = e ∙ t .same; placed = placed-row show g p dy r buf old l new f o (t .placed) q }
@@ -118,7 +93,7 @@ module _ (show : ℕ → ℕ) (g : ImageGrid) (p : Part) (buf old : List ℕ) wh
   pub placing-all : {new : List ℕ} {dy : ℕ} → p .rows ≤ dy → Placing new dy → PlacedRows show g p (p .rows) buf old new
   placing-all {new} {dy} h t = let e : dy ≡ p .rows = omega (arith, t .most) in rw e at (t .placed)
 
-module _ (kind : Kind) (g : ImageGrid) (reading : Reading) (sound : Sound g) (s : List ℕ) where
+module _ (kind : Kind) (g : ImageGrid) (reading : Reading) (sound : SoundGrid g) (s : List ℕ) where
   abbrev number : ℕ → ℕ → ℕ → ℕ
   number = imageNumberAtIn reading (g .footprint) kind (g .width) s
 

@@ -7,8 +7,8 @@ use Prim.Native.Nat.{ℕ, _+_, _*_, _/_, _%_, _≤_, _<_}
 use native.Mathlib.Omega.{arith}
 use lib.ListN.{length}
 use Rattle.laws.specs.Table.{tab}
-use Rattle.picture_regions.specs.Picture.{Picture}
-use Rattle.picture_regions.proofs.Blocks.{Covered, Tile, ShownTo, shown-none, shown-more, shown-all}
+use Rattle.picture_regions.specs.inner.Regions.{Picture, Tile}
+use Rattle.picture_regions.proofs.Blocks.{Covered, ShownTo, shown-none, shown-more, shown-all}
 use Rattle.image_layout.specs.declared.Tally.{Tally}
 use Rattle.image_layout.specs.Faulty.{tallyOf}
 use Rattle.image_layout.specs.inner.Noted.{noted}

@@ -3,7 +3,7 @@ ghost use mathlib.Core.Path.{_≡_};
 ghost use mathlib.Core.Bool.{false};
 ghost use Prim.Native.Nat.{_^_, _≤_, _<_};
 ghost use Rattle.image_layout.specs.Geometry.{imageGrid};
-ghost use Rattle.image_size.specs.Sides.{blocksAcross, badSide};
+ghost use Rattle.image_size.specs.Sides.{badSide};
 ghost use Rattle.image_layout.specs.Call.{checkedOf};
 ghost use Rattle.image_layout.specs.inner.Noted.{noted};
 

@@ -11,10 +11,8 @@ ghost use Rattle.bits.specs.Block.{blockNumber};
 ghost use Rattle.image_layout.specs.Numbers.{blockAt};
 ghost use Rattle.interpolation.specs.Expansion.{shownOf};
 ghost use Rattle.interpolation.specs.declared.Kind.the-variants.{Unorm16, Srgb8};
-ghost use Rattle.picture_regions.proofs.Regions.{Pasted};
-ghost use Rattle.picture_regions.proofs.Blocks.{Cropped};
-ghost use Rattle.image_layout.proofs.Calls.{Sound};
-ghost use Rattle.image_layout.proofs.Parts.{Fits, PartOf, RunOf, RunFits};
+ghost use Rattle.picture_regions.specs.inner.Regions.{Pasted, Cropped};
+ghost use Rattle.image_layout.specs.inner.Parts.{SoundGrid, PartFits, PartOf, RunOf, RunFits};
 
 // How many of n places from `at` on are within a side.
 pub fn crop(side: usize, at: usize, n: usize) -> usize
@@ -26,7 +24,7 @@ pub fn crop(side: usize, at: usize, n: usize) -> usize
 
 // The part of the image that block b covers.
 pub fn part_of(g: ImageGrid, b: usize) -> Part
-    requires { ⌜ Sound g ⌝ }
+    requires { ⌜ SoundGrid g ⌝ }
     requires { ⌜ b < g .down * g .across ⌝ }
     ensures { λ r. ⌜ PartOf g b r ⌝ }
 {
@@ -44,8 +42,8 @@ pub fn part_of(g: ImageGrid, b: usize) -> Part
 
 // Row dy of a part.
 pub fn run_of(g: ImageGrid, p: Part, dy: usize) -> Run
-    requires { ⌜ Sound g ⌝ }
-    requires { ⌜ Fits g p ⌝ }
+    requires { ⌜ SoundGrid g ⌝ }
+    requires { ⌜ PartFits g p ⌝ }
     requires { ⌜ dy < p .rows ⌝ }
     ensures { λ r. ⌜ RunOf g p dy r ⌝ }
 {

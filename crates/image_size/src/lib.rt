@@ -1,6 +1,5 @@
 // The sides of an image (01: picture): which are refused, and how many blocks cover them.
 ghost use mathlib.Core.Path.{_≡_};
-ghost use mathlib.Core.Bool.{false};
 ghost use Prim.Native.Nat.{_/_, _%_, _≤_, _<_};
 ghost use Rattle.image_size.specs.Sides.{badSide, blocksAcross, blocksOf, sizeRefusal};
 

@@ -30,8 +30,8 @@ use Rattle.one_texel.specs.Texel.{oneTexel}
 use Rattle.image_texel.specs.declared.Sides.{Sides}
 use Rattle.image_texel.specs.declared.Asked.{Asked}
 use Rattle.image_texel.specs.Making.{viewRefusal, viewSides}
-use Rattle.image_texel.specs.inner.Fits.{Fits}
-use Rattle.image_texel.specs.Asking.{mayAsk, shownTexel, askedIn, refusedAsking, askedAt}
+use Rattle.image_texel.specs.inner.Fits.{Fits, shownTexel}
+use Rattle.image_texel.specs.Asking.{mayAsk, askedIn, refusedAsking, askedAt}
 
 -- ---- making
 

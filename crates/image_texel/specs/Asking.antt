@@ -8,8 +8,6 @@ use lib.Dec.{eqb, ltb}
 use lib.ListN.{length}
 use Rattle.laws.specs.Choice.{pick, both}
 use Rattle.interpolation.specs.declared.Kind.{Kind}
-use Rattle.interpolation.specs.declared.Texel.{Texel}
-use Rattle.interpolation.specs.Expansion.{shownOf}
 use Rattle.image_layout.specs.Geometry.{blockIndex}
 use Rattle.image_layout.specs.Numbers.{faultAt, imageNumberAt}
 use Rattle.image_texel.specs.declared.Asked.{Asked}
@@ -18,10 +16,6 @@ use Rattle.image_texel.specs.Making.{viewRefusal}
 -- what may be asked: a place inside the picture, of a view that making would not refuse
 unfoldable pub mayAsk : ℕ → ℕ → ℕ → ℕ → ℕ → ℕ → Bool
 mayAsk fp w h bytes x y = both (eqb (viewRefusal fp w h bytes) 0) (both (ltb x w) (ltb y h))
-
--- what a kind shows of a texel's numbers
-unfoldable pub shownTexel : Kind → Texel → Texel
-shownTexel kind t = record { r = shownOf kind (t .r); g = shownOf kind (t .g); b = shownOf kind (t .b); a = shownOf kind (t .a) }
 
 -- the answer inside: the fault of the texel's block, 0 for none, and the picture's four numbers there: "It answers the fault with the magenta
 -- texel where the block is bad." (02, i: in kind 2 65535 in all four channels)

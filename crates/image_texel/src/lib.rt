@@ -5,8 +5,8 @@ ghost use mathlib.Core.Path.{_≡_};
 ghost use Prim.Native.Nat.{_<_};
 ghost use lib.ListN.{length};
 ghost use Rattle.image_texel.specs.Making.{viewRefusal, viewSides};
-ghost use Rattle.image_texel.specs.Asking.{shownTexel, askedIn, askedAt, refusedAsking};
-ghost use Rattle.image_texel.specs.inner.Fits.{Fits};
+ghost use Rattle.image_texel.specs.Asking.{askedIn, askedAt, refusedAsking};
+ghost use Rattle.image_texel.specs.inner.Fits.{shownTexel, Fits};
 
 // The sides that a view is made with, and the refusal of making it, 0 for none.
 pub struct Sides {

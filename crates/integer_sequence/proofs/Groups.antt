@@ -16,7 +16,8 @@ use Rattle.encoding.specs.Encoding.{groupSize, radix, codeBits, sequenceBits}
 use Rattle.encoding.proofs.Laws.{size-pos}
 use Rattle.integer_sequence.specs.Codes.{digit}
 use Rattle.integer_sequence.specs.inner.Entries.{digitsEntry, groupNumbers}
-use Rattle.integer_sequence.specs.Reading.{shareBits, share, codeAt, number, Narrow}
+use Rattle.integer_sequence.specs.Reading.{shareBits, share, codeAt, number}
+use Rattle.integer_sequence.specs.inner.Sequences.{Narrow}
 use Rattle.integer_sequence.proofs.Codes.{digit-lt}
 use Rattle.integer_sequence.proofs.Places.{bits-zero, bits-group, share-group, place-next, place-mono, code-lt}
 

@@ -17,7 +17,8 @@ use Rattle.encoding.specs.Encoding.{groupSize, radix, codeBits, sequenceBits}
 use Rattle.encoding.proofs.Laws.{size-pos}
 use Rattle.integer_sequence.specs.Codes.{digit}
 use Rattle.integer_sequence.specs.Reading.{shareBits, share, codeAt, number, sequenceAt}
-use Rattle.integer_sequence.specs.Writing.{digitsOf, groupCode, item, packed}
+use Rattle.integer_sequence.specs.Writing.{digitsOf, groupCode, item, packed, InRange}
+use Rattle.integer_sequence.specs.RoundTrip.{PackedReadBack}
 use Rattle.integer_sequence.proofs.Codes.{Below, code-lt, code-digit}
 use Rattle.integer_sequence.proofs.Places.{bits-zero, bits-next, share-group, code-mono, place-next}
 use Rattle.bits.proofs.Fields.{field-lt, field-past, field-low, field-high, stream-ext, restream, stream-lt, stream-at, pos-mono}
@@ -66,7 +67,7 @@ module _ (κ : Encoding) (b : ℕ) (xs : List ℕ) where
       ap (getD (digits g) k) (sym z) ∙ List·getD-map (λ x. x / 2 ^ b) (take (groupSize κ) (drop (g * groupSize κ) xs)) k 0
       ∙ ap (λ (x : ℕ). x / 2 ^ b) (getD-take (groupSize κ) (drop (g * groupSize κ) xs) k 0 l ∙ getD-drop (g * groupSize κ) xs k 0)
 
-  module _ (fit : (i : ℕ) → i < length xs → getD xs i 0 < radix κ * 2 ^ b) where
+  module _ (fit : InRange κ b xs) where
     pub digits-below : (g : ℕ) → Below (radix κ) (digits g)
     digits-below g k h = rw digit-at (div-lt-iff-lt-mul (pow-pos b) .1 (fit (g * groupSize κ + k) (omega (arith, count g))))
 
@@ -107,10 +108,8 @@ module _ (κ : Encoding) (b : ℕ) (xs : List ℕ) where
     unfolding number
     round-trip i h = rw (code-is (i / groupSize κ), digit-is i h, low-at i h) (div-add-mod' (getD xs i 0) (2 ^ b))
 
--- THE ROUND TRIP: the numbers xs, laid from bit `from` on, are read back, whatever lies below bit `from` and above their end
-pub round-trip-at : (κ : Encoding) (b : ℕ) (xs : List ℕ) → ((i : ℕ) → i < length xs → getD xs i 0 < radix κ * 2 ^ b)
-    → (hi lo from : ℕ) → lo < 2 ^ from → (i : ℕ) → i < length xs
-    → number κ b (sequenceAt κ b ((hi * 2 ^ sequenceBits κ b (length xs) + packed κ b xs) * 2 ^ from + lo) from (length xs)) i ≡ getD xs i 0
+-- THE ROUND TRIP (specs/RoundTrip.antt)
+pub round-trip-at : PackedReadBack
 unfolding sequenceAt field
 round-trip-at κ b xs fit hi lo from h i l =
     rw (high (hi * 2 ^ sequenceBits κ b (length xs) + packed κ b xs) from h, low hi (sequenceBits κ b (length xs)) (packed-lt κ b xs)) (round-trip κ b xs fit i l)

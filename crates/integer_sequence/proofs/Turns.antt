@@ -18,7 +18,8 @@ use Rattle.encoding.specs.declared.Encoding.the-variants.{Bits, Trits, Quints}
 use Rattle.encoding.specs.declared.Stored.{Stored}
 use Rattle.encoding.specs.Encoding.{groupSize, sequenceBits}
 use Rattle.integer_sequence.specs.inner.Entries.{groupNumbers}
-use Rattle.integer_sequence.specs.Reading.{number, numbers, stored, Narrow}
+use Rattle.integer_sequence.specs.Reading.{number, numbers, stored}
+use Rattle.integer_sequence.specs.inner.Sequences.{Narrow}
 use Rattle.integer_sequence.proofs.Places.{bits-zero}
 use Rattle.integer_sequence.proofs.Groups.{place-group, number-in, in-group}
 

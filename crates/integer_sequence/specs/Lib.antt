@@ -1,4 +1,5 @@
 pub mod Codes
 pub mod Reading
 pub mod Writing
+pub mod RoundTrip
 pub mod inner

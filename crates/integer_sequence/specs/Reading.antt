@@ -1,10 +1,10 @@
 -- 000, "Integer Sequence Encoding", and 01, "Packed numbers": the numbers of a sequence.
 -- Assumes nothing.
-use Prim.Native.Nat.{ℕ, zero, suc, _+_, _-_, _*_, _/_, _%_, _^_, _≤_}
+use Prim.Native.Nat.{ℕ, suc, _+_, _-_, _*_, _/_, _%_, _^_}
 use mathlib.Core.List.{List}
 use Rattle.laws.specs.Table.{padded}
 use Rattle.bits.specs.Field.{field, stream}
-use Rattle.encoding.specs.Encoding.{groupSize, radix, codeBits, sequenceBits}
+use Rattle.encoding.specs.Encoding.{groupSize, codeBits, sequenceBits}
 use Rattle.encoding.specs.declared.Encoding.{Encoding}
 use Rattle.encoding.specs.declared.Stored.{Stored}
 use Rattle.integer_sequence.specs.Codes.{digit}
@@ -40,7 +40,3 @@ stored v = record { 0 = v }
 unfoldable pub numbers : Encoding → ℕ → ℕ → ℕ → List Stored
 unfolding padded number
 numbers e b s n = padded 64 n (λ i. stored (number e b s i)) (stored 0)
-
--- numbers with b bits each fit a byte
-abbrev pub Narrow : Encoding → ℕ → Type 0
-Narrow e b = radix e * 2 ^ b ≤ 256

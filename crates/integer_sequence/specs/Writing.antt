@@ -1,7 +1,7 @@
 -- 01, "Packed numbers": "The writer takes the smallest code whose present digits are the wanted ones, and leaves spare bits 0."
 -- Assumes nothing.
 use mathlib.Core.Path.{_≡_}
-use Prim.Native.Nat.{ℕ, zero, suc, _+_, _-_, _*_, _/_, _%_, _^_, _≤_, _<_}
+use Prim.Native.Nat.{ℕ, zero, suc, _+_, _*_, _/_, _%_, _^_, _≤_, _<_}
 use mathlib.Core.Bool.{Bool, true, false}
 use mathlib.Core.List.{List, [], _∷_, map}
 use lib.Dec.{eqb}
@@ -56,11 +56,6 @@ InRange e b xs = (i : ℕ) → i < length xs → getD xs i 0 < radix e * 2 ^ b
 -- the numbers that a list of stored ones holds
 abbrev pub values : List Stored → List ℕ
 values xs = map (λ (s : Stored). s .0) xs
-
--- the block with number B, its bits below bit `from` kept, and from there on the sequence of the numbers xs
-unfoldable pub withSequence : Encoding → ℕ → ℕ → ℕ → List ℕ → ℕ
-unfolding field packed
-withSequence e b B from xs = (field B 0 from + packed e b xs * 2 ^ from) % 2 ^ 128
 
 -- "the smallest code whose present digits are the wanted ones", without the search: of the codes of the sequence v of n numbers x with b
 -- bits each every present digit is the wanted one, and so it is with no smaller code

@@ -11,7 +11,8 @@ ghost use Rattle.bits.specs.Block.{blockNumber};
 ghost use Rattle.encoding.specs.declared.Encoding.the-variants.{Bits, Trits, Quints};
 ghost use Rattle.encoding.specs.declared.Stored.{Stored};
 ghost use Rattle.integer_sequence.specs.inner.Entries.{groupNumbers};
-ghost use Rattle.integer_sequence.specs.Reading.{codeAt, numbers, stored, Narrow};
+ghost use Rattle.integer_sequence.specs.Reading.{codeAt, numbers, stored};
+ghost use Rattle.integer_sequence.specs.inner.Sequences.{Narrow};
 
 // The w bits of g from bit p on.
 pub fn cut(g: u64, p: u32, w: u32) -> u64

@@ -2,7 +2,7 @@
 // where an array would be made anew at each call.
 ghost use mathlib.Core.Path.{_≡_};
 ghost use Prim.Native.Nat.{_^_, _<_};
-ghost use Rattle.encoding.specs.declared.Encoding.the-variants.{Bits, Trits, Quints};
+ghost use Rattle.encoding.specs.declared.Encoding.the-variants.{Trits, Quints};
 ghost use Rattle.integer_sequence.specs.inner.Entries.{digitsEntry, fourEntries};
 
 // The digits of the codes 4i to 4i + 3, two bits further up for each.

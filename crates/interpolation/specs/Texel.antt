@@ -1,16 +1,12 @@
 -- 000, "Weight Application" and "Dual-Plane Decoding": a texel from an expanded pair and its weights.
 -- Assumes nothing.
-use mathlib.Core.Path.{_≡_}
-use Prim.Native.Nat.{ℕ, _+_, _-_, _*_, _/_, _%_, _≤_}
+use Prim.Native.Nat.{ℕ, _+_, _-_, _*_, _/_, _%_}
 use lib.Dec.{eqb}
 use lib.ListN.{getD}
 use Rattle.laws.specs.Choice.{pick}
 use Rattle.encoding.specs.declared.Level.{Level}
-use Rattle.endpoint_arithmetic.specs.declared.EndpointPair.{EndpointPair}
 use Rattle.interpolation.specs.declared.ExpandedPair.{ExpandedPair}
 use Rattle.interpolation.specs.declared.Texel.{Texel}
-use Rattle.interpolation.specs.declared.Kind.{Kind}
-use Rattle.interpolation.specs.Expansion.{expandedPair}
 
 -- C = floor( (C0*(64-i) + C1*i + 32)/64 ), 01: "over the widened pair"; for a weight above 64, which no table gives, 64-i counts 0
 unfoldable pub mixOf : ℕ → ℕ → ℕ → ℕ
@@ -28,8 +24,3 @@ module _ (p : ExpandedPair) (first second : Level) (component : ℕ) where
   -- R, G, B and A
   unfoldable pub texelOf : Texel
   texelOf = record { r = channelOf 0; g = channelOf 1; b = channelOf 2; a = channelOf 3 }
-
--- the texel of a pair of bytes and weights of 0..64, in a kind
-pub record Mixes (kind : Kind) (p : EndpointPair) (first second component : ℕ) (r : Texel) : Type 0 where
-  pub mixed : ((c : ℕ) → getD (p .e0) c 0 ≤ 255) → ((c : ℕ) → getD (p .e1) c 0 ≤ 255) → first ≤ 64 → second ≤ 64
-      → r ≡ texelOf (expandedPair kind p) (record { 0 = first }) (record { 0 = second }) component

@@ -2,10 +2,10 @@
 ghost use mathlib.Core.Path.{_≡_};
 ghost use Prim.Native.Nat.{_*_, _/_};
 ghost use Rattle.endpoint_arithmetic.specs.declared.EndpointPair.{EndpointPair};
-ghost use Rattle.encoding.specs.Levels.{firstLevel, secondLevel};
+ghost use Rattle.encoding.specs.inner.Levels.{firstLevel, secondLevel};
 ghost use Rattle.interpolation.specs.declared.Kind.{Kind};
 ghost use Rattle.interpolation.specs.Expansion.{takesHdr};
-ghost use Rattle.interpolation.specs.Texel.{Mixes};
+ghost use Rattle.interpolation.specs.inner.Mixes.{Mixes};
 ghost use Rattle.interpolation.specs.inner.Line.{times, minus, onLine, lowOf, addOf, lineOf, lineTexel};
 ghost use lib.Dec.{eqb};
 ghost use Rattle.laws.specs.Choice.{pick};

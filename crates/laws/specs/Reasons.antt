@@ -1,7 +1,7 @@
 -- Reasons in order, as the documents list refusals and faults: whether each holds, and the number that is told of it.
 -- Assumes nothing.
 use Prim.Native.Nat.{ℕ, zero, suc}
-use mathlib.Core.Bool.{Bool, true, false}
+use mathlib.Core.Bool.{Bool, false}
 use mathlib.Core.List.{List, [], _∷_}
 use lib.ListN.{getD}
 use Rattle.laws.specs.Choice.{pick, either}

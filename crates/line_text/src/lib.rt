@@ -1,8 +1,8 @@
 // Lines of decimal numbers (01, "The program"), into a lent buffer.
 use interpolation::Kind;
 ghost use mathlib.Core.Path.{_≡_};
-ghost use mathlib.Core.List.{List, [], _∷_, _++_};
-ghost use Prim.Native.Nat.{ℕ, _+_, _*_, _/_, _%_, _≤_, _<_};
+ghost use mathlib.Core.List.{[], _∷_, _++_};
+ghost use Prim.Native.Nat.{_+_, _*_, _/_, _%_, _≤_, _<_};
 ghost use lib.ListN.{length, getD};
 ghost use Rattle.interpolation.specs.Expansion.{shownOf};
 ghost use Rattle.line_text.specs.Lines.{decimalDigit, decimal, spaced, texelLine};

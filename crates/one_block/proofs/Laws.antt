@@ -10,11 +10,10 @@ use lib.Dec.{eqb, ltb}
 use lib.ListN.{length, getD}
 use borrow.Author.Tests.{lt-ltb, le-ltb, ltb-false, eq-eqb, ne-eqb, eqb-true}
 use Rattle.laws.specs.Choice.{pick}
-use Rattle.laws.specs.Table.{tab}
+use Rattle.laws.specs.Table.{tab, Bytes}
 use Rattle.laws.proofs.Filling.{tab-ext}
 use Rattle.bits.specs.Field.{field}
 use Rattle.bits.specs.Block.{numberOf}
-use Rattle.bits.proofs.Blocks.{Bytes}
 use Rattle.bits.proofs.Halves.{loaded}
 use Rattle.footprint.proofs.Laws.{texels-le}
 use Rattle.footprint.specs.Footprint.{texelsOf}

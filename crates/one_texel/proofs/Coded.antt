@@ -9,7 +9,7 @@ use lib.Dec.{eqb}
 use lib.ListN.{getD}
 use Rattle.laws.specs.Choice.{pick}
 use Rattle.encoding.specs.declared.LevelPair.{LevelPair}
-use Rattle.encoding.specs.Levels.{firstLevel, secondLevel}
+use Rattle.encoding.specs.inner.Levels.{firstLevel, secondLevel}
 use Rattle.footprint.specs.Footprint.{widthOf, heightOf, isVolume, isSmall}
 use Rattle.weight_grid.specs.Place.{scaleOf, gridPlace}
 use Rattle.weight_grid.specs.inner.Points.{readOf}

@@ -12,7 +12,7 @@ ghost use mathlib.Core.List.{[], _∷_};
 ghost use Prim.Native.Nat.{_+_, _*_, _/_, _%_, _^_, _≤_, _<_, min};
 ghost use Rattle.laws.specs.Table.{padded};
 ghost use Rattle.bits.specs.Block.{blockNumber};
-ghost use Rattle.encoding.specs.Levels.{firstLevel, secondLevel};
+ghost use Rattle.encoding.specs.inner.Levels.{firstLevel, secondLevel};
 ghost use Rattle.quantization.specs.Ranges.{encodingAt, bitsAt};
 ghost use Rattle.quantization.specs.Unquantise.{unquantEndpoint};
 ghost use Rattle.integer_sequence.specs.Reading.{number, sequenceAt};

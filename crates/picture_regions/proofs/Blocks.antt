@@ -11,9 +11,9 @@ use Rattle.laws.specs.Table.{tab}
 use Rattle.laws.proofs.Filling.{Filled, filled-all}
 use Rattle.image_size.specs.Sides.{blocksAcross}
 use Rattle.image_size.proofs.Laws.{across-covers}
-use Rattle.picture_regions.specs.Picture.{place, Picture, blockIn}
+use Rattle.picture_regions.specs.Picture.{place}
+use Rattle.picture_regions.specs.inner.Regions.{Picture, blockIn, RowsCopied, Cropped, Tile}
 use Rattle.picture_regions.proofs.Covering.{below-row, in-piece, quotient, remainder}
-use Rattle.picture_regions.proofs.Regions.{Placed}
 
 -- blocks cover the picture
 pub record Covered (p : Picture) : Type 0 where
@@ -22,23 +22,11 @@ pub record Covered (p : Picture) : Type 0 where
   pub across : p .across ≡ blocksAcross (p .width) (p .columns)
   pub row-lt : (q : ℕ) → q < p .rows → p .row q < p .down
 
--- how many of n places from `at` on are within a side
-pub record Cropped (side at n r : ℕ) : Type 0 where
-  pub in-block : r ≤ n
-  pub in-side : at + r ≤ side
-  pub all : (d : ℕ) → d < n → at + d < side → d < r
-
 -- q is one of n rows that are copied to
 pub record Reached (to : ℕ → ℕ) (n q : ℕ) : Type 0 where
   pub index : ℕ
   pub below : index < n
   pub is : to index ≡ q
-
--- new is old, but block b, as far as it is within the picture, shows f
-pub record Tile (p : Picture) (b : ℕ) (f : ℕ → ℕ → ℕ → ℕ) (old new : List ℕ) : Type 0 where
-  pub inside : (x q c : ℕ) → x < p .width → q < p .rows → c < 4 → blockIn p x q ≡ b → getD new (place (p .width) x q c) 0 ≡ f x q c
-  pub outside : (x q c : ℕ) → x < p .width → q < p .rows → c < 4 → (blockIn p x q ≡ b → ⊥)
-      → getD new (place (p .width) x q c) 0 ≡ getD old (place (p .width) x q c) 0
 
 -- the first b blocks show f
 pub record ShownTo (p : Picture) (b : ℕ) (f : ℕ → ℕ → ℕ → ℕ) (new : List ℕ) : Type 0 where
@@ -57,7 +45,7 @@ module _ (p : Picture) (covered : Covered p) where
   pub tile-of : (show : ℕ → ℕ) (bx k cols n : ℕ) (to from : ℕ → ℕ) (f : ℕ → ℕ → ℕ → ℕ) (buf old new : List ℕ) → bx < p .across
       → Cropped (p .width) (bx * p .columns) (p .columns) cols
       → ((q : ℕ) → q < p .rows → p .row q ≡ k → Reached to n q) → ((i : ℕ) → i < n → p .row (to i) ≡ k)
-      → Placed show (p .width) (bx * p .columns) cols (p .columns) to from n buf old new
+      → RowsCopied show (p .width) (bx * p .columns) cols (p .columns) to from n buf old new
       → ((dx i c : ℕ) → dx < p .columns → i < n → c < 4 → show (getD buf (place (p .columns) dx (from i) c) 0) ≡ f (bx * p .columns + dx) (to i) c)
       → Tile p (k * p .across + bx) f old new
   unfolding blockIn

@@ -11,13 +11,9 @@ use lib.ListN.{length, getD, set, length-set}
 use lib.Seq.{getD-set-same, getD-set-other}
 use Rattle.picture_regions.specs.Picture.{place}
 use Rattle.picture_regions.proofs.Covering.{below-row}
+use Rattle.picture_regions.specs.inner.Regions.{Pasted, RowsCopied}
 
 -- ---- a run of numbers
-
--- new is old, but with n numbers of src, from `from` on, shown at `at`
-pub record Pasted (show : ℕ → ℕ) (src : List ℕ) (from n : ℕ) (old : List ℕ) (at : ℕ) (new : List ℕ) : Type 0 where
-  pub inside : (k : ℕ) → k < n → getD new (at + k) 0 ≡ show (getD src (from + k) 0)
-  pub outside : (k : ℕ) → (at ≤ k → k < at + n → ⊥) → getD new k 0 ≡ getD old k 0
 
 module _ (show : ℕ → ℕ) (src : List ℕ) (from : ℕ) (old : List ℕ) (at : ℕ) where
   pub pasted-none : Pasted show src from 0 old at old
@@ -52,23 +48,16 @@ module _ (show : ℕ → ℕ) (src : List ℕ) (from : ℕ) (old : List ℕ) (at
 
 -- ---- rows of a block
 
--- n rows of cols texels from column x0 on are copied: row `from i` of buf, whose rows have bw texels, to row `to i`; the rest is as it was
-pub record Placed (show : ℕ → ℕ) (w x0 cols bw : ℕ) (to from : ℕ → ℕ) (n : ℕ) (buf old new : List ℕ) : Type 0 where
-  pub inside : (dx i c : ℕ) → dx < cols → i < n → c < 4
-      → getD new (place w (x0 + dx) (to i) c) 0 ≡ show (getD buf (place bw dx (from i) c) 0)
-  pub outside : (x q c : ℕ) → x < w → c < 4 → (x0 ≤ x → x < x0 + cols → (i : ℕ) → i < n → q ≡ to i → ⊥)
-      → getD new (place w x q c) 0 ≡ getD old (place w x q c) 0
-
 -- where as much is shown of every number
 pub placed-as : (show other : ℕ → ℕ) → ((k : ℕ) → show k ≡ other k) → (w x0 cols bw : ℕ) (to from : ℕ → ℕ) (n : ℕ) (buf old new : List ℕ)
-    → Placed show w x0 cols bw to from n buf old new → Placed other w x0 cols bw to from n buf old new
+    → RowsCopied show w x0 cols bw to from n buf old new → RowsCopied other w x0 cols bw to from n buf old new
 placed-as show other same w x0 cols bw to from n buf old new p = record {
   inside = λ dx i c a b h. p .inside dx i c a b h ∙ same _;
   outside = p .outside;
 }
 
 module _ (show : ℕ → ℕ) (w x0 cols bw : ℕ) (to from : ℕ → ℕ) (buf old : List ℕ) where
-  pub placed-none : Placed show w x0 cols bw to from 0 buf old old
+  pub placed-none : RowsCopied show w x0 cols bw to from 0 buf old old
   placed-none = record { inside = λ dx i c a b h. absurd (not-suc-le-zero b); outside = λ x q c a b h. refl }
 
   -- numbers of two rows are the same only in one row
@@ -80,8 +69,8 @@ module _ (show : ℕ → ℕ) (w x0 cols bw : ℕ) (to from : ℕ → ℕ) (buf 
         | no e ↦ let s = below-row w r q (omega (arith, ne)) in omega arith
       ]
 
-  pub placed-more : (n : ℕ) (l new : List ℕ) → x0 + cols ≤ w → ((i : ℕ) → i < n → to i ≡ to n → ⊥) → Placed show w x0 cols bw to from n buf old l
-      → Pasted show buf (4 * (from n * bw)) (4 * cols) l (4 * (to n * w + x0)) new → Placed show w x0 cols bw to from (n + 1) buf old new
+  pub placed-more : (n : ℕ) (l new : List ℕ) → x0 + cols ≤ w → ((i : ℕ) → i < n → to i ≡ to n → ⊥) → RowsCopied show w x0 cols bw to from n buf old l
+      → Pasted show buf (4 * (from n * bw)) (4 * cols) l (4 * (to n * w + x0)) new → RowsCopied show w x0 cols bw to from (n + 1) buf old new
   placed-more n l new fits other p q = record {
     inside = λ dx i c a b h.
         elim (ℕ-discrete i n) [

@@ -11,7 +11,8 @@ use native.Mathlib.Decide.{decLt}
 use Rattle.bits.specs.Field.{field}
 use Rattle.bits.specs.Block.{numberOf, blockNumber}
 use Rattle.bits.specs.declared.PhysicalBlock.{PhysicalBlock}
-use Rattle.bits.proofs.Blocks.{Bytes, number-lt}
+use Rattle.bits.proofs.Blocks.{number-lt}
+use Rattle.laws.specs.Table.{Bytes}
 use Rattle.bits.proofs.Halves.{low-whole, one-shl}
 use Rattle.pvrtc_order.proofs.Once.{once}
 use Rattle.pvrtc_order.specs.Order.{wordPlace}

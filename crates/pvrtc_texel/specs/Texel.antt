@@ -1,7 +1,6 @@
 -- 002, "PVRTC1 4bpp color reconstruction samples" to "color modulation": a texel from the words of an image.
 -- Assumes nothing.
 use Prim.Native.Nat.{ℕ, _+_, _-_, _*_, _/_, _%_}
-use mathlib.Core.Bool.{Bool}
 use lib.Dec.{eqb}
 use Rattle.laws.specs.Choice.{pick, both}
 use Rattle.pvrtc_texel.specs.Word.{colourA, colourB, modulationWeight, punched}

@@ -8,7 +8,7 @@ ghost use Prim.Native.Nat.{ℕ, _+_, _-_, _≤_, min};
 ghost use lib.Dec.{eqb};
 ghost use Rattle.laws.specs.Choice.{pick};
 ghost use Rattle.encoding.specs.declared.Encoding.the-variants.{Bits, Trits, Quints};
-ghost use Rattle.encoding.specs.Levels.{levelPair};
+ghost use Rattle.encoding.specs.inner.Levels.{levelPair};
 ghost use Rattle.quantization.specs.Ranges.{encodingAt, bitsAt, mostAt, rangeBits, endpointRange};
 ghost use Rattle.quantization.specs.inner.CodeBits.{codesOf};
 ghost use Rattle.quantization.specs.Unquantise.{unquantEndpoint, unquantWeight};

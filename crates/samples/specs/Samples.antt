@@ -6,13 +6,13 @@ use Prim.Native.Nat.{ℕ, _-_, _/_, _%_, _^_}
 use mathlib.Core.List.{List, [], _∷_, map}
 use lib.IntN.{ℤ, pos, negℤ}
 use Rattle.encoding.specs.declared.Encoding.the-variants.{Trits}
-use Rattle.encoding.specs.declared.Level.{Level}
 use Rattle.quantization.specs.Ranges.{mostAt, rangeBits}
 use Rattle.quantization.specs.Unquantise.{unquantEndpoint, unquantWeight}
 use Rattle.integer_sequence.specs.Codes.{tritsOf, quintsOf}
 use Rattle.integer_sequence.specs.Writing.{codeOf}
 use Rattle.footprint.specs.Footprint.{widthOf}
 use Rattle.weight_grid.specs.Place.{scaleOf, gridPlace}
+use Rattle.weight_grid.specs.Cell.{level}
 use Rattle.endpoint_arithmetic.specs.declared.EndpointPair.{EndpointPair}
 use Rattle.endpoint_arithmetic.specs.Signed.{bitTransfer}
 use Rattle.color_endpoint.specs.Modes.{pairOf}
@@ -33,9 +33,6 @@ pub record Sample : Type 0 where
 -- an entry whose numbers are all natural
 abbrev pub sample : List ℕ → List ℕ → Sample
 sample computed wanted = record { computed = map pos computed; wanted = map pos wanted }
-
-abbrev level : ℕ → Level
-level n = record { 0 = n }
 
 -- the four numbers that a kind shows of a texel
 abbrev pub shown : Kind → Texel → List ℕ

@@ -7,10 +7,10 @@ use mathlib.Core.List.{[], _∷_}
 use Prim.Native.Nat.{ℕ, zero, suc, _+_, _-_, _/_, _%_, _≤_, _<_, suc-le-suc}
 use native.Mathlib.Nat.{le-of-suc-le-suc, not-suc-le-zero, add-zero, add-suc, suc-add}
 use native.Mathlib.Omega.{arith}
-use lib.Dec.{T, eqb}
+use lib.Dec.{eqb}
 use borrow.Author.Tests.{eq-eqb, ne-eqb, eqb-true}
-use Rattle.laws.specs.Choice.{both}
 use Rattle.laws.specs.Table.{tab, tabFrom}
+use Rattle.laws.proofs.Computed.{both-true}
 use Rattle.bits.specs.Field.{field, stream}
 use Rattle.encoding.specs.declared.Encoding.{Encoding}
 use Rattle.encoding.specs.declared.Encoding.the-variants.{Trits, Quints}
@@ -25,20 +25,12 @@ use Rattle.sequence_end.proofs.Missing.{missing-none}
 
 -- ---- lists of zeros
 
-left : (a b : Bool) → both a b ≡ true → a ≡ true
-left true b e = refl
-left false b e = e
-
-right : (a b : Bool) → both a b ≡ true → b ≡ true
-right true b e = e
-right false b e = absurd (subst T (sym e) tt)
-
 zero-at : (f : ℕ → ℕ) (i m : ℕ) → allZero (tabFrom f i m) ≡ true → (k : ℕ) → k < m → f (i + k) ≡ 0
 unfolding tabFrom
 zero-at f i zero e k h = absurd (not-suc-le-zero h)
-zero-at f i (suc m) e zero h = rw add-zero (eqb-true (f i) 0 (left (eqb (f i) 0) (allZero (tabFrom f (suc i) m)) e))
+zero-at f i (suc m) e zero h = rw add-zero (eqb-true (f i) 0 (both-true (eqb (f i) 0) (allZero (tabFrom f (suc i) m)) e .0))
 zero-at f i (suc m) e (suc k) h =
-    rw (add-suc, ← suc-add) (zero-at f (suc i) m (right (eqb (f i) 0) (allZero (tabFrom f (suc i) m)) e) k (le-of-suc-le-suc h))
+    rw (add-suc, ← suc-add) (zero-at f (suc i) m (both-true (eqb (f i) 0) (allZero (tabFrom f (suc i) m)) e .1) k (le-of-suc-le-suc h))
 
 at-zero : (f : ℕ → ℕ) (i m : ℕ) → ((k : ℕ) → k < m → f (i + k) ≡ 0) → allZero (tabFrom f i m) ≡ true
 unfolding tabFrom

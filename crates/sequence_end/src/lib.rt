@@ -6,7 +6,7 @@ ghost use mathlib.Core.Path.{_≡_};
 ghost use Prim.Native.Nat.{_≤_, _<_};
 ghost use Rattle.bits.specs.Block.{blockNumber};
 ghost use Rattle.encoding.specs.declared.Encoding.the-variants.{Trits, Quints};
-ghost use Rattle.integer_sequence.specs.Reading.{Narrow};
+ghost use Rattle.integer_sequence.specs.inner.Sequences.{Narrow};
 ghost use Rattle.sequence_end.specs.Ending.{missingZero, sequenceOf};
 
 // The numbers, the position after the last bit, counted from the first, and whether the missing digits are zero.

@@ -15,7 +15,8 @@ use Rattle.encoding.specs.Encoding.{groupSize, sequenceBits}
 use Rattle.encoding.proofs.Laws.{size-pos}
 use Rattle.integer_sequence.specs.Codes.{digit}
 use Rattle.integer_sequence.specs.inner.Entries.{groupNumbers}
-use Rattle.integer_sequence.specs.Reading.{number, Narrow}
+use Rattle.integer_sequence.specs.Reading.{number}
+use Rattle.integer_sequence.specs.inner.Sequences.{Narrow}
 use Rattle.integer_sequence.proofs.Groups.{number-alone, number-byte}
 use Rattle.sequence_numbers.specs.declared.StoredEight.{StoredEight}
 use Rattle.sequence_numbers.specs.inner.Eight.{Eight}

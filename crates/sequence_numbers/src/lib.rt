@@ -7,7 +7,8 @@ ghost use Prim.Native.Nat.{_+_, _*_, _/_, _%_, _^_, _≤_, _<_};
 ghost use Rattle.bits.specs.Block.{blockNumber};
 ghost use Rattle.encoding.specs.declared.Encoding.the-variants.{Bits, Trits, Quints};
 ghost use Rattle.quantization.specs.Ranges.{encodingAt, bitsAt};
-ghost use Rattle.integer_sequence.specs.Reading.{number, stored, Narrow};
+ghost use Rattle.integer_sequence.specs.Reading.{number, stored};
+ghost use Rattle.integer_sequence.specs.inner.Sequences.{Narrow};
 ghost use Rattle.sequence_numbers.specs.inner.Eight.{eight, Eight};
 
 // Eight stored numbers in one, the first in bits 7..0.

@@ -3,13 +3,13 @@
 use encoding::Stored;
 ghost use mathlib.Core.Path.{_≡_};
 ghost use mathlib.Core.List.{[], _∷_, map};
-ghost use Prim.Native.Nat.{ℕ, _+_, _*_, _/_, _%_, _^_, _≤_, _<_};
+ghost use Prim.Native.Nat.{_+_, _*_, _/_, _%_, _^_, _≤_, _<_};
 ghost use lib.ListN.{getD, take, drop};
 ghost use Rattle.bits.specs.Field.{stream};
 ghost use Rattle.encoding.specs.Encoding.{sequenceBits};
 ghost use Rattle.encoding.specs.declared.Encoding.the-variants.{Bits, Trits, Quints};
 ghost use Rattle.integer_sequence.specs.Writing.{codeOf, packed, values};
-ghost use Rattle.smallest_codes.specs.inner.Tables.{smallestCodes};
+ghost use Rattle.smallest_codes.specs.Smallest.{smallestCodes};
 ghost use Rattle.sequence_words.specs.inner.Words.{groupWord, Absent};
 
 fn value(s: Stored) -> u64

@@ -18,7 +18,8 @@ use Rattle.encoding.specs.declared.Stored.{Stored}
 use Rattle.encoding.specs.Encoding.{groupSize, sequenceBits}
 use Rattle.encoding.proofs.Laws.{code-le}
 use Rattle.integer_sequence.specs.Reading.{shareBits}
-use Rattle.integer_sequence.specs.Writing.{codeOf, digitsOf, groupCode, item, packed, values, withSequence}
+use Rattle.integer_sequence.specs.Writing.{codeOf, digitsOf, groupCode, item, packed, values}
+use Rattle.integer_sequence.specs.inner.Sequences.{withSequence}
 use Rattle.integer_sequence.proofs.Places.{share-group, place-next}
 use Rattle.integer_sequence.proofs.Groups.{place-group}
 use Rattle.integer_sequence.proofs.RoundTrip.{item-lt}

@@ -8,7 +8,8 @@ ghost use lib.ListN.{take};
 ghost use Rattle.bits.specs.Block.{blockNumber};
 ghost use Rattle.encoding.specs.declared.Encoding.the-variants.{Bits, Trits, Quints};
 ghost use Rattle.quantization.specs.Ranges.{encodingAt, bitsAt};
-ghost use Rattle.integer_sequence.specs.Writing.{values, withSequence};
+ghost use Rattle.integer_sequence.specs.Writing.{values};
+ghost use Rattle.integer_sequence.specs.inner.Sequences.{withSequence};
 
 fn smaller(a: usize, b: usize) -> usize
     ensures { λ r. ⌜ r ≡ min a b ⌝ }

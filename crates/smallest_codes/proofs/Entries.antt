@@ -24,7 +24,7 @@ use Rattle.integer_sequence.specs.Writing.{begins, first, codeOf}
 use Rattle.integer_sequence.proofs.Codes.{Below, code-lt, code-digit, codes}
 use Rattle.integer_sequence.proofs.Places.{code-mono}
 use Rattle.integer_sequence.proofs.Search.{begins-all, code-least}
-use Rattle.smallest_codes.specs.inner.Tables.{digitsIn, smallestCodes, SmallestCode}
+use Rattle.smallest_codes.specs.Smallest.{digitsIn, smallestCodes, SmallestCode, TablesSmallest}
 
 -- the number whose digits in base r are ds, the first lowest
 abbrev pub numberIn : ℕ → List ℕ → ℕ
@@ -65,7 +65,7 @@ codes-le : (κ : Encoding) (n : ℕ) → n ≤ groupSize κ → 2 ^ codeBits κ 
 codes-le κ n h = le-trans (pow-mono (code-mono κ (groupSize κ) n h)) (codes κ)
 
 -- THE TABLES: each entry's code gives the wanted digits, and no smaller code does
-pub entry-smallest : (κ : Encoding) (m j : ℕ) → m ≤ groupSize κ → j < radix κ ^ m → SmallestCode κ (digitsIn (radix κ) m j) (getD (smallestCodes κ m) j 0)
+pub entry-smallest : TablesSmallest
 unfolding smallestCodes
 entry-smallest κ m j h l = rw (getD-tab (λ i. codeOf κ (digitsIn (radix κ) m i)) (radix κ ^ m) j 0 l) (record { wanted = wanted; least = least })
   where

@@ -1,8 +1,8 @@
 // The smallest code of every list of digits of a cut group, a table for each length. What is not there may be any digit: of 2, 1, 0, 2
 // it is 62, while that of 2, 1, 0, 2, 0 is 70.
 ghost use mathlib.Core.Path.{_≡_};
-ghost use Rattle.encoding.specs.declared.Encoding.the-variants.{Bits, Trits, Quints};
-ghost use Rattle.smallest_codes.specs.inner.Tables.{smallestCodes};
+ghost use Rattle.encoding.specs.declared.Encoding.the-variants.{Trits, Quints};
+ghost use Rattle.smallest_codes.specs.Smallest.{smallestCodes};
 
 const ONE_TRIT: [u8; 3] = [0, 1, 2];
 

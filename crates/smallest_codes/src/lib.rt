@@ -4,9 +4,9 @@ pub mod whole;
 
 ghost use mathlib.Core.Path.{_≡_};
 ghost use mathlib.Core.List.{[], _∷_};
-ghost use Rattle.encoding.specs.declared.Encoding.the-variants.{Bits, Trits, Quints};
+ghost use Rattle.encoding.specs.declared.Encoding.the-variants.{Trits, Quints};
 ghost use Rattle.integer_sequence.specs.Writing.{codeOf};
-ghost use Rattle.smallest_codes.specs.inner.Tables.{smallestCodes};
+ghost use Rattle.smallest_codes.specs.Smallest.{smallestCodes};
 
 fn wide(x: u8) -> u64
     ensures { λ r. ⌜ r ≡ x ⌝ }

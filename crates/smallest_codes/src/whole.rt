@@ -1,8 +1,8 @@
 // The smallest code of every list of digits of a whole group. Entry j is for the digits of j in base 3 (trits) or 5 (quints), the first
 // lowest.
 ghost use mathlib.Core.Path.{_≡_};
-ghost use Rattle.encoding.specs.declared.Encoding.the-variants.{Bits, Trits, Quints};
-ghost use Rattle.smallest_codes.specs.inner.Tables.{smallestCodes};
+ghost use Rattle.encoding.specs.declared.Encoding.the-variants.{Trits, Quints};
+ghost use Rattle.smallest_codes.specs.Smallest.{smallestCodes};
 
 const FIVE_TRITS: [u8; 243] = [
     0,

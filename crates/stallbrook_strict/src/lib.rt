@@ -283,7 +283,7 @@ pub extern "C" fn stallbrook_astc_canonical_block(footprint: u8, block: &[u8], o
 fn refusal_or_5(footprint: u8, width: u32, height: u32, bytes: usize, places: usize) -> u8
     ensures { λ r. ⌜ r ≡ refusalOr5 (canonicalRefusal footprint width height bytes places) ⌝ }
 {
-    let e = canonical_image::frame_refusal(footprint, width, height, bytes, places);
+    let e = canonical_image::canonical_refusal(footprint, width, height, bytes, places);
     if e == 0 { 5 } else { e }
 }
 

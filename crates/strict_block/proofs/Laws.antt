@@ -21,7 +21,7 @@ use Rattle.block_fault.specs.declared.Verdict.{Verdict}
 use Rattle.block_fault.specs.declared.Verdict.the-variants as verdict
 use Rattle.block_fault.specs.inner.Stages.{stageIn}
 use Rattle.block_fault.specs.Bits.{modeAt, isVoid}
-use Rattle.block_fault.specs.Settings.{verdictOf, settingsOf}
+use Rattle.block_fault.specs.inner.Settings.{verdictOf, settingsOf}
 use Rattle.block_fault.specs.Faults.{faultOf}
 use Rattle.block_fault.proofs.ByKind.{fault-hdr}
 use Rattle.block_fault.proofs.Verdicts.{settings-verdict, told-fault, told-void, told-coded, coded-header, coded-numbers}
@@ -30,7 +30,7 @@ use Rattle.texel.specs.BlockTexel.{blockTexel, blockChannel, blockInto}
 use Rattle.block_core.specs.inner.Shows.{Shows}
 use Rattle.block_core.specs.declared.Decoded.{Decoded}
 use Rattle.block_core.specs.declared.Decoded.the-variants.{Uniform, Buffered}
-use Rattle.block_buffer.specs.Painted.{texelNumber, painted}
+use Rattle.block_buffer.specs.inner.Painted.{texelNumber, painted}
 use Rattle.block_core.proofs.Shows.{shows-fault}
 use Rattle.block_reading.specs.declared.Reading.the-variants.{Strict}
 use Rattle.block_reading.specs.Faults.{canonicalOf, strictFault}

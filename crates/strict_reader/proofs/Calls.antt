@@ -10,7 +10,8 @@ use Rattle.laws.proofs.Filling.{tab-all}
 use Rattle.bits.specs.Field.{field}
 use Rattle.bits.specs.Block.{numberOf, bytesOf}
 use Rattle.bits.proofs.Fields.{field-lt}
-use Rattle.bits.proofs.Blocks.{Bytes, bytes-number}
+use Rattle.bits.proofs.Blocks.{bytes-number}
+use Rattle.laws.specs.Table.{Bytes}
 use Rattle.block_answer.specs.declared.Answer.the-variants.{Faulty, Done}
 use Rattle.block_answer.specs.Told.{numberTold}
 use Rattle.symbolic_block.specs.declared.SymbolicBlock.{SymbolicBlock}

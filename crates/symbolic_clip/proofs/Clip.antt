@@ -19,7 +19,8 @@ use Rattle.footprint.specs.Footprint.{isVolume}
 use Rattle.block_mode.specs.declared.WeightGrid.{WeightGrid}
 use Rattle.block_header.specs.declared.BlockHeader.{BlockHeader}
 use Rattle.block_header.specs.Counts.{weightCount, endpointCount, endpointRangeOf}
-use Rattle.block_header.specs.Reasons.{someHdr, gridReasons, endpointReasons, endpointFault}
+use Rattle.block_header.specs.Reasons.{someHdr, gridReasons, endpointReasons}
+use Rattle.block_header.specs.inner.Stages.{endpointFault}
 use Rattle.laws.specs.Reasons.{Reason, when, firstOf}
 use Rattle.symbolic_block.specs.declared.SymbolicBlock.{SymbolicBlock}
 use Rattle.symbolic_block.specs.Fields.{sheetGrid, headerOf, isMarked, modeIn, endpointIn, weightIn, Sized}

@@ -13,7 +13,7 @@ use Rattle.laws.specs.Table.{tab}
 use Rattle.laws.proofs.Filling.{Filled, filled-all}
 use Rattle.encoding.specs.declared.Stored.{Stored}
 use Rattle.symbolic_block.specs.Fields.{storedIn}
-use Rattle.symbolic_numbers.specs.Numbers.{flatAt}
+use Rattle.symbolic_numbers.specs.inner.Numbers.{flatAt}
 
 -- the list is the old one, but for the n places from place p on, which hold v 0, v 1, ..
 pub record Laid (p n : ℕ) (v : ℕ → ℕ) (old new : List ℕ) : Type 0 where

@@ -24,7 +24,8 @@ use Rattle.symbolic_block.proofs.Lists.{tab-back, stored-back}
 use Rattle.symbolic_calls.specs.Writing.{wrote, wroteNothing, writingOf}
 use Rattle.symbolic_calls.proofs.Laws.{told-number}
 use Rattle.symbolic_reader.specs.declared.SymbolicReading.{SymbolicReading}
-use Rattle.symbolic_numbers.specs.Numbers.{settingsWith, settingNumbers, addedOf, flatAt, flatOf, blockOver, blockFrom, clippedNumbers, endpointsFit}
+use Rattle.symbolic_numbers.specs.Numbers.{settingsWith, settingNumbers, addedOf, flatOf, blockOver, blockFrom}
+use Rattle.symbolic_numbers.specs.inner.Numbers.{flatAt, clippedNumbers, endpointsFit}
 use Rattle.symbolic_numbers.specs.Calls.{refusedOr5, roomFor, putNumber, putNumbers, putSpare, lentRefusal, writeNumber, writeBlock}
 use Rattle.symbolic_clip.proofs.Clip.{clip, fits, refused-1}
 

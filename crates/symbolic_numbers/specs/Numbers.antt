@@ -1,17 +1,15 @@
 -- A symbolic block (01: sheet) as one list of 107 numbers, both ways: 01's fields in its order, then the HDR mark of 02, i,
 -- and what 02, h, adds: the grid's depth and the third axis' two extents.
 -- Assumes nothing.
-use Prim.Native.Nat.{ℕ, _+_, _-_, min}
-use mathlib.Core.Bool.{Bool}
+use Prim.Native.Nat.{ℕ, _+_}
 use mathlib.Core.List.{List, [], _∷_, _++_}
-use lib.Dec.{ltb, leb}
+use lib.Dec.{ltb}
 use lib.ListN.{getD}
-use Rattle.laws.specs.Choice.{pick, all}
+use Rattle.laws.specs.Choice.{pick}
 use Rattle.laws.specs.Table.{tab}
-use Rattle.encoding.specs.declared.Stored.{Stored}
 use Rattle.integer_sequence.specs.Reading.{stored}
 use Rattle.symbolic_block.specs.declared.SymbolicBlock.{SymbolicBlock}
-use Rattle.symbolic_block.specs.Fields.{colourIn, extentIn, modeIn, storedIn, endpointIn, weightIn}
+use Rattle.symbolic_block.specs.Fields.{colourIn, extentIn, modeIn, endpointIn, weightIn}
 
 -- ---- a symbolic block's list
 
@@ -37,11 +35,6 @@ addedOf s = s .hdr ∷ s .depth ∷ extentIn s 4 ∷ extentIn s 5 ∷ []
 unfoldable pub flatOf : SymbolicBlock → List ℕ
 unfolding tab
 flatOf s = settingNumbers s ++ (tab (endpointIn s) 18 ++ (tab (weightIn s) 64 ++ addedOf s))
-
--- its number i, by position
-abbrev pub flatAt : List ℕ → List Stored → List Stored → List ℕ → ℕ → ℕ
-flatAt settings endpoints weights added i =
-    pick (ltb i 21) (getD settings i 0) (pick (ltb i 39) (storedIn endpoints (i - 21)) (pick (ltb i 103) (storedIn weights (i - 39)) (getD added (i - 103) 0)))
 
 -- ---- a list's symbolic block
 
@@ -71,14 +64,3 @@ blockOver words bytes = record {
 -- the symbolic block of one list, its numbers as they are: also those that are too large for the struct's types
 abbrev pub blockFrom : List ℕ → SymbolicBlock
 blockFrom numbers = blockOver numbers numbers
-
--- ---- numbers above 255
-
--- the list with 255 for each number above it
-unfoldable pub clippedNumbers : List ℕ → List ℕ
-unfolding tab
-clippedNumbers numbers = tab (λ i. min (getD numbers i 0) 255) 107
-
--- no endpoint number is above 255
-unfoldable pub endpointsFit : List ℕ → Bool
-endpointsFit numbers = all (λ i. leb (getD numbers (21 + i) 0) 255) 18

@@ -15,7 +15,8 @@ ghost use Rattle.integer_sequence.specs.Reading.{stored};
 ghost use Rattle.symbolic_block.specs.Refusals.{unknownFootprint};
 ghost use Rattle.symbolic_refusal.specs.inner.Stages.{or34};
 ghost use Rattle.symbolic_calls.specs.Writing.{writingOf};
-ghost use Rattle.symbolic_numbers.specs.Numbers.{settingNumbers, flatOf, blockOver, blockFrom, clippedNumbers, endpointsFit};
+ghost use Rattle.symbolic_numbers.specs.Numbers.{settingNumbers, flatOf, blockOver, blockFrom};
+ghost use Rattle.symbolic_numbers.specs.inner.Numbers.{clippedNumbers, endpointsFit};
 ghost use Rattle.symbolic_numbers.specs.Calls.{refusedOr5, putNumber, putNumbers, putSpare, readNumber, readNumbers, readSpare, writeNumber, writeBlock};
 
 // ---- a symbolic block's list

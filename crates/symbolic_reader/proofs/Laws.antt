@@ -16,12 +16,12 @@ use Rattle.encoding.specs.declared.Stored.{Stored}
 use Rattle.integer_sequence.specs.Reading.{number, numbers, stored}
 use Rattle.block_header.specs.declared.Stage.{Stage}
 use Rattle.block_header.specs.declared.Stage.the-variants.{Passed, Stopped}
-use Rattle.block_header.specs.Stages.{stageOf}
+use Rattle.block_header.specs.inner.Stages.{stageOf}
 use Rattle.bits.specs.Field.{field}
 use Rattle.bits.specs.Block.{numberOf}
 use Rattle.block_fault.specs.declared.Verdict.{Verdict}
 use Rattle.block_fault.specs.declared.Verdict.the-variants as verdict
-use Rattle.block_fault.specs.Settings.{verdictOf}
+use Rattle.block_fault.specs.inner.Settings.{verdictOf}
 use Rattle.block_fault.specs.Bits.{headerAt, endpointAt, weightAt}
 use Rattle.footprint.specs.Footprint.{isVolume}
 use Rattle.void_extent.specs.Layout.{colourAt, extentAt}

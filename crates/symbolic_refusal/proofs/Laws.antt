@@ -11,7 +11,8 @@ use borrow.Author.Tests.{ne-eqb}
 use Rattle.laws.specs.Choice.{pick, both, either}
 use Rattle.laws.proofs.Computed.{both-left, both-right}
 use Rattle.block_header.specs.declared.BlockHeader.{BlockHeader}
-use Rattle.block_header.specs.Reasons.{gridFault, endpointFault, gridReasons, endpointReasons, gridTooLarge, tooManyWeights, weightBitsOutside, fourWithTwoPlanes}
+use Rattle.block_header.specs.Reasons.{gridReasons, endpointReasons, gridTooLarge, tooManyWeights, weightBitsOutside, fourWithTwoPlanes}
+use Rattle.block_header.specs.inner.Stages.{gridFault, endpointFault}
 use Rattle.laws.specs.Reasons.{Reason, when, firstOf}
 use Rattle.symbolic_block.specs.declared.SymbolicBlock.{SymbolicBlock}
 use Rattle.symbolic_block.specs.Fields.{headerOf, isMarked}

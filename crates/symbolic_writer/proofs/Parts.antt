@@ -16,7 +16,8 @@ use Rattle.bits.proofs.Reverse.{reverse-lt, reverse-reverse}
 use Rattle.encoding.specs.declared.Stored.{Stored}
 use Rattle.quantization.specs.Ranges.{encodingAt, bitsAt, rangeBits}
 use Rattle.integer_sequence.specs.Reading.{stored}
-use Rattle.integer_sequence.specs.Writing.{packed, values, withSequence}
+use Rattle.integer_sequence.specs.Writing.{packed, values}
+use Rattle.integer_sequence.specs.inner.Sequences.{withSequence}
 use Rattle.block_mode.specs.declared.WeightGrid.{WeightGrid}
 use Rattle.block_header.specs.declared.BlockHeader.{BlockHeader}
 use Rattle.block_header.specs.Counts.{weightCount, weightBits, endpointCount, endpointRangeOf}

@@ -12,7 +12,6 @@ ghost use Rattle.laws.specs.Table.{tab, padded};
 ghost use Rattle.bits.specs.Field.{reverse};
 ghost use Rattle.bits.specs.Block.{blockNumber};
 ghost use Rattle.integer_sequence.specs.Reading.{stored};
-ghost use Rattle.footprint.specs.Footprint.{isVolume};
 ghost use Rattle.volume_mode.specs.Either.{blockModeOf};
 ghost use Rattle.void_extent.specs.Layout.{extentPlace};
 ghost use Rattle.void_extent.specs.Writing.{fixedBits, voidCells};

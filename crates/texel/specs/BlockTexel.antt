@@ -4,7 +4,7 @@ use Prim.Native.Nat.{ℕ, _*_, _/_, _%_}
 use mathlib.Core.List.{List}
 use lib.Dec.{eqb}
 use Rattle.laws.specs.Choice.{pick}
-use Rattle.laws.specs.Table.{tab, replaced}
+use Rattle.laws.specs.Table.{tab, replaced, byRows}
 use Rattle.footprint.specs.Footprint.{widthOf, heightOf, texelsOf}
 use Rattle.interpolation.specs.declared.Kind.{Kind}
 use Rattle.interpolation.specs.declared.Texel.{Texel}
@@ -30,9 +30,9 @@ unfoldable pub blockNumberAt : ℕ → Kind → ℕ → ℕ → ℕ → ℕ → 
 unfolding blockTexel
 blockNumberAt fp kind B x y z c = shownChannel kind (blockTexel fp kind B x y z) c
 
--- 02, h: "x fastest, then y, then z". A block is a list of rows, those of its first layer first: what column x of row q is, of what has a place
+-- what column x of row q of a block is
 abbrev pub inRow : {A : Type 0} → ℕ → (ℕ → ℕ → ℕ → A) → ℕ → ℕ → A
-inRow fp f x q = f x (q % heightOf fp) (q / heightOf fp)
+inRow fp f x q = byRows (heightOf fp) f x q
 
 -- 01: "Channels are R, G, B, A, rows first": number k of a block, in 16 bits, is channel k % 4 of texel k / 4
 unfoldable pub blockChannel : ℕ → Kind → ℕ → ℕ → ℕ

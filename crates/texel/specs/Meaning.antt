@@ -1,6 +1,6 @@
 -- 01, "From numbers to texels": the texel at a place, from a header and the stored numbers. No bit position stands here.
 -- Assumes nothing.
-use Prim.Native.Nat.{ℕ, _+_, _*_}
+use Prim.Native.Nat.{ℕ}
 use mathlib.Core.Bool.{Bool, not}
 use mathlib.Core.List.{List, [], _∷_}
 use lib.Dec.{eqb}

@@ -8,9 +8,10 @@ use lib.ListN.{length, length-set, getD, set}
 use Rattle.laws.specs.Table.{putFour}
 use Rattle.laws.proofs.Filling.{getD-tab}
 use Rattle.interpolation.specs.declared.Texel.{Texel}
-use Rattle.block_buffer.specs.Painted.{fourOf}
-use Rattle.picture_regions.proofs.Regions.{Pasted, pasted-more}
-use Rattle.texel_fill.specs.Everywhere.{everywhere}
+use Rattle.block_buffer.specs.inner.Painted.{fourOf}
+use Rattle.picture_regions.proofs.Regions.{pasted-more}
+use Rattle.picture_regions.specs.inner.Regions.{Pasted}
+use Rattle.texel_fill.specs.inner.Everywhere.{everywhere}
 
 -- every number of it, by its channel
 pub number-at : (t : Texel) (k : ℕ) → k < 864 → getD (everywhere t) k 0 ≡ getD (fourOf t) (k % 4) 0

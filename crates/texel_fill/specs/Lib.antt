@@ -1,1 +1,1 @@
-pub mod Everywhere
+pub mod inner

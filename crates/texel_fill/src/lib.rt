@@ -6,8 +6,8 @@ ghost use lib.ListN.{length};
 ghost use Rattle.laws.specs.Table.{putFour};
 ghost use Rattle.interpolation.specs.declared.Kind.the-variants.{Unorm16, Srgb8};
 ghost use Rattle.interpolation.specs.Expansion.{shownOf};
-ghost use Rattle.picture_regions.proofs.Regions.{Pasted};
-ghost use Rattle.texel_fill.specs.Everywhere.{everywhere};
+ghost use Rattle.picture_regions.specs.inner.Regions.{Pasted};
+ghost use Rattle.texel_fill.specs.inner.Everywhere.{everywhere};
 
 // A texel's numbers at place i.
 fn put_numbers(out: &mut [u16], i: usize, t: Texel)

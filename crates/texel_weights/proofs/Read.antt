@@ -15,7 +15,7 @@ use Rattle.bits.specs.Field.{reverse}
 use Rattle.encoding.specs.declared.Level.{Level}
 use Rattle.encoding.specs.declared.LevelPair.{LevelPair}
 use Rattle.encoding.specs.declared.Stored.{Stored}
-use Rattle.encoding.specs.Levels.{firstLevel, secondLevel, levelPair, BytePair}
+use Rattle.encoding.specs.inner.Levels.{firstLevel, secondLevel, levelPair, BytePair}
 use Rattle.quantization.specs.Ranges.{encodingAt, bitsAt, rangeBits}
 use Rattle.quantization.specs.Unquantise.{unquantWeight}
 use Rattle.integer_sequence.specs.Reading.{number, sequenceAt, stored}

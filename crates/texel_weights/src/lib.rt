@@ -13,7 +13,7 @@ ghost use Rattle.quantization.specs.inner.Words.{RightWords};
 ghost use lib.ListN.{getD};
 ghost use Rattle.bits.specs.Field.{reverse};
 ghost use Rattle.bits.specs.Block.{blockNumber};
-ghost use Rattle.encoding.specs.Levels.{firstLevel, secondLevel, levelPair};
+ghost use Rattle.encoding.specs.inner.Levels.{firstLevel, secondLevel, levelPair};
 ghost use Rattle.quantization.specs.Ranges.{encodingAt, bitsAt};
 ghost use Rattle.integer_sequence.specs.Reading.{sequenceAt};
 ghost use Rattle.weight_grid.specs.inner.Points.{noPoint, readOf};

@@ -2,9 +2,9 @@
 -- its 128 bits.
 -- Assumes nothing.
 use Prim.Native.Nat.{ℕ, _+_, _*_}
-use mathlib.Core.Bool.{Bool, true, false, not}
+use mathlib.Core.Bool.{Bool, false, not}
 use lib.Dec.{eqb, ltb}
-use Rattle.laws.specs.Choice.{pick, both, either, all}
+use Rattle.laws.specs.Choice.{pick, either, all}
 use Rattle.bits.specs.Field.{field}
 
 -- the axes s and t, in a volume also r

@@ -5,13 +5,13 @@ use mathlib.Core.List.{List}
 use Prim.Native.Nat.{ℕ, _+_, _*_, _≤_, _<_}
 use native.Mathlib.Omega.{arith}
 use lib.ListN.{length}
-use Rattle.picture_regions.proofs.Regions.{Pasted}
+use Rattle.picture_regions.specs.inner.Regions.{Pasted}
 use Rattle.image_layout.specs.declared.Run.{Run}
-use Rattle.image_layout.proofs.Parts.{RunFits}
+use Rattle.image_layout.specs.inner.Parts.{RunFits}
 use Rattle.volume_layout.specs.declared.VolumeGrid.{VolumeGrid}
 use Rattle.volume_layout.specs.declared.VolumePart.{VolumePart}
-use Rattle.volume_layout.proofs.Sizes.{Sound}
-use Rattle.volume_layout.proofs.Parts.{Fits, PlacedRows, RunOf, run-fits, no-layer, no-row, placed-row, layer-done}
+use Rattle.volume_layout.specs.inner.Parts.{SoundGrid, PartFits, PlacedRows, RunOf}
+use Rattle.volume_layout.proofs.Parts.{run-fits, no-layer, no-row, placed-row, layer-done}
 
 module _ (show : ℕ → ℕ) (g : VolumeGrid) (p : VolumePart) (buf : List ℕ) where
   -- dz layers are copied
@@ -32,11 +32,11 @@ module _ (show : ℕ → ℕ) (g : VolumeGrid) (p : VolumePart) (buf : List ℕ)
   pub no-rows : (dz : ℕ) (mid : List ℕ) → Rows dz mid mid 0
   no-rows dz mid = record { most = omega arith; same = refl; placed = λ old. no-row show g p buf dz old mid }
 
-  pub row-fits : (r : Run) {old mid new : List ℕ} {dz dy : ℕ} → Sound g → Fits g p → length old ≡ 4 * (g .depth * g .height * g .width) → dz < p .layers → dy < p .rows
+  pub row-fits : (r : Run) {old mid new : List ℕ} {dz dy : ℕ} → SoundGrid g → PartFits g p → length old ≡ 4 * (g .depth * g .height * g .width) → dz < p .layers → dy < p .rows
       → Layers old mid dz → Rows dz mid new dy → RunOf g p dy dz r → RunFits r 864 (length new)
   row-fits r {dz = dz} {dy = dy} s f e hz hy l w o = run-fits g p dy dz r _ s f hy hz o (w .same ∙ l .same ∙ e)
 
-  pub row-more : (r : Run) {mid l new : List ℕ} {dz dy : ℕ} → Fits g p → dy < p .rows → Rows dz mid l dy → RunOf g p dy dz r → length new ≡ length l
+  pub row-more : (r : Run) {mid l new : List ℕ} {dz dy : ℕ} → PartFits g p → dy < p .rows → Rows dz mid l dy → RunOf g p dy dz r → length new ≡ length l
       → Pasted show buf (r .from) (r .n) l (r .at) new → Rows dz mid new (dy + 1)
   row-more r {l = l} {new = new} {dz = dz} {dy = dy} f hy w o e q =
       record { most = omega arith; same = e ∙ w .same; placed = λ old h. placed-row show g p dy dz r buf old l new f hy o (w .placed old h) q }

@@ -14,23 +14,21 @@ ghost use Rattle.interpolation.specs.declared.Kind.the-variants.{Unorm16, Srgb8
 ghost use Rattle.interpolation.specs.Expansion.{shownOf};
 ghost use Rattle.block_reading.specs.declared.Reading.the-variants.{Strict};
 ghost use Rattle.one_block.specs.Calls.{Words};
-ghost use Rattle.picture_regions.proofs.Blocks.{Tile};
+ghost use Rattle.picture_regions.specs.inner.Regions.{Tile};
 ghost use Rattle.image_layout.specs.Numbers.{faultAtIn};
 ghost use Rattle.image_layout.specs.Faulty.{tallyOf};
 ghost use Rattle.image_layout.specs.Call.{toldOf};
-ghost use Rattle.volume_layout.specs.Rows.{volumePicture};
+ghost use Rattle.volume_layout.specs.inner.Rows.{volumePicture};
 ghost use Rattle.volume_layout.specs.Numbers.{volumeNumbersIn};
 ghost use Rattle.volume_layout.specs.Call.{checkedOf, volumeAnswer, volumeOut, volumeTold, volumeAnswerIn, volumeOutIn, volumeToldIn};
-ghost use Rattle.volume_layout.proofs.Sizes.{Sound};
-ghost use Rattle.volume_layout.proofs.Blocks.{byRows};
-ghost use Rattle.volume_layout.proofs.Parts.{Fits, PlacedRows};
+ghost use Rattle.volume_layout.specs.inner.Parts.{SoundGrid, volumeByRows, PartFits, PlacedRows};
 
 // ---- kinds 0 and 2: 16-bit numbers
 
 // Copies a block's rows to its part of the volume, layer by layer.
 fn place_numbers(buf: &[u16; 864], g: VolumeGrid, p: VolumePart, out: &mut [u16])
-    requires { ⌜ Sound g ⌝ }
-    requires { ⌜ Fits g p ⌝ }
+    requires { ⌜ SoundGrid g ⌝ }
+    requires { ⌜ PartFits g p ⌝ }
     requires { ⌜ length (now out) ≡ 4 * (g .depth * g .height * g .width) ⌝ }
     ensures { λ _. ⌜ PlacedRows (shownOf Unorm16) g p (p .layers * p .rows) (now (buf .entry)) (now (out .entry)) (now (out .exit)) ⌝ }
 {
@@ -52,13 +50,13 @@ fn show_numbers(
     out: &mut [u16],
 ) -> u8
     requires { ⌜ Words kind ⌝ }
-    requires { ⌜ Sound g ⌝ }
+    requires { ⌜ SoundGrid g ⌝ }
     requires { ⌜ b < g .deep * g .down * g .across ⌝ }
     requires { ⌜ length (now s) ≡ 16 * (g .deep * g .down * g .across) ⌝ }
     requires { ⌜ length (now out) ≡ 4 * (g .depth * g .height * g .width) ⌝ }
     requires { ⌜ length (now buf) ≡ 864 ⌝ }
     ensures { λ r. ⌜ r ≡ faultAtIn reading (g .footprint) kind (now (s .entry)) b ⌝ }
-    ensures { λ _. ⌜ Tile (volumePicture g) b (byRows reading g kind (now (s .entry))) (now (out .entry)) (now (out .exit)) ⌝ }
+    ensures { λ _. ⌜ Tile (volumePicture g) b (volumeByRows reading g kind (now (s .entry))) (now (out .entry)) (now (out .exit)) ⌝ }
     ensures { λ _. ⌜ length (now (buf .exit)) ≡ 864 ⌝ }
 {
     let p = volume_parts::part_of(g, b);
@@ -73,7 +71,7 @@ fn show_numbers(
 // Shows every block and counts the faults.
 fn decode_numbers(reading: Reading, g: VolumeGrid, kind: Kind, s: &[u8], out: &mut [u16]) -> Tally
     requires { ⌜ Words kind ⌝ }
-    requires { ⌜ Sound g ⌝ }
+    requires { ⌜ SoundGrid g ⌝ }
     requires { ⌜ length (now s) ≡ 16 * (g .deep * g .down * g .across) ⌝ }
     requires { ⌜ length (now out) ≡ 4 * (g .depth * g .height * g .width) ⌝ }
     ensures { λ r. ⌜ r ≡ tallyOf (faultAtIn reading (g .footprint) kind (now (s .entry))) (g .deep * g .down * g .across) ⌝ }
@@ -157,8 +155,8 @@ pub fn decode_volume_words_in(
 
 // Copies a block's rows to its part of the volume, layer by layer.
 fn place_bytes(buf: &[u16; 864], g: VolumeGrid, p: VolumePart, out: &mut [u8])
-    requires { ⌜ Sound g ⌝ }
-    requires { ⌜ Fits g p ⌝ }
+    requires { ⌜ SoundGrid g ⌝ }
+    requires { ⌜ PartFits g p ⌝ }
     requires { ⌜ length (now out) ≡ 4 * (g .depth * g .height * g .width) ⌝ }
     ensures { λ _. ⌜ PlacedRows (shownOf Srgb8) g p (p .layers * p .rows) (now (buf .entry)) (now (out .entry)) (now (out .exit)) ⌝ }
 {
@@ -178,13 +176,13 @@ fn show_bytes(
     buf: &mut [u16; 864],
     out: &mut [u8],
 ) -> u8
-    requires { ⌜ Sound g ⌝ }
+    requires { ⌜ SoundGrid g ⌝ }
     requires { ⌜ b < g .deep * g .down * g .across ⌝ }
     requires { ⌜ length (now s) ≡ 16 * (g .deep * g .down * g .across) ⌝ }
     requires { ⌜ length (now out) ≡ 4 * (g .depth * g .height * g .width) ⌝ }
     requires { ⌜ length (now buf) ≡ 864 ⌝ }
     ensures { λ r. ⌜ r ≡ faultAtIn reading (g .footprint) Srgb8 (now (s .entry)) b ⌝ }
-    ensures { λ _. ⌜ Tile (volumePicture g) b (byRows reading g Srgb8 (now (s .entry))) (now (out .entry)) (now (out .exit)) ⌝ }
+    ensures { λ _. ⌜ Tile (volumePicture g) b (volumeByRows reading g Srgb8 (now (s .entry))) (now (out .entry)) (now (out .exit)) ⌝ }
     ensures { λ _. ⌜ length (now (buf .exit)) ≡ 864 ⌝ }
 {
     let p = volume_parts::part_of(g, b);
@@ -198,7 +196,7 @@ fn show_bytes(
 
 // Shows every block and counts the faults.
 fn decode_bytes(reading: Reading, g: VolumeGrid, s: &[u8], out: &mut [u8]) -> Tally
-    requires { ⌜ Sound g ⌝ }
+    requires { ⌜ SoundGrid g ⌝ }
     requires { ⌜ length (now s) ≡ 16 * (g .deep * g .down * g .across) ⌝ }
     requires { ⌜ length (now out) ≡ 4 * (g .depth * g .height * g .width) ⌝ }
     ensures { λ r. ⌜ r ≡ tallyOf (faultAtIn reading (g .footprint) Srgb8 (now (s .entry))) (g .deep * g .down * g .across) ⌝ }

@@ -14,7 +14,7 @@ use Rattle.laws.specs.Choice.{pick}
 use Rattle.laws.proofs.Filling.{padded-here}
 use Rattle.encoding.specs.declared.Level.{Level}
 use Rattle.encoding.specs.declared.LevelPair.{LevelPair}
-use Rattle.encoding.specs.Levels.{firstLevel, secondLevel, levelPair}
+use Rattle.encoding.specs.inner.Levels.{firstLevel, secondLevel, levelPair}
 use Rattle.weight_grid.specs.Cell.{levelIn}
 use Rattle.weight_grid.specs.inner.Points.{neighbourStep, noPoint, pointOf, pointsOf}
 use Rattle.weight_grid.proofs.Points.{point-lt}

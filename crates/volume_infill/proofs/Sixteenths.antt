@@ -5,7 +5,7 @@ use Prim.Native.Nat.{ℕ, _+_, _*_, _/_, _%_, _≤_}
 use native.Mathlib.Nat.{mul-le-mul-right, mul-add, add-mul, mul-assoc}
 use native.Mathlib.Omega.{arith}
 use Rattle.encoding.specs.declared.LevelPair.{LevelPair}
-use Rattle.encoding.specs.Levels.{firstLevel, secondLevel, BytePair}
+use Rattle.encoding.specs.inner.Levels.{firstLevel, secondLevel, BytePair}
 use Rattle.volume_infill.specs.Simplex.{simplexSum}
 use Rattle.volume_infill.specs.inner.Way.{bothFour}
 

@@ -1,7 +1,7 @@
 // The weight of a texel of a volume, from the weights of its grid: simplex infill (02, h).
 ghost use mathlib.Core.Path.{_≡_};
 ghost use Prim.Native.Nat.{_+_, _*_, _≤_, _<_};
-ghost use Rattle.encoding.specs.Levels.{firstLevel, secondLevel, BytePair};
+ghost use Rattle.encoding.specs.inner.Levels.{firstLevel, secondLevel, BytePair};
 ghost use Rattle.volume_infill.specs.Simplex.{simplexSum};
 ghost use Rattle.volume_infill.specs.inner.Way.{walkOf, routeOf, bothFour, volumeRead, WithinGrid, ByteLevels};
 use encoding::LevelPair;

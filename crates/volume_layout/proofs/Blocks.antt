@@ -15,14 +15,15 @@ use Rattle.block_reading.proofs.Shows.{number-at}
 use Rattle.image_size.specs.Sides.{blocksAcross}
 use Rattle.picture_regions.specs.Picture.{place}
 use Rattle.picture_regions.proofs.Covering.{below-row, place-within, quotient, remainder}
-use Rattle.picture_regions.proofs.Regions.{Placed}
-use Rattle.picture_regions.proofs.Blocks.{Cropped, Tile, tile-of}
+use Rattle.picture_regions.specs.inner.Regions.{RowsCopied, Cropped, Tile}
+use Rattle.picture_regions.proofs.Blocks.{tile-of}
 use Rattle.image_layout.specs.Numbers as bytes
 use Rattle.volume_layout.specs.declared.VolumeGrid.{VolumeGrid}
-use Rattle.volume_layout.specs.Rows.{layerRow, blockIndexIn, volumePicture}
+use Rattle.volume_layout.specs.Rows.{layerRow, blockIndexIn}
+use Rattle.volume_layout.specs.inner.Rows.{volumePicture}
 use Rattle.volume_layout.specs.Numbers.{blockIndex, volumeNumberAtIn}
-use Rattle.volume_layout.proofs.Sizes.{Sound}
-use Rattle.volume_layout.proofs.Volumes.{covered, toRow, fromRow, row-in, row-of}
+use Rattle.volume_layout.specs.inner.Parts.{SoundGrid, toRow, fromRow, volumeByRows}
+use Rattle.volume_layout.proofs.Volumes.{covered, row-in, row-of}
 
 -- the volume's number in block bx, by, bz, by its place in the block
 pub number-in : (reading : Reading) (fp : ℕ) (kind : Kind) (w h : ℕ) (s : List ℕ) (bx by bz dx dy dz c : ℕ) → dx < widthOf fp → dy < heightOf fp → dz < depthOf fp
@@ -48,12 +49,8 @@ row-within fp dx dy dz c hx hy hz hc =
     (place-within (widthOf fp) (heightOf fp * depthOf fp) dx (dz * heightOf fp + dy) c hx
     (let m = mul-comm (heightOf fp) (depthOf fp) in omega (arith, below-row (heightOf fp) dz (depthOf fp) hz)) hc)
 
--- the numbers of a volume by rows
-abbrev pub byRows : Reading → VolumeGrid → Kind → List ℕ → ℕ → ℕ → ℕ → ℕ
-byRows reading g kind s x q c = volumeNumberAtIn reading (g .footprint) kind (g .width) (g .height) s x (q % g .height) (q / g .height) c
-
 -- the numbers of block bx, by, bz, copied as far as they are within the volume
-module _ (reading : Reading) (kind : Kind) (g : VolumeGrid) (sound : Sound g) (s : List ℕ) (bx by bz cols rows layers : ℕ) (hbx : bx < g .across) (hby : by < g .down) (some : 0 < rows)
+module _ (reading : Reading) (kind : Kind) (g : VolumeGrid) (sound : SoundGrid g) (s : List ℕ) (bx by bz cols rows layers : ℕ) (hbx : bx < g .across) (hby : by < g .down) (some : 0 < rows)
     (cc : Cropped (g .width) (bx * g .columns) (g .columns) cols) (cr : Cropped (g .height) (by * g .rows) (g .rows) rows) (cl : Cropped (g .depth) (bz * g .layers) (g .layers) layers) where
   abbrev index : ℕ
   index = (bz * g .down + by) * g .across + bx
@@ -61,7 +58,7 @@ module _ (reading : Reading) (kind : Kind) (g : VolumeGrid) (sound : Sound g) (s
   -- a texel of it, at dx, dy, dz of the block
   shown : (buf : List ℕ) → ((k : ℕ) → k < 4 * texelsOf (g .footprint) → getD buf k 0 ≡ channelIn reading (g .footprint) kind (bytes.blockAt s index) k)
       → (dx dy dz c : ℕ) → dx < g .columns → dy < rows → dz < layers → c < 4
-      → shownOf kind (getD buf (place (g .columns) dx (dz * g .rows + dy) c) 0) ≡ byRows reading g kind s (bx * g .columns + dx) ((bz * g .layers + dz) * g .height + (by * g .rows + dy)) c
+      → shownOf kind (getD buf (place (g .columns) dx (dz * g .rows + dy) c) 0) ≡ volumeByRows reading g kind s (bx * g .columns + dx) ((bz * g .layers + dz) * g .height + (by * g .rows + dy)) c
   shown buf held dx dy dz c hx hy hz hc =
       let fp = g .footprint in
       let lr = cr .in-block in
@@ -83,10 +80,10 @@ module _ (reading : Reading) (kind : Kind) (g : VolumeGrid) (sound : Sound g) (s
       (sym (remainder (bz * g .layers + dz) (g .height) (by * g .rows + dy) (omega arith))) (sym (quotient (bz * g .layers + dz) (g .height) (by * g .rows + dy) (omega arith)))
 
   pub tile-shown : (buf old new : List ℕ)
-      → Placed (shownOf kind) (g .width) (bx * g .columns) cols (g .columns) (toRow (g .height) (by * g .rows) (bz * g .layers) rows) (fromRow (g .rows) rows) (layers * rows) buf old new
+      → RowsCopied (shownOf kind) (g .width) (bx * g .columns) cols (g .columns) (toRow (g .height) (by * g .rows) (bz * g .layers) rows) (fromRow (g .rows) rows) (layers * rows) buf old new
       → ((k : ℕ) → k < 4 * texelsOf (g .footprint) → getD buf k 0 ≡ channelIn reading (g .footprint) kind (bytes.blockAt s index) k)
-      → Tile (volumePicture g) index (byRows reading g kind s) old new
+      → Tile (volumePicture g) index (volumeByRows reading g kind s) old new
   tile-shown buf old new p held =
       tile-of (volumePicture g) (covered g sound) (shownOf kind) bx (bz * g .down + by) cols (layers * rows) (toRow (g .height) (by * g .rows) (bz * g .layers) rows) (fromRow (g .rows) rows)
-      (byRows reading g kind s) buf old new hbx cc (row-in g sound by bz rows layers hby some cr cl) (row-of g sound by bz rows layers hby some cr cl) p
+      (volumeByRows reading g kind s) buf old new hbx cc (row-in g sound by bz rows layers hby some cr cl) (row-of g sound by bz rows layers hby some cr cl) p
       (λ dx i c hx hi hc. shown buf held dx (i % rows) (i / rows) c hx (mod-lt i some) (div-lt-iff-lt-mul some .1 hi) hc)

@@ -13,41 +13,23 @@ use Rattle.block_reading.specs.declared.Reading.{Reading}
 use Rattle.block_reading.specs.Shown.{channelIn}
 use Rattle.image_size.proofs.Laws.{across-inside}
 use Rattle.picture_regions.proofs.Covering.{mul-bound, below-row, quotient, remainder}
-use Rattle.picture_regions.proofs.Regions.{Pasted, Placed, placed-none, placed-more}
-use Rattle.picture_regions.proofs.Blocks.{Cropped, Tile}
+use Rattle.picture_regions.proofs.Regions.{placed-none, placed-more}
+use Rattle.picture_regions.specs.inner.Regions.{Pasted, RowsCopied, Cropped, Tile}
 use Rattle.image_layout.specs.declared.Run.{Run}
 use Rattle.image_layout.specs.declared.Tally.{Tally}
 use Rattle.image_layout.specs.Numbers as bytes
 use Rattle.image_layout.specs.Faulty.{tallyOf}
 use Rattle.image_layout.specs.inner.Noted.{noted}
-use Rattle.image_layout.proofs.Parts.{RunFits}
+use Rattle.image_layout.specs.inner.Parts.{RunFits}
 use Rattle.image_layout.proofs.Walking.{Walking, walking-start, walking-more, walking-done}
 use Rattle.volume_layout.specs.declared.VolumeGrid.{VolumeGrid}
 use Rattle.volume_layout.specs.declared.VolumePart.{VolumePart}
-use Rattle.volume_layout.specs.Rows.{volumePicture}
+use Rattle.volume_layout.specs.inner.Rows.{volumePicture}
 use Rattle.volume_layout.specs.Numbers.{texelsIn, volumeNumbersIn}
-use Rattle.volume_layout.proofs.Sizes.{Sound, three}
-use Rattle.volume_layout.proofs.Volumes.{covered, toRow, fromRow, rows-apart}
-use Rattle.volume_layout.proofs.Blocks.{byRows, tile-shown}
-
--- the part is as much of a block as is within the volume
-pub record Fits (g : VolumeGrid) (p : VolumePart) : Type 0 where
-  pub columns : Cropped (g .width) (p .x) (g .columns) (p .columns)
-  pub rows : Cropped (g .height) (p .y) (g .rows) (p .rows)
-  pub layers : Cropped (g .depth) (p .z) (g .layers) (p .layers)
-
--- the part of block b
-pub record PartOf (g : VolumeGrid) (b : ℕ) (p : VolumePart) : Type 0 where
-  pub x : p .x ≡ b % g .across * g .columns
-  pub y : p .y ≡ b / g .across % g .down * g .rows
-  pub z : p .z ≡ b / g .across / g .down * g .layers
-  pub fits : Fits g p
-
--- the run of row dy of layer dz
-pub record RunOf (g : VolumeGrid) (p : VolumePart) (dy dz : ℕ) (r : Run) : Type 0 where
-  pub from : r .from ≡ 4 * ((dz * g .rows + dy) * g .columns)
-  pub at : r .at ≡ 4 * (((p .z + dz) * g .height + (p .y + dy)) * g .width + p .x)
-  pub n : r .n ≡ 4 * p .columns
+use Rattle.volume_layout.proofs.Sizes.{three}
+use Rattle.volume_layout.specs.inner.Parts.{SoundGrid, toRow, fromRow, volumeByRows, PartFits, PartOf, RunOf, PlacedRows}
+use Rattle.volume_layout.proofs.Volumes.{covered, rows-apart}
+use Rattle.volume_layout.proofs.Blocks.{tile-shown}
 
 -- the products of a row, none of which wraps
 pub record Products (g : VolumeGrid) (p : VolumePart) (dy dz : ℕ) : Type 0 where
@@ -57,7 +39,7 @@ pub record Products (g : VolumeGrid) (p : VolumePart) (dy dz : ℕ) : Type 0 whe
   pub in-volume : 4 * (((p .z + dz) * g .height + (p .y + dy)) * g .width + p .x) + 4 * p .columns ≤ 4 * (g .depth * g .height * g .width)
   pub small : g .depth * g .height * g .width ≤ 2048 * 16384 * 16384
 
-pub products : (g : VolumeGrid) (p : VolumePart) (dy dz : ℕ) → Sound g → Fits g p → dy < p .rows → dz < p .layers → Products g p dy dz
+pub products : (g : VolumeGrid) (p : VolumePart) (dy dz : ℕ) → SoundGrid g → PartFits g p → dy < p .rows → dz < p .layers → Products g p dy dz
 products g p dy dz s f hy hz =
     let a = f .columns .in-block in
     let b = f .columns .in-side in
@@ -78,7 +60,7 @@ products g p dy dz s f hy hz =
       small = three (g .depth) (g .height) (g .width) 2048 16384 16384 (s .depth-most) (s .height-most) (s .width-most);
     }
 
-pub run-fits : (g : VolumeGrid) (p : VolumePart) (dy dz : ℕ) (r : Run) (m : ℕ) → Sound g → Fits g p → dy < p .rows → dz < p .layers → RunOf g p dy dz r
+pub run-fits : (g : VolumeGrid) (p : VolumePart) (dy dz : ℕ) (r : Run) (m : ℕ) → SoundGrid g → PartFits g p → dy < p .rows → dz < p .layers → RunOf g p dy dz r
     → m ≡ 4 * (g .depth * g .height * g .width) → RunFits r 864 m
 run-fits g p dy dz r m s f hy hz o e =
     let q = products g p dy dz s f hy hz in
@@ -92,7 +74,7 @@ pub record Begins (g : VolumeGrid) (b : ℕ) : Type 0 where
   pub y : b / g .across % g .down * g .rows < g .height
   pub z : b / g .across / g .down * g .layers < g .depth
 
-pub begins : (g : VolumeGrid) (b : ℕ) → Sound g → b < g .deep * g .down * g .across → Begins g b
+pub begins : (g : VolumeGrid) (b : ℕ) → SoundGrid g → b < g .deep * g .down * g .across → Begins g b
 begins g b s h =
     let r : b / g .across < g .deep * g .down = div-lt-iff-lt-mul (s .across-least) .1 h in
     let l : b / g .across / g .down < g .deep = div-lt-iff-lt-mul (s .down-least) .1 r in
@@ -105,11 +87,6 @@ begins g b s h =
     }
 
 -- ---- what a turn of each loop does
-
--- n rows of a part are copied
-abbrev pub PlacedRows : (ℕ → ℕ) → VolumeGrid → VolumePart → ℕ → List ℕ → List ℕ → List ℕ → Type 0
-PlacedRows show g p n buf old new =
-    Placed show (g .width) (p .x) (p .columns) (g .columns) (toRow (g .height) (p .y) (p .z) (p .rows)) (fromRow (g .rows) (p .rows)) n buf old new
 
 module _ (show : ℕ → ℕ) (g : VolumeGrid) (p : VolumePart) (buf : List ℕ) where
   rows-as : (old new : List ℕ) {m n : ℕ} → m ≡ n → PlacedRows show g p m buf old new → PlacedRows show g p n buf old new
@@ -127,7 +104,7 @@ module _ (show : ℕ → ℕ) (g : VolumeGrid) (p : VolumePart) (buf : List ℕ)
   layer-done dy dz old new e = rows-as old new (omega (arith, add-mul dz 1 (p .rows)))
 
 -- row dy of layer dz of a part
-pub placed-row : (show : ℕ → ℕ) (g : VolumeGrid) (p : VolumePart) (dy dz : ℕ) (r : Run) (buf old l new : List ℕ) → Fits g p → dy < p .rows → RunOf g p dy dz r
+pub placed-row : (show : ℕ → ℕ) (g : VolumeGrid) (p : VolumePart) (dy dz : ℕ) (r : Run) (buf old l new : List ℕ) → PartFits g p → dy < p .rows → RunOf g p dy dz r
     → PlacedRows show g p (dz * p .rows + dy) buf old l → Pasted show buf (r .from) (r .n) l (r .at) new → PlacedRows show g p (dz * p .rows + (dy + 1)) buf old new
 placed-row show g p dy dz r buf old l new f hy o pl q =
     let n : ℕ = dz * p .rows + dy in
@@ -143,16 +120,16 @@ placed-row show g p dy dz r buf old l new f hy o pl q =
 
 -- the first b blocks are decoded
 abbrev pub Decoding : Reading → Kind → VolumeGrid → List ℕ → List ℕ → List ℕ → List ℕ → Tally → ℕ → Type 0
-Decoding reading kind g s old new buf t b = Walking (byRows reading g kind s) (bytes.faultAtIn reading (g .footprint) kind s) 864 (volumePicture g) old new buf t b
+Decoding reading kind g s old new buf t b = Walking (volumeByRows reading g kind s) (bytes.faultAtIn reading (g .footprint) kind s) 864 (volumePicture g) old new buf t b
 
-module _ (kind : Kind) (g : VolumeGrid) (reading : Reading) (sound : Sound g) (s : List ℕ) where
+module _ (kind : Kind) (g : VolumeGrid) (reading : Reading) (sound : SoundGrid g) (s : List ℕ) where
   abbrev fault : ℕ → ℕ
   fault = bytes.faultAtIn reading (g .footprint) kind s
 
   -- a block
   pub block-shown : (b : ℕ) (p : VolumePart) (B : ℕ) (buf old new : List ℕ) → b < g .deep * g .down * g .across → PartOf g b p → B ≡ bytes.blockAt s b
       → ((k : ℕ) → k < 4 * texelsOf (g .footprint) → getD buf k 0 ≡ channelIn reading (g .footprint) kind B k)
-      → PlacedRows (shownOf kind) g p (p .layers * p .rows) buf old new → Tile (volumePicture g) b (byRows reading g kind s) old new
+      → PlacedRows (shownOf kind) g p (p .layers * p .rows) buf old new → Tile (volumePicture g) b (volumeByRows reading g kind s) old new
   block-shown b p B buf old new hb o e held pl =
       let bx : ℕ = b % g .across in
       let by : ℕ = b / g .across % g .down in
@@ -162,23 +139,23 @@ module _ (kind : Kind) (g : VolumeGrid) (reading : Reading) (sound : Sound g) (s
       let j : B ≡ bytes.blockAt s ((bz * g .down + by) * g .across + bx) = e ∙ ap (bytes.blockAt s) (sym i) in
       let cr = rw (o .y) at (o .fits .rows) in
       let some : 0 < p .rows = cr .all 0 (sound .rows-least) (let k = start .y in omega arith) in
-      subst (λ (n : ℕ). Tile (volumePicture g) n (byRows reading g kind s) old new) i
+      subst (λ (n : ℕ). Tile (volumePicture g) n (volumeByRows reading g kind s) old new) i
       (tile-shown reading kind g sound s bx by bz (p .columns) (p .rows) (p .layers) (mod-lt b (sound .across-least)) (mod-lt (b / g .across) (sound .down-least)) some
       (rw (o .x) at (o .fits .columns)) cr (rw (o .z) at (o .fits .layers)) buf old new (rw (o .x, o .y, o .z) at pl)
       (λ k h. held k h ∙ ap (λ (n : ℕ). channelIn reading (g .footprint) kind n k) j))
 
   -- before the first block
   pub decoding-start : (old buf : List ℕ) → length buf ≡ 864 → Decoding reading kind g s old old buf (record { count = 0; first = 0; fault = 0 }) 0
-  decoding-start = walking-start (byRows reading g kind s) fault 864 (volumePicture g) (covered g sound)
+  decoding-start = walking-start (volumeByRows reading g kind s) fault 864 (volumePicture g) (covered g sound)
 
   -- one block more
   pub decoding-more : (old l buf : List ℕ) (t : Tally) (b : ℕ) (new buf′ : List ℕ) (t′ : Tally) (e : ℕ) → Decoding reading kind g s old l buf t b
-      → b < g .deep * g .down * g .across → length new ≡ length l → length buf′ ≡ 864 → Tile (volumePicture g) b (byRows reading g kind s) l new
+      → b < g .deep * g .down * g .across → length new ≡ length l → length buf′ ≡ 864 → Tile (volumePicture g) b (volumeByRows reading g kind s) l new
       → e ≡ fault b → t′ ≡ noted t b e → Decoding reading kind g s old new buf′ t′ (b + 1)
-  decoding-more = walking-more (byRows reading g kind s) fault 864 (volumePicture g) (covered g sound)
+  decoding-more = walking-more (volumeByRows reading g kind s) fault 864 (volumePicture g) (covered g sound)
 
   -- after the last
   pub decoding-done : (old l buf : List ℕ) (t : Tally) (b : ℕ) → length old ≡ 4 * (g .depth * g .height * g .width) → g .deep * g .down * g .across ≤ b → Decoding reading kind g s old l buf t b
       → (t ≡ tallyOf fault (g .deep * g .down * g .across)) × (l ≡ volumeNumbersIn reading (g .footprint) kind (g .width) (g .height) (g .depth) s)
   unfolding volumeNumbersIn texelsIn
-  decoding-done = walking-done (byRows reading g kind s) fault 864 (volumePicture g) (covered g sound)
+  decoding-done = walking-done (volumeByRows reading g kind s) fault 864 (volumePicture g) (covered g sound)

@@ -18,6 +18,7 @@ use Rattle.volume_layout.specs.declared.CheckedVolume.{CheckedVolume}
 use Rattle.volume_layout.specs.declared.CheckedVolume.the-variants.{Rejected, Accepted}
 use Rattle.volume_layout.specs.Numbers.{texelsIn}
 use Rattle.volume_layout.specs.Call.{depthLimit, badDepth, badSizes, blocksOf, volumeRefusal, volumeGrid, checkedOf}
+use Rattle.volume_layout.specs.inner.Parts.{SoundGrid}
 
 -- ---- sizes that are not refused
 
@@ -91,35 +92,7 @@ module _ (fp w h d bytes places : ℕ) where
 
 -- ---- counts
 
--- the layout of an accepted volume
-pub record Sound (g : VolumeGrid) : Type 0 where
-  pub footprint : g .footprint < 24
-  pub width-least : 0 < g .width
-  pub width-most : g .width ≤ 16384
-  pub height-least : 0 < g .height
-  pub height-most : g .height ≤ 16384
-  pub depth-least : 0 < g .depth
-  pub depth-most : g .depth ≤ 2048
-  pub columns : g .columns ≡ widthOf (g .footprint)
-  pub columns-least : 0 < g .columns
-  pub columns-most : g .columns ≤ 12
-  pub rows : g .rows ≡ heightOf (g .footprint)
-  pub rows-least : 0 < g .rows
-  pub rows-most : g .rows ≤ 12
-  pub layers : g .layers ≡ depthOf (g .footprint)
-  pub layers-least : 0 < g .layers
-  pub layers-most : g .layers ≤ 6
-  pub room : g .layers * g .rows * g .columns ≤ 216
-  pub across : g .across ≡ blocksAcross (g .width) (g .columns)
-  pub across-least : 0 < g .across
-  pub across-most : g .across ≤ 16384
-  pub down : g .down ≡ blocksAcross (g .height) (g .rows)
-  pub down-least : 0 < g .down
-  pub down-most : g .down ≤ 16384
-  pub deep : g .deep ≡ blocksAcross (g .depth) (g .layers)
-  pub deep-most : g .deep ≤ 2048
-
-pub sound : (fp w h d : ℕ) → fp < 24 → badSizes w h d ≡ false → Sound (volumeGrid fp w h d)
+pub sound : (fp w h d : ℕ) → fp < 24 → badSizes w h d ≡ false → SoundGrid (volumeGrid fp w h d)
 unfolding volumeGrid
 sound fp w h d f e =
     let s = sized w h d e in
@@ -171,7 +144,7 @@ pub record Products (g : VolumeGrid) : Type 0 where
   pub rows : g .deep * g .down ≤ 2048 * 16384
   pub blocks : g .deep * g .down * g .across ≤ 2048 * 16384 * 16384
 
-pub products : (g : VolumeGrid) → Sound g → Products g
+pub products : (g : VolumeGrid) → SoundGrid g → Products g
 products g s = record {
   rows = mul-le-mul (s .deep-most) (s .down-most);
   blocks = three (g .deep) (g .down) (g .across) 2048 16384 16384 (s .deep-most) (s .down-most) (s .across-most);
@@ -275,7 +248,7 @@ module _ (fp w h d bytes places : ℕ) where
   pub record Passed (g : VolumeGrid) : Type 0 where
     pub none : volumeRefusal fp w h d bytes places ≡ 0
     pub layout : g ≡ volumeGrid fp w h d
-    pub is-sound : Sound g
+    pub is-sound : SoundGrid g
     pub exact-bytes : bytes ≡ 16 * (g .deep * g .down * g .across)
     pub exact-places : places ≡ 4 * (g .depth * g .height * g .width)
 

@@ -6,12 +6,13 @@ use native.Mathlib.Nat.{div-add-mod', mod-lt, div-lt-iff-lt-mul, div-eq-of-lt, m
 use native.Mathlib.Omega.{arith}
 use Rattle.image_size.specs.Sides.{blocksAcross}
 use Rattle.image_size.proofs.Laws.{across-covers}
-use Rattle.picture_regions.specs.Picture.{blockIn}
+use Rattle.picture_regions.specs.inner.Regions.{blockIn, Cropped}
 use Rattle.picture_regions.proofs.Covering.{below-row, quotient, remainder}
-use Rattle.picture_regions.proofs.Blocks.{Covered, Cropped, Reached}
+use Rattle.picture_regions.proofs.Blocks.{Covered, Reached}
 use Rattle.volume_layout.specs.declared.VolumeGrid.{VolumeGrid}
-use Rattle.volume_layout.specs.Rows.{layerRow, blockIndexIn, volumeRow, volumePicture}
-use Rattle.volume_layout.proofs.Sizes.{Sound}
+use Rattle.volume_layout.specs.Rows.{layerRow, blockIndexIn}
+use Rattle.volume_layout.specs.inner.Rows.{volumeRow, volumePicture}
+use Rattle.volume_layout.specs.inner.Parts.{SoundGrid, toRow}
 
 -- the block by rows is the block of the texel's place
 pub block-at : (g : VolumeGrid) (x y z : ℕ) → y < g .height
@@ -33,7 +34,7 @@ row-lt h d bh bd q ph pbh pbd l =
     let b : q % h / bh < blocksAcross h bh = across-covers h bh (q % h) pbh (mod-lt q ph) in
     omega (arith, below-row (blocksAcross h bh) (q / h / bd) (blocksAcross d bd) a)
 
-pub covered : (g : VolumeGrid) → Sound g → Covered (volumePicture g)
+pub covered : (g : VolumeGrid) → SoundGrid g → Covered (volumePicture g)
 covered g s = record {
   width-least = s .width-least;
   columns-least = s .columns-least;
@@ -42,13 +43,6 @@ covered g s = record {
 }
 
 -- ---- the rows of a block's part
-
--- row i of a part that begins in row y0 of layer z0 and has `rows` rows in each layer: where it lies in the volume, and in the block
-abbrev pub toRow : ℕ → ℕ → ℕ → ℕ → ℕ → ℕ
-toRow h y0 z0 rows i = (z0 + i / rows) * h + (y0 + i % rows)
-
-abbrev pub fromRow : ℕ → ℕ → ℕ → ℕ
-fromRow bh rows i = i / rows * bh + i % rows
 
 -- no two of these rows are one
 pub rows-apart : (h y0 z0 rows : ℕ) → 0 < rows → y0 + rows ≤ h → (i j : ℕ) → i < j → toRow h y0 z0 rows i ≡ toRow h y0 z0 rows j → ⊥
@@ -63,7 +57,7 @@ rows-apart h y0 z0 rows p fits i j l e =
     omega (arith, div-add-mod' i rows, div-add-mod' j rows)
 
 -- block by of the rows of blocks in the layer bz of blocks
-module _ (g : VolumeGrid) (sound : Sound g) (by bz rows layers : ℕ) (hby : by < g .down) (some : 0 < rows)
+module _ (g : VolumeGrid) (sound : SoundGrid g) (by bz rows layers : ℕ) (hby : by < g .down) (some : 0 < rows)
     (cr : Cropped (g .height) (by * g .rows) (g .rows) rows) (cl : Cropped (g .depth) (bz * g .layers) (g .layers) layers) where
   abbrev to : ℕ → ℕ
   to = toRow (g .height) (by * g .rows) (bz * g .layers) rows

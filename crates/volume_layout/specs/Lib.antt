@@ -2,3 +2,4 @@ pub mod Rows
 pub mod Numbers
 pub mod Call
 pub mod OwnBlock
+pub mod inner

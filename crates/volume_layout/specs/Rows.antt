@@ -1,9 +1,7 @@
 -- 02, h: "texels and blocks with x fastest, then y, then z". A volume is a list of rows, those of its first layer first, and so are its blocks:
 -- each row of texels lies in one row of blocks.
 -- Assumes nothing.
-use Prim.Native.Nat.{ℕ, _+_, _*_, _/_, _%_}
-use Rattle.picture_regions.specs.Picture.{Picture}
-use Rattle.volume_layout.specs.declared.VolumeGrid.{VolumeGrid}
+use Prim.Native.Nat.{ℕ, _+_, _*_, _/_}
 
 -- the row of texels that is row y of layer z, in layers of h rows
 abbrev pub layerRow : ℕ → ℕ → ℕ → ℕ
@@ -12,20 +10,3 @@ layerRow h y z = z * h + y
 -- the block that shows the texel at x, y, z, with nx blocks in a row and ny rows of blocks in a layer
 unfoldable pub blockIndexIn : ℕ → ℕ → ℕ → ℕ → ℕ → ℕ → ℕ → ℕ → ℕ
 blockIndexIn nx ny bw bh bd x y z = (z / bd * ny + y / bh) * nx + x / bw
-
--- ---- by rows
-
--- the row of blocks that shows row q of a volume, in layers of h rows and of ny rows of blocks
-unfoldable pub volumeRow : ℕ → ℕ → ℕ → ℕ → ℕ → ℕ
-volumeRow h ny bh bd q = q / h / bd * ny + q % h / bh
-
--- a volume by rows
-abbrev pub volumePicture : VolumeGrid → Picture
-volumePicture g = record {
-  width = g .width;
-  rows = g .depth * g .height;
-  columns = g .columns;
-  across = g .across;
-  down = g .deep * g .down;
-  row = volumeRow (g .height) (g .down) (g .rows) (g .layers);
-}

@@ -19,7 +19,8 @@ use Rattle.block_mode.specs.Back2D.{Limits, flatModeOf}
 use Rattle.block_mode.proofs.Modes as flat
 use Rattle.block_mode.proofs.Modes.{isMode, isGrid, is-grid, same-grid, under, never}
 use Rattle.volume_mode.specs.Mode3D.{volumeMode}
-use Rattle.volume_mode.specs.Back3D.{inVolume, Edges, volumeBits, isDouble}
+use Rattle.volume_mode.specs.Back3D.{inVolume, volumeBits, isDouble}
+use Rattle.volume_mode.specs.inner.Edges.{Edges}
 use Rattle.volume_mode.specs.Either.{blockModeIn, isDeep, blockModeOf}
 use Rattle.volume_mode.specs.LeastMode.{LeastMode}
 use Rattle.volume_mode.proofs.Limits.{edges, edge-limits}

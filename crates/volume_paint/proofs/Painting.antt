@@ -10,9 +10,9 @@ use lib.Arith.{digits-div, digits-mod}
 use lib.Dec.{eqb}
 use lib.ListN.{getD}
 use Rattle.laws.specs.Choice.{pick}
-use Rattle.laws.specs.Table.{tab}
+use Rattle.laws.specs.Table.{tab, byRows}
 use Rattle.encoding.specs.declared.LevelPair.{LevelPair}
-use Rattle.encoding.specs.Levels.{firstLevel, secondLevel}
+use Rattle.encoding.specs.inner.Levels.{firstLevel, secondLevel}
 use Rattle.partition.specs.declared.Seeds.{Seeds}
 use Rattle.partition.specs.Select.{partitionOf}
 use Rattle.partition.specs.inner.Seeds.{selectBy}
@@ -25,7 +25,7 @@ use Rattle.interpolation.specs.declared.Texel.{Texel}
 use Rattle.half_line.specs.inner.Line.{texelOn}
 use Rattle.block_buffer.proofs.Painting.{place-fits}
 use Rattle.volume_paint.specs.declared.VolumeFrame.{VolumeFrame}
-use Rattle.volume_paint.specs.Volume.{byRows, volumeTexelAt, volumeTexel, InVolume}
+use Rattle.volume_paint.specs.inner.Volume.{volumeTexelAt, volumeTexel, InVolume}
 
 -- ---- rows of layers
 

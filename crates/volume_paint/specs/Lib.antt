@@ -1,1 +1,1 @@
-pub mod Volume
+pub mod inner

@@ -7,8 +7,9 @@ ghost use mathlib.Core.Path.{_≡_};
 ghost use Prim.Native.Nat.{_+_, _*_, _≤_};
 ghost use lib.ListN.{length};
 ghost use Rattle.volume_infill.specs.inner.Way.{ByteLevels};
-ghost use Rattle.block_buffer.specs.Painted.{painted};
-ghost use Rattle.volume_paint.specs.Volume.{volumeTexel, byRows, InVolume};
+ghost use Rattle.block_buffer.specs.inner.Painted.{painted};
+ghost use Rattle.volume_paint.specs.inner.Volume.{volumeTexel, InVolume};
+ghost use Rattle.laws.specs.Table.{byRows};
 
 // A volume's sides and the scale factors of a weight grid along them.
 pub struct VolumeFrame {

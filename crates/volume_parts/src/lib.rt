@@ -3,12 +3,11 @@ use image_layout::Run;
 use volume_layout::VolumeGrid;
 use volume_layout::VolumePart;
 ghost use Prim.Native.Nat.{_*_, _<_};
-ghost use Rattle.volume_layout.proofs.Sizes.{Sound};
-ghost use Rattle.volume_layout.proofs.Parts.{Fits, PartOf, RunOf};
+ghost use Rattle.volume_layout.specs.inner.Parts.{SoundGrid, PartFits, PartOf, RunOf};
 
 // The part of the volume that block b covers.
 pub fn part_of(g: VolumeGrid, b: usize) -> VolumePart
-    requires { ⌜ Sound g ⌝ }
+    requires { ⌜ SoundGrid g ⌝ }
     requires { ⌜ b < g .deep * g .down * g .across ⌝ }
     ensures { λ r. ⌜ PartOf g b r ⌝ }
 {
@@ -31,8 +30,8 @@ pub fn part_of(g: VolumeGrid, b: usize) -> VolumePart
 
 // Row dy of layer dz of a part.
 pub fn run_of(g: VolumeGrid, p: VolumePart, dy: usize, dz: usize) -> Run
-    requires { ⌜ Sound g ⌝ }
-    requires { ⌜ Fits g p ⌝ }
+    requires { ⌜ SoundGrid g ⌝ }
+    requires { ⌜ PartFits g p ⌝ }
     requires { ⌜ (dy < p .rows) × (dz < p .layers) ⌝ }
     ensures { λ r. ⌜ RunOf g p dy dz r ⌝ }
 {

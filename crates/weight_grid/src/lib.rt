@@ -2,7 +2,7 @@
 ghost use mathlib.Core.Path.{_≡_};
 ghost use Prim.Native.Nat.{ℕ, _-_, _*_, _%_, _≤_, _<_};
 ghost use Rattle.weight_grid.specs.Place.{scaleOf, gridPlace};
-ghost use Rattle.encoding.specs.Levels.{firstLevel, secondLevel, BytePair};
+ghost use Rattle.encoding.specs.inner.Levels.{firstLevel, secondLevel, BytePair};
 ghost use Rattle.weight_grid.specs.Bilinear.{blendOf};
 ghost use Rattle.weight_grid.specs.inner.Points.{bothOf, neighbourStep};
 ghost use Rattle.weight_grid.specs.inner.Columns.{columnOf, noColumn};

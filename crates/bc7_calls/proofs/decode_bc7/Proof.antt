@@ -3,7 +3,7 @@ use lib.ListN.{length}
 use Rattle.block_answer.specs.Told.{numberTold}
 use denote.Ref.{now}
 use borrow.Author.Needs.{needs}
-use Rattle.bits.proofs.Blocks.{Bytes}
+use Rattle.laws.specs.Table.{Bytes}
 use Rattle.bc7_calls.proofs.Laws.{refused-answer, refused-out, sizes, shown-answer, shown-out, answer-told, texels-length}
 use Rattle.bc7_calls.proofs.decode_bc7.Statement.{statement}
 use Rattle.bc7_calls.proofs.decode_bc7.Tie as tie

@@ -1,7 +1,7 @@
 use mathlib.Core.Path.{_≡_, refl, sym, ap, _∙_}
 use native.Mathlib.Omega.{arith}
 use denote.Ref.{now}
-use Rattle.bits.proofs.Blocks.{Bytes}
+use Rattle.laws.specs.Table.{Bytes}
 use Rattle.bc7_calls.proofs.Laws.{wrong-length, right-length, reading-told}
 use borrow.Author.Needs.{needs}
 use Rattle.bc7_calls.proofs.read_bc7.Statement.{statement}

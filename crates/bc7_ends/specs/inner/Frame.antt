@@ -7,10 +7,10 @@ use Rattle.laws.specs.Choice.{pick}
 use Rattle.bc7_layout.specs.Modes.{modeRow, subsets, colourBits, alphaBits}
 use Rattle.bc7_layout.specs.Layout.{placeOf, modeAt, partitionFieldAt}
 use Rattle.bc7_layout.specs.inner.Plan.{planOf}
-use Rattle.bc7_ends.specs.declared.Frame.{Frame}
+use Rattle.bc7_ends.specs.declared.Bc7Frame.{Bc7Frame}
 
 -- the frame of a block that has a mode; the places do not depend on the partition
-pub record Framed (B : ℕ) (f : Frame) : Type 0 where
+pub record Framed (B : ℕ) (f : Bc7Frame) : Type 0 where
   pub known : modeAt B < 8
   pub mode : f .mode ≡ modeAt B
   pub row : f .row ≡ modeRow (modeAt B)

@@ -5,7 +5,7 @@ use native.Mathlib.Omega.{arith}
 use lib.ListN.{length, getD}
 use Rattle.laws.specs.Table.{tab}
 use Rattle.laws.proofs.Filling.{getD-tab}
-use Rattle.picture_regions.proofs.Regions.{Pasted}
+use Rattle.picture_regions.specs.inner.Regions.{Pasted}
 use borrow.Author.Needs.{needs}
 use Rattle.bc7_image.proofs.copy_run.Statement.{statement}
 use Rattle.bc7_image.proofs.copy_run.Tie as tie

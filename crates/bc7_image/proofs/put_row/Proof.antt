@@ -3,7 +3,8 @@ use mathlib.Core.List.{List}
 use Prim.Native.Nat.{ℕ, _+_, _-_, _≤_}
 use native.Mathlib.Omega.{arith}
 use lib.ListN.{length, getD, length-set}
-use Rattle.picture_regions.proofs.Regions.{Pasted, pasted-none, pasted-more}
+use Rattle.picture_regions.proofs.Regions.{pasted-none, pasted-more}
+use Rattle.picture_regions.specs.inner.Regions.{Pasted}
 use Rattle.bc7_image.proofs.put_row.Statement.{statement}
 use Rattle.bc7_image.proofs.put_row.Tie as tie
 

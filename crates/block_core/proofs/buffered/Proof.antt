@@ -3,7 +3,7 @@ use mathlib.Core.List.{List}
 use Prim.Native.Nat.{ℕ}
 use lib.ListN.{length}
 use Rattle.footprint.specs.Footprint.{widthOf, texelsOf}
-use Rattle.block_buffer.specs.Painted.{painted}
+use Rattle.block_buffer.specs.inner.Painted.{painted}
 use borrow.Author.Needs.{needs}
 use Rattle.block_core.proofs.buffered.Statement.{statement}
 use Rattle.block_core.proofs.buffered.Tie as tie

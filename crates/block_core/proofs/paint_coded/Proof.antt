@@ -3,7 +3,8 @@ use mathlib.Core.Path.{_≡_, sym, _∙_}
 use Rattle.bits.specs.Block.{blockNumber}
 use Rattle.footprint.specs.Footprint.{isVolume}
 use Rattle.block_fault.specs.Bits.{weightAt}
-use Rattle.block_core.specs.inner.Prepared.{frameOf, Inside, ByteLevels}
+use Rattle.block_core.specs.inner.Prepared.{frameOf, Inside}
+use Rattle.volume_infill.specs.inner.Way.{ByteLevels}
 use Rattle.block_levels.proofs.Levels.{layer-le}
 use Rattle.block_core.proofs.Frames.{inside, in-volume}
 use Rattle.block_core.proofs.Painting.{points-true, point-told, room-for}

@@ -15,16 +15,16 @@ use Rattle.partition.specs.declared.Seeds.{Seeds}
 use Rattle.partition.specs.inner.Seeds.{selectBy}
 use Rattle.weight_grid.specs.Place.{scaleOf, gridPlace}
 use Rattle.encoding.specs.declared.LevelPair.{LevelPair}
-use Rattle.encoding.specs.Levels.{firstLevel, secondLevel, BytePair}
+use Rattle.encoding.specs.inner.Levels.{firstLevel, secondLevel}
 use Rattle.weight_grid.specs.inner.Points.{noPoint, readOf}
 use Rattle.interpolation.specs.declared.Kind.{Kind}
 use Rattle.interpolation.specs.declared.Texel.{Texel}
 use Rattle.half_line.specs.inner.Line.{texelOn}
 use Rattle.volume_paint.specs.declared.VolumeFrame.{VolumeFrame}
-use Rattle.block_core.specs.declared.Frame.{Frame}
+use Rattle.block_core.specs.declared.FlatFrame.{FlatFrame}
 
 -- the sides of a footprint and the scales of a grid along them
-unfoldable pub frameOf : ℕ → Frame
+unfoldable pub frameOf : ℕ → FlatFrame
 frameOf fp = record { width = widthOf fp; height = heightOf fp; across = scaleOf (widthOf fp); down = scaleOf (heightOf fp) }
 
 unfoldable pub volumeFrameOf : ℕ → VolumeFrame
@@ -44,7 +44,7 @@ module _ (kind : Kind) (g : WeightGrid) (component : ℕ) (points : List LevelPa
       texelOn kind (getD lines p []) (readOf firstLevel points (g .width) (g .height) gs gt) (readOf secondLevel points (g .width) (g .height) gs gt) component
 
   -- the texel at x, y of a block
-  unfoldable pub preparedTexel : Seeds → ℕ → Frame → ℕ → ℕ → Texel
+  unfoldable pub preparedTexel : Seeds → ℕ → FlatFrame → ℕ → ℕ → Texel
   unfolding texelOnGrid
   preparedTexel seeds partitions f x y =
       texelOnGrid (pick (eqb partitions 1) 0 (selectBy seeds x y)) (gridPlace (f .across) x (g .width)) (gridPlace (f .down) y (g .height))
@@ -54,16 +54,12 @@ unfoldable pub pointTexel : Kind → ℕ → List LevelPair → List (List ℕ) 
 pointTexel kind component points lines t =
     texelOn kind (getD lines 0 []) (firstLevel (getD points t noPoint)) (secondLevel (getD points t noPoint)) component
 
--- the levels of each point are bytes
-abbrev pub ByteLevels : List LevelPair → Type 0
-ByteLevels points = (k : ℕ) → BytePair (getD points k noPoint)
-
 -- a block of two halves
 abbrev pub halves : ℕ → ℕ → PhysicalBlock
 halves lo hi = record { lo = lo; hi = hi }
 
 -- no place of the block lies past the grid's last point, and there is room for its weights and its texels
-pub record Inside (g : WeightGrid) (f : Frame) : Type 0 where
+pub record Inside (g : WeightGrid) (f : FlatFrame) : Type 0 where
   pub columns : (x : ℕ) → x < f .width → gridPlace (f .across) x (g .width) ≤ 16 * (g .width - 1)
   pub rows : (y : ℕ) → y < f .height → gridPlace (f .down) y (g .height) ≤ 16 * (g .height - 1)
   pub limits : Limits g

@@ -5,7 +5,7 @@ use mathlib.Core.List.{List}
 use Prim.Native.Nat.{ℕ}
 use lib.ListN.{length}
 use Rattle.footprint.specs.Footprint.{widthOf, texelsOf}
-use Rattle.block_buffer.specs.Painted.{painted}
+use Rattle.block_buffer.specs.inner.Painted.{painted}
 use Rattle.block_core.specs.declared.Decoded.{Decoded}
 use Rattle.block_core.specs.declared.Decoded.the-variants.{Uniform, Buffered}
 

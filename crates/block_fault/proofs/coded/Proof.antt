@@ -7,7 +7,7 @@ use Rattle.footprint.specs.Footprint.{isVolume}
 use Rattle.volume_mode.specs.Either.{blockModeIn}
 use Rattle.block_mode.specs.declared.BlockMode.the-variants.{Grid}
 use Rattle.volume_mode.proofs.Modes.{any-limits}
-use Rattle.block_header.specs.Reasons.{gridFault}
+use Rattle.block_header.specs.inner.Stages.{gridFault}
 use Rattle.block_header.proofs.Laws.{grid-bits, ends-count}
 use Rattle.block_fault.specs.Bits.{modeAt, partitionsAt}
 use Rattle.block_fault.proofs.Laws.{Narrow, narrow, made-grid}

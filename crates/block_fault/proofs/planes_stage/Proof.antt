@@ -1,5 +1,5 @@
 use mathlib.Core.Path.{refl}
-use Rattle.block_header.specs.Stages.{stageOf}
+use Rattle.block_header.specs.inner.Stages.{stageOf}
 use borrow.Author.Needs.{needs}
 use Rattle.block_fault.proofs.planes_stage.Statement.{statement}
 use Rattle.block_fault.proofs.planes_stage.Tie as tie

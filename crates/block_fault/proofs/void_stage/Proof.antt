@@ -3,7 +3,7 @@ use Rattle.bits.specs.Block.{blockNumber}
 use Rattle.footprint.specs.Footprint.{isVolume}
 use Rattle.void_extent.specs.Layout.{badVoidExtent}
 use Rattle.block_fault.proofs.Laws.{void-extents, void-hdr, void-sound}
-use Rattle.block_header.specs.Stages.{stageOf}
+use Rattle.block_header.specs.inner.Stages.{stageOf}
 use borrow.Author.Needs.{needs}
 use Rattle.block_fault.proofs.void_stage.Statement.{statement}
 use Rattle.block_fault.proofs.void_stage.Tie as tie

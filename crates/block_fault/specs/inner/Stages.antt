@@ -11,7 +11,7 @@ use Rattle.block_fault.specs.declared.Verdict.{Verdict}
 use Rattle.block_fault.specs.declared.Verdict.the-variants.{Coded, VoidExtent, Fault}
 use Rattle.block_fault.specs.declared.Settings.{Settings}
 use Rattle.block_fault.specs.Faults.{voidReasons}
-use Rattle.block_fault.specs.Settings.{bareOf}
+use Rattle.block_fault.specs.inner.Settings.{bareOf}
 
 -- what a stage that stops makes of a block
 abbrev pub verdictFrom : Stage → Verdict

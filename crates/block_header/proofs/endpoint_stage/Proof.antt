@@ -1,5 +1,5 @@
 use mathlib.Core.Path.{sym, ap, _∙_}
-use Rattle.block_header.specs.Stages.{stageOf}
+use Rattle.block_header.specs.inner.Stages.{stageOf}
 use Prim.Native.Nat.{_+_, _*_, _/_, _≤_}
 use native.Mathlib.Omega.{arith}
 use Rattle.block_header.specs.Counts.{endpointCount, bitsLeft}

@@ -1,6 +1,6 @@
 use mathlib.Core.Path.{ap, _∙_}
 use borrow.Author.Needs.{needs}
-use Rattle.block_header.specs.Stages.{stageTold}
+use Rattle.block_header.specs.inner.Stages.{stageTold}
 use Rattle.block_header.proofs.Stages.{told-back}
 use Rattle.block_header.proofs.grid_fault.Statement.{statement}
 use Rattle.block_header.proofs.grid_fault.Tie as tie

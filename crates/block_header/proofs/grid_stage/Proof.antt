@@ -1,6 +1,6 @@
 use mathlib.Core.Path.{ap}
 use native.Mathlib.Omega.{arith}
-use Rattle.block_header.specs.Stages.{stageOf}
+use Rattle.block_header.specs.inner.Stages.{stageOf}
 use Rattle.block_header.proofs.Laws.{too-wide, too-high, too-deep, too-many, too-short, too-long, grid-sound}
 use borrow.Author.Needs.{needs}
 use Rattle.block_header.proofs.grid_stage.Statement.{statement}

@@ -3,7 +3,7 @@ use mathlib.Core.Path.{_≡_, sym, ap, _∙_}
 use mathlib.Core.Bool.{true}
 use lib.ListN.{length}
 use Rattle.bits.specs.Block.{numberOf, bytesOf, blockNumber}
-use Rattle.bits.proofs.Blocks.{Bytes}
+use Rattle.laws.specs.Table.{Bytes}
 use Rattle.bits.proofs.Halves.{loaded}
 use Rattle.block_fault.specs.Faults.{faultOf}
 use Rattle.block_reading.specs.Canonical.{canonicalIn}

@@ -10,7 +10,7 @@ use Rattle.interpolation.specs.declared.Kind.the-variants.{Srgb8}
 use Rattle.interpolation.specs.Expansion.{takesHdr}
 use Rattle.image_layout.proofs.Parts.{block-shown}
 use lib.ListN.{length}
-use Rattle.texel_fill.specs.Everywhere.{everywhere}
+use Rattle.texel_fill.specs.inner.Everywhere.{everywhere}
 use Rattle.image.proofs.Uniform.{uniform-held}
 use Rattle.image.proofs.show_bytes.Statement.{statement}
 use Rattle.image.proofs.show_bytes.Tie as tie

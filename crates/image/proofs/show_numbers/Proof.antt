@@ -10,7 +10,7 @@ use Rattle.footprint.proofs.Laws.{flat}
 use Rattle.picture_regions.proofs.Regions.{placed-as}
 use Rattle.image_layout.proofs.Parts.{block-shown}
 use lib.ListN.{length}
-use Rattle.texel_fill.specs.Everywhere.{everywhere}
+use Rattle.texel_fill.specs.inner.Everywhere.{everywhere}
 use Rattle.image.proofs.Uniform.{uniform-held}
 use Rattle.image.proofs.show_numbers.Statement.{statement}
 use Rattle.image.proofs.show_numbers.Tie as tie

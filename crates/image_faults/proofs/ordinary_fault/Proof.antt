@@ -2,7 +2,7 @@ use mathlib.Core.Path.{_≡_, sym, ap, _∙_}
 use mathlib.Core.Bool.{Bool}
 use Rattle.bits.specs.Block.{blockNumber}
 use Rattle.block_fault.specs.declared.Settings.{Settings}
-use Rattle.block_fault.specs.Settings.{verdictOf, settingsOf}
+use Rattle.block_fault.specs.inner.Settings.{verdictOf, settingsOf}
 use Rattle.interpolation.specs.Expansion.{takesHdr}
 use Rattle.block_fault.proofs.Verdicts.{settings-verdict, told-fault, told-void, told-coded}
 use native.Mathlib.Omega.{arith}

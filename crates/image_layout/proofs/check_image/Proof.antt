@@ -4,7 +4,8 @@ use Prim.Native.Nat.{_≤_}
 use native.Mathlib.Omega.{arith}
 use borrow.Author.Needs.{needs}
 use Rattle.image_size.specs.Sides.{badSide}
-use Rattle.image_layout.proofs.Calls.{Sound, sound, Sizes, sizes, refused-1, refused-3w, refused-3h, checked-rejected, wrong-bytes, wrong-places, right}
+use Rattle.image_layout.proofs.Calls.{sound, Sizes, sizes, refused-1, refused-3w, refused-3h, checked-rejected, wrong-bytes, wrong-places, right}
+use Rattle.image_layout.specs.inner.Parts.{SoundGrid}
 use Rattle.image_layout.proofs.check_image.Statement.{statement}
 use Rattle.image_layout.proofs.check_image.Tie as tie
 
@@ -19,7 +20,7 @@ high : (c : tie.Else3) → badSide (c .before .before .before .before .before .a
 high c = sym (c .before .bad-side2 .ensures) ∙ c .if3 .left
 
 small : (c : tie.After-grid-of) → Sizes (c .grid-of .result)
-small c = sizes _ (subst Sound (sym (c .grid-of .ensures)) (sound _ _ _ (let l = low (c .before) in omega arith) (wide (c .before)) (high (c .before))))
+small c = sizes _ (subst SoundGrid (sym (c .grid-of .ensures)) (sound _ _ _ (let l = low (c .before) in omega arith) (wide (c .before)) (high (c .before))))
 
 returns : tie.Need-returns
 returns c = let a = c .before .args in

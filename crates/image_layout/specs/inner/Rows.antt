@@ -1,7 +1,7 @@
 -- A flat picture by rows: h rows of blocks down, each of as many rows of texels as a block has.
 -- Assumes nothing.
 use Prim.Native.Nat.{_/_}
-use Rattle.picture_regions.specs.Picture.{Picture}
+use Rattle.picture_regions.specs.inner.Regions.{Picture}
 use Rattle.image_layout.specs.declared.ImageGrid.{ImageGrid}
 
 abbrev pub flatPicture : ImageGrid → Picture

@@ -3,7 +3,7 @@ use mathlib.Core.List.{List}
 use Prim.Native.Nat.{ℕ, _%_, _/_}
 use Rattle.interpolation.specs.declared.Kind.{Kind}
 use Rattle.interpolation.specs.declared.Texel.{Texel}
-use Rattle.interpolation.specs.Texel.{Mixes}
+use Rattle.interpolation.specs.inner.Mixes.{Mixes}
 use Rattle.interpolation.specs.inner.Line.{lineOf, lineTexel}
 use Rattle.interpolation.proofs.Lines.{line-texel}
 use borrow.Author.Needs.{needs}

@@ -1,7 +1,7 @@
 use mathlib.Core.Path.{_≡_, sym, _∙_}
 use mathlib.Core.List.{[], _∷_}
 use lib.ListN.{getD}
-use Rattle.encoding.specs.Levels.{firstLevel, secondLevel}
+use Rattle.encoding.specs.inner.Levels.{firstLevel, secondLevel}
 use Rattle.weight_grid.specs.Cell.{level}
 use Rattle.half_pair.specs.Pair.{noHalf, halfTableOf}
 use Rattle.half_line.proofs.Line.{half-line}

@@ -8,7 +8,7 @@ use borrow.Author.Tests.{eq-eqb, ne-eqb}
 use borrow.Author.Needs.{needs}
 use Rattle.laws.specs.Choice.{pick}
 use Rattle.encoding.specs.declared.LevelPair.{LevelPair}
-use Rattle.encoding.specs.Levels.{levelPair}
+use Rattle.encoding.specs.inner.Levels.{levelPair}
 use Rattle.quantization.specs.inner.Words.{byWords, RightWords}
 use Rattle.quantization.proofs.weight_pair.Statement.{statement}
 use Rattle.quantization.proofs.weight_pair.Tie as tie

@@ -15,10 +15,10 @@ same : (e f : ℕ) → e ≡ f → (e ≡ 0 → ⊥) → e ≡ refusalOr5 f
 same e f q n = rw (ne-eqb f 0 (λ z. n (q ∙ z))) q
 
 returns : tie.Need-returns
-returns c = five _ _ (c .before .frame-refusal .ensures) (c .if1 .taken)
+returns c = five _ _ (c .before .canonical-refusal .ensures) (c .if1 .taken)
 
 returns-2 : tie.Need-returns-2
-returns-2 c = same _ _ (c .before .frame-refusal .ensures) (c .if1 .left)
+returns-2 c = same _ _ (c .before .canonical-refusal .ensures) (c .if1 .left)
 
 pub refusal-or-5-spec : {M : Type 1} → statement M
 refusal-or-5-spec = tie.close (tie.spec (λ c κs. search needs) returns returns-2)

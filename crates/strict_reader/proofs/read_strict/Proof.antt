@@ -4,7 +4,7 @@ use mathlib.Core.List.{[], _∷_}
 use types.Run.{OneOf, miss}
 use denote.Enum.Declared.{tagOf}
 use Rattle.bits.specs.Block.{numberOf, blockNumber}
-use Rattle.bits.proofs.Blocks.{Bytes}
+use Rattle.laws.specs.Table.{Bytes}
 use Rattle.bits.proofs.Halves.{loaded}
 use Rattle.block_answer.specs.declared.Answer.{Answer}
 use Rattle.block_answer.specs.declared.Answer.the-variants.{Done}

@@ -4,7 +4,7 @@ use native.Mathlib.Omega.{arith}
 use borrow.Author.Needs.{needs}
 use lib.ListN.{length, getD}
 use Rattle.laws.proofs.Filling.{Filling, filling-start, filling-more, filling-done}
-use Rattle.symbolic_numbers.specs.Numbers.{clippedNumbers}
+use Rattle.symbolic_numbers.specs.inner.Numbers.{clippedNumbers}
 use Rattle.symbolic_numbers.proofs.clipped_numbers.Statement.{statement}
 use Rattle.symbolic_numbers.proofs.clipped_numbers.Tie as tie
 

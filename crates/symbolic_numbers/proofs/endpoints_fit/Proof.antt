@@ -6,7 +6,7 @@ use borrow.Author.Needs.{needs}
 use lib.Dec.{leb}
 use lib.ListN.{length, getD}
 use Rattle.laws.specs.Choice.{all}
-use Rattle.symbolic_numbers.specs.Numbers.{endpointsFit}
+use Rattle.symbolic_numbers.specs.inner.Numbers.{endpointsFit}
 use Rattle.symbolic_numbers.proofs.endpoints_fit.Statement.{statement}
 use Rattle.symbolic_numbers.proofs.endpoints_fit.Tie as tie
 

@@ -6,7 +6,8 @@ use borrow.Author.Needs.{needs}
 use lib.ListN.{length, getD, length-set}
 use Rattle.laws.specs.Table.{tab}
 use Rattle.symbolic_block.specs.Fields.{storedIn}
-use Rattle.symbolic_numbers.specs.Numbers.{addedOf, flatAt}
+use Rattle.symbolic_numbers.specs.Numbers.{addedOf}
+use Rattle.symbolic_numbers.specs.inner.Numbers.{flatAt}
 use Rattle.symbolic_numbers.proofs.Laws.{flat-by-position}
 use Rattle.symbolic_numbers.proofs.Laid.{Laid, laid-none, laid-more, laid-4, all-laid}
 use Rattle.symbolic_numbers.proofs.put.Statement.{statement}

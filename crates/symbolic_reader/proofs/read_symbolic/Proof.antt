@@ -9,14 +9,14 @@ use mathlib.Core.Path.{_≡_, refl, sym, ap, ap₂, _∙_, subst}
 use Prim.Native.Nat.{_≤_}
 use lib.ListN.{length}
 use Rattle.bits.specs.Block.{numberOf, blockNumber}
-use Rattle.bits.proofs.Blocks.{Bytes}
+use Rattle.laws.specs.Table.{Bytes}
 use Rattle.block_header.specs.Counts.{weightCount, endpointCount, endpointRangeOf}
 use Rattle.block_fault.specs.declared.Settings.{Settings}
 use Rattle.block_header.specs.declared.Stage.the-variants.{Passed}
 use Rattle.block_fault.specs.declared.Verdict.the-variants as verdict
 use Rattle.block_fault.specs.Bits.{headerAt}
-use Rattle.block_fault.specs.Settings.{verdictOf}
-use Rattle.block_header.specs.Stages.{stageOf}
+use Rattle.block_fault.specs.inner.Settings.{verdictOf}
+use Rattle.block_header.specs.inner.Stages.{stageOf}
 use Rattle.block_fault.proofs.Verdicts.{settings-verdict, told-coded, coded-header, coded-counts, coded-numbers}
 use Rattle.bits.proofs.Halves.{loaded}
 use Rattle.spare_bits.specs.Spare.{spareIn}

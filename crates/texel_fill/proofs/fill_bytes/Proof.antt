@@ -7,8 +7,9 @@ use Rattle.laws.proofs.Filling.{length-four}
 use Rattle.interpolation.specs.declared.Kind.the-variants.{Srgb8}
 use Rattle.interpolation.specs.declared.Texel.{Texel}
 use Rattle.interpolation.specs.Expansion.{shownOf}
-use Rattle.picture_regions.proofs.Regions.{Pasted, pasted-none}
-use Rattle.texel_fill.specs.Everywhere.{everywhere}
+use Rattle.picture_regions.proofs.Regions.{pasted-none}
+use Rattle.picture_regions.specs.inner.Regions.{Pasted}
+use Rattle.texel_fill.specs.inner.Everywhere.{everywhere}
 use Rattle.texel_fill.proofs.Filling.{pasted-texel}
 use borrow.Author.Needs.{needs}
 use Rattle.texel_fill.proofs.fill_bytes.Statement.{statement}

@@ -3,7 +3,7 @@ use Prim.Native.Nat.{_+_, _*_, _/_, _≤_, _<_}
 use native.Mathlib.Nat.{mul-le-mul-left}
 use native.Mathlib.Omega.{arith}
 use Rattle.bits.specs.Block.{blockNumber}
-use Rattle.encoding.specs.Levels.{firstLevel, secondLevel}
+use Rattle.encoding.specs.inner.Levels.{firstLevel, secondLevel}
 use Rattle.weight_grid.specs.inner.Points.{neighbourStep}
 use Rattle.weight_grid.proofs.Reading.{read-lt}
 use Rattle.block_levels.proofs.Levels.{points-le}

@@ -4,7 +4,7 @@ use denote.Ref.{now}
 use borrow.Author.Needs.{needs}
 use Rattle.footprint.proofs.Laws.{flat}
 use Rattle.bits.specs.Block.{numberOf, blockNumber}
-use Rattle.bits.proofs.Blocks.{Bytes}
+use Rattle.laws.specs.Table.{Bytes}
 use Rattle.block_core.proofs.Shows.{held}
 use Rattle.bits.proofs.Halves.{loaded}
 use Rattle.unpack_text.specs.Text.{blockText}

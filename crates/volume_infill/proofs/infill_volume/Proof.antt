@@ -1,6 +1,6 @@
 use mathlib.Core.Path.{_∙_, ap, sym}
 use native.Mathlib.Omega.{arith}
-use Rattle.encoding.specs.Levels.{firstLevel, secondLevel}
+use Rattle.encoding.specs.inner.Levels.{firstLevel, secondLevel}
 use Rattle.volume_infill.specs.inner.Way.{along, volumeRead}
 use Rattle.volume_infill.proofs.Reading.{Routed, routed}
 use borrow.Author.Needs.{needs}

@@ -7,7 +7,7 @@ use lib.Dec.{ltb}
 use lib.ListN.{getD}
 use Rattle.laws.specs.Choice.{pick}
 use Rattle.encoding.specs.declared.LevelPair.{LevelPair}
-use Rattle.encoding.specs.Levels.{BytePair}
+use Rattle.encoding.specs.inner.Levels.{BytePair}
 use Rattle.weight_grid.specs.inner.Points.{neighbourStep, noPoint}
 use Rattle.volume_infill.specs.declared.Walk.{Walk}
 use Rattle.volume_infill.specs.declared.Route.{Route}

@@ -5,7 +5,8 @@ use native.Mathlib.Omega.{arith}
 use borrow.Author.Needs.{needs}
 use Rattle.volume_layout.specs.Numbers.{texelsIn}
 use Rattle.volume_layout.specs.Call.{badSizes, blocksOf}
-use Rattle.volume_layout.proofs.Sizes.{Sound, sound, refused-1, refused-3, refused-4, refused-5, refused-none, rejected, accepted, block-count, texel-count}
+use Rattle.volume_layout.proofs.Sizes.{sound, refused-1, refused-3, refused-4, refused-5, refused-none, rejected, accepted, block-count, texel-count}
+use Rattle.volume_layout.specs.inner.Parts.{SoundGrid}
 use Rattle.volume_layout.specs.declared.CheckedVolume.the-variants.{Accepted}
 use Rattle.volume_layout.proofs.check_volume.Statement.{statement}
 use Rattle.volume_layout.proofs.check_volume.Tie as tie
@@ -17,8 +18,8 @@ low c = c .before .before .if1 .left
 fine : (c : tie.Else2) → (let a = c .before .before .before .args in badSizes (a .width) (a .height) (a .depth)) ≡ false
 fine c = sym (c .before .bad-sizes .ensures) ∙ c .if2 .left
 
-layout : (c : tie.After-grid-of) → Sound (c .grid-of .result)
-layout c = subst Sound (sym (c .grid-of .ensures)) (sound _ _ _ _ (let l = low (c .before) in omega arith) (fine (c .before)))
+layout : (c : tie.After-grid-of) → SoundGrid (c .grid-of .result)
+layout c = subst SoundGrid (sym (c .grid-of .ensures)) (sound _ _ _ _ (let l = low (c .before) in omega arith) (fine (c .before)))
 
 -- the counts that the lengths are compared with
 blocks : (c : tie.After-product) → (let a = c .before .before .before .before .before .args in c .product .result ≡ blocksOf (a .footprint) (a .width) (a .height) (a .depth))

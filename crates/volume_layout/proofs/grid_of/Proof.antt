@@ -1,11 +1,12 @@
 use native.Mathlib.Omega.{arith}
 use borrow.Author.Needs.{needs}
 use Rattle.volume_layout.specs.Call.{volumeGrid}
-use Rattle.volume_layout.proofs.Sizes.{Sound, sound}
+use Rattle.volume_layout.proofs.Sizes.{sound}
+use Rattle.volume_layout.specs.inner.Parts.{SoundGrid}
 use Rattle.volume_layout.proofs.grid_of.Statement.{statement}
 use Rattle.volume_layout.proofs.grid_of.Tie as tie
 
-facts : (c : tie.Start) → Sound (volumeGrid (c .args .footprint) (c .args .width) (c .args .height) (c .args .depth))
+facts : (c : tie.Start) → SoundGrid (volumeGrid (c .args .footprint) (c .args .width) (c .args .height) (c .args .depth))
 facts c = sound _ _ _ _ (c .pre .0) (c .pre .1)
 
 blocks-across-requires : tie.Need-blocks-across-requires

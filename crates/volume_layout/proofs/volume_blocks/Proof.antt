@@ -3,7 +3,8 @@ use native.Mathlib.Omega.{arith}
 use borrow.Author.Tests.{lt-ltb, le-ltb}
 use borrow.Author.Needs.{needs}
 use Rattle.volume_layout.specs.Call.{volumeBlocks}
-use Rattle.volume_layout.proofs.Sizes.{Sound, sound, block-count}
+use Rattle.volume_layout.proofs.Sizes.{sound, block-count}
+use Rattle.volume_layout.specs.inner.Parts.{SoundGrid}
 use Rattle.volume_layout.proofs.volume_blocks.Statement.{statement}
 use Rattle.volume_layout.proofs.volume_blocks.Tie as tie
 
@@ -21,7 +22,7 @@ grid-of-requires c κs = (let l = c .before .before .if1 .left in omega arith, s
 product-requires : tie.Need-product-requires
 product-requires c κs =
     let t = c .before in
-    let s = subst Sound (sym (c .grid-of .ensures)) (sound _ _ _ _ (let l = t .before .before .if1 .left in omega arith) (sym (t .before .bad-sizes .ensures) ∙ t .if2 .left)) in
+    let s = subst SoundGrid (sym (c .grid-of .ensures)) (sound _ _ _ _ (let l = t .before .before .if1 .left in omega arith) (sym (t .before .bad-sizes .ensures) ∙ t .if2 .left)) in
     (s .deep-most, s .down-most, s .across-most)
 
 returns-3 : tie.Need-returns-3

@@ -9,7 +9,8 @@ use Rattle.partition.proofs.Rows.{which-lt}
 use Rattle.volume_infill.specs.inner.Way.{WithinGrid}
 use Rattle.volume_infill.proofs.Reading.{Routed, routed}
 use Rattle.block_buffer.proofs.Painting.{Laid, laid-texel, laid-as, laid-none, laid-done, row-end}
-use Rattle.volume_paint.specs.Volume.{byRows, volumeTexel}
+use Rattle.volume_paint.specs.inner.Volume.{volumeTexel}
+use Rattle.laws.specs.Table.{byRows}
 use Rattle.volume_paint.proofs.Painting.{row-lt, layer-end, rows-most, in-buffer, on-grid, told}
 use Rattle.volume_paint.proofs.paint_volume.Statement.{statement}
 use Rattle.volume_paint.proofs.paint_volume.Tie as tie

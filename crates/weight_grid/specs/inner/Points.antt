@@ -8,7 +8,7 @@ use Rattle.laws.specs.Choice.{pick}
 use Rattle.laws.specs.Table.{padded}
 use Rattle.encoding.specs.declared.Level.{Level}
 use Rattle.encoding.specs.declared.LevelPair.{LevelPair}
-use Rattle.encoding.specs.Levels.{levelPair}
+use Rattle.encoding.specs.inner.Levels.{levelPair}
 use Rattle.weight_grid.specs.Cell.{levelIn}
 use Rattle.weight_grid.specs.Bilinear.{w00, w01, w10, w11, blendOf}
 

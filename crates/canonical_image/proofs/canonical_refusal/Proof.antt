@@ -3,8 +3,8 @@ use Prim.Native.Nat.{ℕ, _*_}
 use Rattle.image_size.specs.Sides.{sizeRefusal, blocksOf}
 use Rattle.canonical_image.proofs.Laws.{frame-size, frame-4, frame-5, frame-none}
 use borrow.Author.Needs.{needs}
-use Rattle.canonical_image.proofs.frame_refusal.Statement.{statement}
-use Rattle.canonical_image.proofs.frame_refusal.Tie as tie
+use Rattle.canonical_image.proofs.canonical_refusal.Statement.{statement}
+use Rattle.canonical_image.proofs.canonical_refusal.Tie as tie
 
 returns : tie.Need-returns
 returns c = frame-size _ _ _ _ _ _ (c .before .size-refusal .ensures) (c .if1 .taken)
@@ -25,8 +25,8 @@ returns-3 c = frame-5 _ _ _ _ _ (none (c .before .before .before)) (c .before .i
 returns-4 : tie.Need-returns-4
 returns-4 c = frame-none _ _ _ _ _ (none (c .before .before .before)) (c .before .if2 .left ∙ sixteen (c .before .before)) (c .if3 .left)
 
-pub frame-refusal-spec : {M : Type 1} → statement M
-frame-refusal-spec =
+pub canonical-refusal-spec : {M : Type 1} → statement M
+canonical-refusal-spec =
     tie.close
     (tie.spec
     (λ c κs. search needs)

@@ -1,12 +1,12 @@
 -- The texel of a volume's block whose weights and endpoints are unquantised, its points packed and its pairs made lines: what is left to do for
 -- each texel. That it is the block's texel by the definitions is a theorem of block_core.
 -- Assumes nothing.
-use Prim.Native.Nat.{ℕ, _-_, _*_, _/_, _%_, _≤_, _<_}
+use Prim.Native.Nat.{ℕ, _-_, _*_, _≤_, _<_}
 use mathlib.Core.Bool.{Bool}
 use mathlib.Core.List.{List, []}
 use lib.ListN.{getD}
 use Rattle.encoding.specs.declared.LevelPair.{LevelPair}
-use Rattle.encoding.specs.Levels.{firstLevel, secondLevel}
+use Rattle.encoding.specs.inner.Levels.{firstLevel, secondLevel}
 use Rattle.partition.specs.Select.{partitionOf}
 use Rattle.weight_grid.specs.Place.{gridPlace}
 use Rattle.volume_infill.specs.inner.Way.{volumeRead}
@@ -14,11 +14,6 @@ use Rattle.interpolation.specs.declared.Kind.{Kind}
 use Rattle.interpolation.specs.declared.Texel.{Texel}
 use Rattle.half_line.specs.inner.Line.{texelOn}
 use Rattle.volume_paint.specs.declared.VolumeFrame.{VolumeFrame}
-
--- 02, h: "x fastest, then y, then z": a block is a list of rows, those of its first layer first; what column x of row q is, in layers of so
--- many rows, of what has a place
-abbrev pub byRows : {A : Type 0} → ℕ → (ℕ → ℕ → ℕ → A) → ℕ → ℕ → A
-byRows height f x q = f x (q % height) (q / height)
 
 module _ (kind : Kind) (width height depth component : ℕ) (points : List LevelPair) (lines : List (List ℕ)) where
   -- the texel of partition p at gs, gt, gr of the grid; `component` takes the second weight, 4 standing for none
