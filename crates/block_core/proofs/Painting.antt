@@ -23,7 +23,7 @@ use Rattle.encoding.specs.declared.LevelPair.{LevelPair}
 use Rattle.encoding.specs.inner.Levels.{firstLevel, secondLevel}
 use Rattle.weight_grid.specs.Bilinear.{w00, w01, w10, w11, blendOf}
 use Rattle.weight_grid.specs.inner.Points.{neighbourStep, noPoint, readOf}
-use Rattle.weight_grid.specs.inner.Columns.{columnOf}
+use Rattle.weight_grid.specs.inner.Columns.{gridColumn}
 use Rattle.weight_grid.specs.declared.Column.{Column}
 use Rattle.weight_grid.proofs.ByColumns.{read-column}
 use Rattle.block_levels.proofs.Levels.{layer-le}
@@ -42,11 +42,11 @@ pub reach : (g : WeightGrid) (gs gt : ℕ) → Limits g → weightCount g ≤ 64
 reach g gs gt l n hs ht =
     omega (arith, layer-le g l n, read-lt (g .width) (g .height) gs gt (omega (arith, l .width-low)) (omega (arith, l .height-low)) hs ht)
 
-module _ (g : WeightGrid) (f : FlatFrame) (x : ℕ) {gt upper lower : ℕ} (col : Column) (ec : col ≡ columnOf (f .across) (g .width) x) (eu : upper ≡ gt / 16 * g .width) (eo : lower ≡ upper + neighbourStep gt (g .height) (g .width)) where
+module _ (g : WeightGrid) (f : FlatFrame) (x : ℕ) {gt upper lower : ℕ} (col : Column) (ec : col ≡ gridColumn (f .across) (g .width) x) (eu : upper ≡ gt / 16 * g .width) (eo : lower ≡ upper + neighbourStep gt (g .height) (g .width)) where
   -- by a column: the last point that is read, and where the others stand before it
   pub reach-column : Limits g → weightCount g ≤ 64 → gridPlace (f .across) x (g .width) ≤ 16 * (g .width - 1) → gt ≤ 16 * (g .height - 1)
       → (lower + col .next < 64) × (col .at ≤ col .next) × (upper ≤ lower)
-  unfolding columnOf
+  unfolding gridColumn
   reach-column l n hs ht = rw (ec, eo, eu) (omega (arith, reach g (gridPlace (f .across) x (g .width)) gt l n hs ht), omega arith, omega arith)
 
   -- the texel, step by step

@@ -18,16 +18,16 @@ use Rattle.picture_regions.specs.inner.Regions.{Pasted}
 use Rattle.image_layout.specs.declared.ImageGrid.{ImageGrid}
 use Rattle.image_layout.specs.declared.Part.{Part}
 use Rattle.image_layout.specs.declared.Run.{Run}
-use Rattle.image_layout.proofs.Parts.{placed-row}
-use Rattle.image_layout.specs.inner.Parts.{PartFits, RunOf, RunFits, PlacedRows}
+use Rattle.image_layout.proofs.Parts.{Placing, placing-more}
+use Rattle.image_layout.specs.inner.Parts.{PartFits, RunOf, RunFits}
 use Rattle.texel_fill.specs.inner.Everywhere.{everywhere}
 use Rattle.texel_fill.proofs.Filling.{number-at, from-any}
 
 -- a row more
-pub row-filled : (show : ℕ → ℕ) (t : Texel) (g : ImageGrid) (p : Part) (dy : ℕ) (r : Run) (m : ℕ) (old l new : List ℕ) → PartFits g p → RunOf g p dy r → RunFits r 864 m
-    → PlacedRows show g p dy (everywhere t) old l → Pasted show (everywhere t) 0 (4 * p .columns) l (r .at) new → PlacedRows show g p (dy + 1) (everywhere t) old new
-row-filled show t g p dy r m old l new f o s pl q =
-    placed-row show g p dy r (everywhere t) old l new f o pl (from-any show t (r .from) (r .n) l (r .at) new (omega (arith, o .from)) (s .in-source) (rw (← o .n) at q))
+pub row-filled : (show : ℕ → ℕ) (t : Texel) (g : ImageGrid) (p : Part) (old : List ℕ) (r : Run) (m : ℕ) {l new : List ℕ} {dy : ℕ} → PartFits g p → dy < p .rows → RunOf g p dy r → RunFits r 864 m
+    → length new ≡ length l → Placing show g p (everywhere t) old l dy → Pasted show (everywhere t) 0 (4 * p .columns) l (r .at) new → Placing show g p (everywhere t) old new (dy + 1)
+row-filled show t g p old r m {l = l} {new = new} f h o s e pl q =
+    placing-more show g p (everywhere t) old r f h o e pl (from-any show t (r .from) (r .n) l (r .at) new (omega (arith, o .from)) (s .in-source) (rw (← o .n) at q))
 
 -- the numbers of such a block are the texel's
 pub uniform-held : (reading : Reading) (fp : ℕ) (kind : Kind) (B : ℕ) (t : Texel) → ((l : List ℕ) → intoIn reading fp kind B l ≡ painted (widthOf fp) (λ x y. t) (texelsOf fp) l)

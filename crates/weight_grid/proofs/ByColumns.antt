@@ -9,15 +9,15 @@ use Rattle.encoding.specs.declared.LevelPair.{LevelPair}
 use Rattle.weight_grid.specs.Place.{gridPlace}
 use Rattle.weight_grid.specs.Bilinear.{blendOf}
 use Rattle.weight_grid.specs.inner.Points.{neighbourStep, noPoint, readOf}
-use Rattle.weight_grid.specs.inner.Columns.{columnOf}
+use Rattle.weight_grid.specs.inner.Columns.{gridColumn}
 
 -- the rows above and below the place begin at `upper` and `lower`
 pub read-column : (plane : LevelPair → ℕ) (points : List LevelPair) (scale width height x gt : ℕ) {upper lower : ℕ} → upper ≡ gt / 16 * width → lower ≡ upper + neighbourStep gt height width
-    → blendOf (columnOf scale width x .part % 16) (gt % 16)
-    (plane (getD points (upper + columnOf scale width x .at) noPoint)) (plane (getD points (upper + columnOf scale width x .next) noPoint))
-    (plane (getD points (lower + columnOf scale width x .at) noPoint)) (plane (getD points (lower + columnOf scale width x .next) noPoint))
+    → blendOf (gridColumn scale width x .part % 16) (gt % 16)
+    (plane (getD points (upper + gridColumn scale width x .at) noPoint)) (plane (getD points (upper + gridColumn scale width x .next) noPoint))
+    (plane (getD points (lower + gridColumn scale width x .at) noPoint)) (plane (getD points (lower + gridColumn scale width x .next) noPoint))
     ≡ readOf plane points width height (gridPlace scale x width) gt
-unfolding readOf columnOf
+unfolding readOf gridColumn
 read-column plane points scale width height x gt eu el =
     let gs = gridPlace scale x width in
     let right = neighbourStep gs width 1 in

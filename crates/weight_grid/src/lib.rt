@@ -5,7 +5,7 @@ ghost use Rattle.weight_grid.specs.Place.{scaleOf, gridPlace};
 ghost use Rattle.encoding.specs.inner.Levels.{firstLevel, secondLevel, BytePair};
 ghost use Rattle.weight_grid.specs.Bilinear.{blendOf};
 ghost use Rattle.weight_grid.specs.inner.Points.{bothOf, neighbourStep};
-ghost use Rattle.weight_grid.specs.inner.Columns.{columnOf, noColumn};
+ghost use Rattle.weight_grid.specs.inner.Columns.{gridColumn, noColumn};
 ghost use Rattle.laws.specs.Table.{padded};
 use encoding::LevelPair;
 
@@ -74,7 +74,7 @@ pub struct Column {
 
 fn column_at(scale: u16, x: u8, points: u8) -> Column
     requires { ⌜ (gridPlace scale x points ≤ 16 * (points - 1)) × (points ≤ 12) ⌝ }
-    ensures { λ r. ⌜ r ≡ columnOf scale points x ⌝ }
+    ensures { λ r. ⌜ r ≡ gridColumn scale points x ⌝ }
 {
     let place = grid_place(scale, x, points);
     let at = (place / 16) as usize;
@@ -89,7 +89,7 @@ fn column_at(scale: u16, x: u8, points: u8) -> Column
 pub fn columns(scale: u16, points: u8, width: u8) -> [Column; 12]
     requires { ⌜ ((x : ℕ) → x < width → gridPlace scale x points ≤ 16 * (points - 1)) ⌝ }
     requires { ⌜ (points ≤ 12) × (width ≤ 12) ⌝ }
-    ensures { λ r. ⌜ r ≡ padded 12 width (columnOf scale points) noColumn ⌝ }
+    ensures { λ r. ⌜ r ≡ padded 12 width (gridColumn scale points) noColumn ⌝ }
 {
     let none = Column {
         at: 0,

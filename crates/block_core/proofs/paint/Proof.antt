@@ -9,7 +9,7 @@ use borrow.Author.Needs.{needs}
 use Rattle.laws.proofs.Filling.{padded-here}
 use Rattle.weight_grid.proofs.Points.{step-le}
 use Rattle.weight_grid.specs.declared.Column.{Column}
-use Rattle.weight_grid.specs.inner.Columns.{columnOf, noColumn}
+use Rattle.weight_grid.specs.inner.Columns.{gridColumn, noColumn}
 use Rattle.block_core.specs.inner.Prepared.{preparedTexel}
 use Rattle.partition.proofs.Rows.{which-lt}
 use Rattle.block_buffer.proofs.Painting.{Laid, laid-texel, laid-as, laid-none, laid-done, row-end, place-fits}
@@ -73,11 +73,11 @@ columnAt t = getD (rowOf t .before .before .before .before .columns .result) (x-
 narrow : (t : Place) → x-of t < 12
 narrow t = omega (arith, t .if2 .taken, start t .pre .0 .width-most)
 
-column-is : (t : Place) → columnAt t ≡ columnOf (start t .args .f .across) (start t .args .g .width) (x-of t)
+column-is : (t : Place) → columnAt t ≡ gridColumn (start t .args .f .across) (start t .args .g .width) (x-of t)
 column-is t =
     let a = start t .args in
     ap (λ (l : List Column). getD l (x-of t) noColumn) (rowOf t .before .before .before .before .columns .ensures)
-    ∙ (padded-here (columnOf (a .f .across) (a .g .width)) noColumn 12 (a .f .width) (x-of t) noColumn (narrow t) (t .if2 .taken))
+    ∙ (padded-here (gridColumn (a .f .across) (a .g .width)) noColumn 12 (a .f .width) (x-of t) noColumn (narrow t) (t .if2 .taken))
 
 abbrev upper : Place → ℕ
 upper t = rowOf t .grid-place .result / 16 * start t .args .g .width

@@ -1,7 +1,7 @@
 use mathlib.Core.Path.{_≡_}
 use Prim.Native.Nat.{_/_, _≤_}
 use native.Mathlib.Omega.{arith}
-use Rattle.weight_grid.specs.inner.Columns.{columnOf}
+use Rattle.weight_grid.specs.inner.Columns.{gridColumn}
 use Rattle.weight_grid.proofs.Points.{step-le}
 use borrow.Author.Needs.{needs}
 use Rattle.weight_grid.proofs.column_at.Statement.{statement}
@@ -14,7 +14,7 @@ one : (c : tie.After-step) → c .step .result ≤ 1
 one c = rw (c .step .ensures) (step-le (c .before .grid-place .result) (c .before .before .args .points) 1)
 
 pub column-at-spec : {M : Type 1} → statement M
-unfolding columnOf
+unfolding gridColumn
 column-at-spec =
     tie.close
     (tie.spec

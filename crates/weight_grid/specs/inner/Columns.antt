@@ -6,8 +6,8 @@ use Rattle.weight_grid.specs.inner.Points.{neighbourStep}
 use Rattle.weight_grid.specs.declared.Column.{Column}
 
 -- the points beside column x of a block, and its fraction
-unfoldable pub columnOf : ℕ → ℕ → ℕ → Column
-columnOf scale points x = record {
+unfoldable pub gridColumn : ℕ → ℕ → ℕ → Column
+gridColumn scale points x = record {
   at = gridPlace scale x points / 16;
   next = gridPlace scale x points / 16 + neighbourStep (gridPlace scale x points) points 1;
   part = gridPlace scale x points % 16;
