@@ -1,7 +1,7 @@
 -- A texel of a flat block from what is prepared, step by step.
 -- Assumes nothing.
-use mathlib.Core.Bool.{Bool, true, false}
-use mathlib.Core.Path.{_≡_, sym, _∙_, subst}
+use mathlib.Core.Bool.{Bool, true, false, not}
+use mathlib.Core.Path.{_≡_, refl, sym, ap, _∙_, subst}
 use mathlib.Core.List.{List, []}
 use Prim.Native.Nat.{ℕ, _+_, _-_, _*_, _/_, _%_, _≤_, _<_}
 use native.Mathlib.Nat.{mul-le-mul, mul-comm, mod-lt, div-lt-iff-lt-mul, div-add-mod'}
@@ -32,7 +32,8 @@ use Rattle.interpolation.specs.declared.Texel.{Texel}
 use Rattle.interpolation.specs.declared.Kind.{Kind}
 use Rattle.half_line.specs.inner.Line.{texelOn}
 use Rattle.block_core.specs.declared.FlatFrame.{FlatFrame}
-use Rattle.block_core.specs.inner.Prepared.{frameOf, texelOnGrid, preparedTexel, pointTexel}
+use Rattle.block_core.specs.inner.Prepared.{frameOf, texelOnGrid, preparedTexel, singleTexel, pointTexel}
+use Rattle.block_buffer.specs.inner.Painted.{painted}
 use Rattle.block_buffer.proofs.Painting.{one-of}
 use Rattle.block_core.proofs.Frames.{on-column, on-row}
 
@@ -49,20 +50,49 @@ module _ (g : WeightGrid) (f : FlatFrame) (x : ℕ) {gt upper lower : ℕ} (col 
   unfolding gridColumn
   reach-column l n hs ht = rw (ec, eo, eu) (omega (arith, reach g (gridPlace (f .across) x (g .width)) gt l n hs ht), omega arith, omega arith)
 
-  -- the texel, step by step
-  pub told : (kind : Kind) (component : ℕ) (points : List LevelPair) (lines : List (List ℕ)) (seeds : Seeds) (partitions y : ℕ)
-      {p : ℕ} (both : LevelPair) {which : List ℕ} {t : Texel} → x < 16
-      → which ≡ tab (λ k. pick (eqb partitions 1) 0 (selectBy seeds k y)) 16 → p ≡ getD which x 0 → gt ≡ gridPlace (f .down) y (g .height)
+  -- the texel of a partition, step by step
+  pub on-grid-told : (kind : Kind) (component : ℕ) (points : List LevelPair) (lines : List (List ℕ)) (y p : ℕ) (both : LevelPair) {t : Texel}
+      → gt ≡ gridPlace (f .down) y (g .height)
       → firstLevel both ≡ blendOf (col .part % 16) (gt % 16) (firstLevel (getD points (upper + col .at) noPoint)) (firstLevel (getD points (upper + col .next) noPoint))
       (firstLevel (getD points (lower + col .at) noPoint)) (firstLevel (getD points (lower + col .next) noPoint))
       → secondLevel both ≡ blendOf (col .part % 16) (gt % 16) (secondLevel (getD points (upper + col .at) noPoint)) (secondLevel (getD points (upper + col .next) noPoint))
       (secondLevel (getD points (lower + col .at) noPoint)) (secondLevel (getD points (lower + col .next) noPoint))
-      → t ≡ texelOn kind (getD lines p []) (firstLevel both) (secondLevel both) component → t ≡ preparedTexel kind g component points lines seeds partitions f x y
-  unfolding preparedTexel texelOnGrid
-  told kind component points lines seeds partitions y both h ew ep et e1 e2 el =
+      → t ≡ texelOn kind (getD lines p []) (firstLevel both) (secondLevel both) component
+      → t ≡ texelOnGrid kind g component points lines p (gridPlace (f .across) x (g .width)) (gridPlace (f .down) y (g .height))
+  unfolding texelOnGrid
+  on-grid-told kind component points lines y p both et e1 e2 el =
       let r1 = (rw ec at e1) ∙ read-column firstLevel points (f .across) (g .width) (g .height) x gt eu eo in
       let r2 = (rw ec at e2) ∙ read-column secondLevel points (f .across) (g .width) (g .height) x gt eu eo in
-      rw (el, r1, r2, et, ep ∙ which-told seeds partitions y x ew h)
+      rw (el, r1, r2, et)
+
+-- of the partition that its row tells
+pub told : (kind : Kind) (g : WeightGrid) (component : ℕ) (points : List LevelPair) (lines : List (List ℕ)) (seeds : Seeds) (partitions : ℕ) (f : FlatFrame) (x y : ℕ) {which : List ℕ} {t : Texel} → x < 16
+    → which ≡ tab (λ k. pick (eqb partitions 1) 0 (selectBy seeds k y)) 16
+    → t ≡ texelOnGrid kind g component points lines (getD which x 0) (gridPlace (f .across) x (g .width)) (gridPlace (f .down) y (g .height))
+    → t ≡ preparedTexel kind g component points lines seeds partitions f x y
+unfolding preparedTexel
+told kind g component points lines seeds partitions f x y h ew e = rw (← which-told seeds partitions y x ew h) e
+
+-- with one partition and one plane none is asked, and nor is the second weight
+pub single-told : (kind : Kind) (g : WeightGrid) (component : ℕ) (points : List LevelPair) (lines : List (List ℕ)) (seeds : Seeds) (partitions : ℕ) (f : FlatFrame) (n : ℕ) (old : List ℕ) {l : List ℕ}
+    → partitions ≡ 1 → component ≡ 4 → l ≡ painted (f .width) (singleTexel kind g points lines f) n old
+    → l ≡ painted (f .width) (preparedTexel kind g component points lines seeds partitions f) n old
+unfolding singleTexel preparedTexel
+single-told kind g component points lines seeds partitions f n old ep ec w = rw (ep, ec) w
+
+-- what the test of one partition and one plane says
+pub single-true : (partitions planes component : ℕ) {r : Bool} → r ≡ both (eqb partitions 1) (not (eqb planes 2)) → r ≡ true
+    → (partitions ≡ 1) × (pick (eqb planes 2) component 4 ≡ 4)
+single-true partitions planes component e t = go (eqb planes 2) refl where
+  p : T (both (eqb partitions 1) (not (eqb planes 2)))
+  p = subst T (sym (sym e ∙ t)) tt
+
+  one : partitions ≡ 1
+  one = eqb→eq partitions 1 (both-left (eqb partitions 1) _ p)
+
+  go : (b : Bool) → eqb planes 2 ≡ b → (partitions ≡ 1) × (pick (eqb planes 2) component 4 ≡ 4)
+  go false q = (one, rw q)
+  go true q = absurd (subst T (ap not q) (both-right (eqb partitions 1) (not (eqb planes 2)) p))
 
 -- what the test of a grid's sides says
 pub points-true : (partitions width w height h : ℕ) {r : Bool} → r ≡ both (eqb partitions 1) (both (eqb width w) (eqb height h)) → r ≡ true

@@ -19,7 +19,7 @@ ghost use Rattle.bits.specs.Block.{blockNumber};
 ghost use Rattle.footprint.specs.Footprint.{widthOf, texelsOf, isVolume};
 ghost use Rattle.block_header.specs.Counts.{weightCount, endpointCount, endpointRangeOf};
 ghost use Rattle.block_mode.specs.Back2D.{Limits};
-ghost use mathlib.Core.Bool.{false};
+ghost use mathlib.Core.Bool.{false, not};
 ghost use Rattle.interpolation.specs.Expansion.{takesHdr};
 ghost use Rattle.texel.specs.Meaning.{errorTexel, texelFrom};
 ghost use Rattle.texel.specs.BlockTexel.{inRow, blockInto};
@@ -28,7 +28,7 @@ ghost use Rattle.block_fault.specs.Faults.{faultOf};
 ghost use Rattle.block_buffer.specs.inner.Painted.{painted};
 ghost use mathlib.Core.List.{List};
 ghost use Rattle.block_core.specs.inner.Shows.{Shows};
-ghost use Rattle.block_core.specs.inner.Prepared.{frameOf, volumeFrameOf, preparedTexel, pointTexel, Inside, halves};
+ghost use Rattle.block_core.specs.inner.Prepared.{frameOf, volumeFrameOf, preparedTexel, singleTexel, pointTexel, Inside, halves};
 ghost use Rattle.volume_infill.specs.inner.Way.{ByteLevels};
 
 // A footprint's sides and the scale factors of a weight grid along them, once for each block.
@@ -133,6 +133,62 @@ fn paint(
     }
 }
 
+// The same of a block of one partition and one plane, as most blocks of a photograph are: no partition is asked, and no second weight.
+fn paint_single(
+    kind: Kind,
+    g: WeightGrid,
+    points: [LevelPair; 64],
+    lines: &[[u16; 10]; 4],
+    f: FlatFrame,
+    out: &mut [u16; 864],
+)
+    requires { ⌜ Inside g f ⌝ }
+    requires { ⌜ ByteLevels points ⌝ }
+    ensures { λ r. ⌜ (length (now (out .entry)) ≡ 864 → now (out .exit) ≡ painted (f .width) (singleTexel kind g points (now (lines .entry)) f) (f .height * f .width) (now (out .entry))) ⌝ }
+{
+    let row = g.width as usize;
+    let columns = weight_grid::columns(f.across, g.width, f.width);
+    let line = lines[0];
+    let mut y: u8 = 0;
+    while y < f.height {
+        let gt = weight_grid::grid_place(f.down, y, g.height);
+        let upper = ((gt / 16) as usize) * row;
+        let lower = upper + weight_grid::step(gt, g.height, row);
+        let mut x: u8 = 0;
+        while x < f.width {
+            let c = columns[x as usize];
+            let left = c.at as usize;
+            let right = c.next as usize;
+            let q00 = points[upper + left];
+            let q01 = points[upper + right];
+            let q10 = points[lower + left];
+            let q11 = points[lower + right];
+            let both = weight_grid::infill_both(c.part as u32, gt, q00, q01, q10, q11);
+            let texel = half_line::mix(kind, line, both, 4);
+            put(
+                out,
+                place(f.width, x, y),
+                texel.r,
+                texel.g,
+                texel.b,
+                texel.a,
+            );
+            x += 1;
+        }
+        y += 1;
+    }
+}
+
+// Whether a block has one partition and one plane.
+fn is_single(partitions: u8, planes: u8) -> bool
+    ensures { λ r. ⌜ r ≡ both (eqb partitions 1) (not (eqb planes 2)) ⌝ }
+{
+    if partitions != 1 {
+        return false;
+    }
+    planes != 2
+}
+
 // Whether a block has one partition and its grid a point for each texel.
 fn on_points(g: WeightGrid, f: FlatFrame, partitions: u8) -> bool
     ensures { λ r. ⌜ r ≡ both (eqb partitions 1) (both (eqb (g .width) (f .width)) (eqb (g .height) (f .height))) ⌝ }
@@ -218,6 +274,8 @@ fn paint_coded(
     if on_points(g, frame, h.partitions) {
         let count = (frame.height as usize) * (frame.width as usize);
         paint_points(kind, component, points, &lines, count, out);
+    } else if is_single(h.partitions, g.planes) {
+        paint_single(kind, g, points, &lines, frame, out);
     } else {
         paint(
             kind,

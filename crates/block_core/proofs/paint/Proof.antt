@@ -13,7 +13,7 @@ use Rattle.weight_grid.specs.inner.Columns.{gridColumn, noColumn}
 use Rattle.block_core.specs.inner.Prepared.{preparedTexel}
 use Rattle.partition.proofs.Rows.{which-lt}
 use Rattle.block_buffer.proofs.Painting.{Laid, laid-texel, laid-as, laid-none, laid-done, row-end, place-fits}
-use Rattle.block_core.proofs.Painting.{reach-column, told, room-for}
+use Rattle.block_core.proofs.Painting.{reach-column, on-grid-told, told, room-for}
 use Rattle.block_core.proofs.paint.Statement.{statement}
 use Rattle.block_core.proofs.paint.Tie as tie
 
@@ -112,9 +112,9 @@ shown d =
     let t = painted-at d in
     let a = start t .args in
     let i = d .before .before .before .before in
-    told (a .g) (a .f) (x-of t) (columnAt t) (column-is t) refl (ap (λ (k : ℕ). upper t + k) (t .before .before .before .before .step .ensures))
-    (a .kind) (a .component) (a .t4) (now (a .lines)) (a .seeds) (a .partitions) (y-of t) (i .infill-both .result) (omega (arith, narrow t))
-    (t .before .before .before .row-partitions .ensures) refl (rowOf t .grid-place .ensures) (i .infill-both .ensures .0) (i .infill-both .ensures .1) (d .before .before .mix .ensures)
+    told (a .kind) (a .g) (a .component) (a .t4) (now (a .lines)) (a .seeds) (a .partitions) (a .f) (x-of t) (y-of t) (omega (arith, narrow t)) (t .before .before .before .row-partitions .ensures)
+    (on-grid-told (a .g) (a .f) (x-of t) (columnAt t) (column-is t) refl (ap (λ (k : ℕ). upper t + k) (t .before .before .before .before .step .ensures))
+    (a .kind) (a .component) (a .t4) (now (a .lines)) (y-of t) _ (i .infill-both .result) (rowOf t .grid-place .ensures) (i .infill-both .ensures .0) (i .infill-both .ensures .1) (d .before .before .mix .ensures))
 
 -- it lies in the buffer
 fits : (d : tie.After-place Inv-loop2 μ-loop2 Inv-loop μ-loop) → 4 * (y-of (painted-at d) * start (painted-at d) .args .f .width + x-of (painted-at d)) + 4 ≤ 864

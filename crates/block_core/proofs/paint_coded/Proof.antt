@@ -7,7 +7,7 @@ use Rattle.block_core.specs.inner.Prepared.{frameOf, Inside}
 use Rattle.volume_infill.specs.inner.Way.{ByteLevels}
 use Rattle.block_levels.proofs.Levels.{layer-le}
 use Rattle.block_core.proofs.Frames.{inside, in-volume}
-use Rattle.block_core.proofs.Painting.{points-true, point-told, room-for}
+use Rattle.block_core.proofs.Painting.{points-true, point-told, single-true, single-told, room-for}
 use native.Mathlib.Nat.{mul-comm}
 use native.Mathlib.Omega.{arith}
 use Rattle.block_core.proofs.Shows.{byte-levels, flat-told, volume-told}
@@ -53,8 +53,11 @@ paint-points-requires c κs =
     let i = ready (q .before .before) .0 in
     rw (← e .0, ← e .1) (omega (arith, layer-le _ (i .limits) (i .count), mul-comm (start (q .before .before .before .before .before) .args .s .header .grid .width) (start (q .before .before .before .before .before) .args .s .header .grid .height)))
 
+paint-single-requires : tie.Need-paint-single-requires
+paint-single-requires c κs = ready (c .before .before .before .before .before .before)
+
 paint-requires : tie.Need-paint-requires
-paint-requires c κs = ready (c .before .before .before .before)
+paint-requires c κs = ready (c .before .before .before .before .before .before)
 
 returns : tie.Need-returns
 unfolding weightAt
@@ -80,7 +83,21 @@ returns-2 c = let t = c .before .before .before .before .before in
 
 returns-3 : tie.Need-returns-3
 unfolding weightAt
-returns-3 c = let f = c .before .before .before .before .before in
+returns-3 c = let n = c .before .before .before in
+    let f = n .before .before .before .before in
+    let d = f .before in
+    let q = d .before .before in
+    let s = start q in
+    let h = s .args .s .header in
+    let z = single-true (h .partitions) (h .grid .planes) (h .component) (n .before .is-single .ensures) (n .if3 .taken) in
+    λ e. flat-told (s .args .fp) (s .args .kind) (blockNumber (s .args .block)) (s .args .s .header) _ (s .pre .1 .1 .1 .0) (s .pre .1 .0 .0)
+    (q .before .before .before .points-of .ensures) (q .before .before .lines-of .ensures) (q .before .is-small .ensures) (q .second-component .ensures)
+    (flat (d .before)) (s .pre .1 .1 .1 .1 (flat (d .before))) (d .partition-seeds .ensures .0) (f .frame-of .ensures)
+    (single-told _ _ _ _ _ _ _ _ _ _ (z .0) (q .second-component .ensures ∙ z .1) (c .paint-single .ensures e))
+
+returns-4 : tie.Need-returns-4
+unfolding weightAt
+returns-4 c = let f = c .before .before .before .before .before .before .before in
     let d = f .before in
     let q = d .before .before in
     let s = start q in
@@ -106,6 +123,9 @@ paint-coded-spec =
     (λ c. search needs)
     mul-count
     paint-points-requires
+    (λ c κs. search needs)
+    paint-single-requires
     paint-requires
     returns-2
-    returns-3)
+    returns-3
+    returns-4)

@@ -49,6 +49,11 @@ module _ (kind : Kind) (g : WeightGrid) (component : ℕ) (points : List LevelPa
   preparedTexel seeds partitions f x y =
       texelOnGrid (pick (eqb partitions 1) 0 (selectBy seeds x y)) (gridPlace (f .across) x (g .width)) (gridPlace (f .down) y (g .height))
 
+-- the same with one partition and one plane
+unfoldable pub singleTexel : Kind → WeightGrid → List LevelPair → List (List ℕ) → FlatFrame → ℕ → ℕ → Texel
+singleTexel kind g points lines f x y =
+    texelOnGrid kind g 4 points lines 0 (gridPlace (f .across) x (g .width)) (gridPlace (f .down) y (g .height))
+
 -- the texel of partition 0 at the weights of point t
 unfoldable pub pointTexel : Kind → ℕ → List LevelPair → List (List ℕ) → ℕ → Texel
 pointTexel kind component points lines t =
