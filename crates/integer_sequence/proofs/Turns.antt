@@ -15,10 +15,9 @@ use Rattle.bits.specs.Block.{blockNumber}
 use Rattle.bits.specs.declared.PhysicalBlock.{PhysicalBlock}
 use Rattle.encoding.specs.declared.Encoding.{Encoding}
 use Rattle.encoding.specs.declared.Encoding.the-variants.{Bits, Trits, Quints}
-use Rattle.encoding.specs.declared.Stored.{Stored}
 use Rattle.encoding.specs.Encoding.{groupSize, sequenceBits}
 use Rattle.integer_sequence.specs.inner.Entries.{groupNumbers}
-use Rattle.integer_sequence.specs.Reading.{number, numbers, stored}
+use Rattle.integer_sequence.specs.Reading.{number}
 use Rattle.integer_sequence.specs.inner.Sequences.{Narrow}
 use Rattle.integer_sequence.proofs.Places.{bits-zero}
 use Rattle.integer_sequence.proofs.Groups.{place-group, number-in, in-group}
@@ -33,26 +32,27 @@ place-none : (κ : Encoding) (b : ℕ) → sequenceBits κ b 0 ≡ 0
 unfolding sequenceBits
 place-none κ b = omega (arith, zero-mul b, bits-zero κ)
 
-module _ (κ : Encoding) (b s n : ℕ) where
-  -- the first i numbers, of n
-  abbrev pub soFar : ℕ → List Stored
-  soFar i = padded 64 (min i n) (λ k. stored (number κ b s k)) (stored 0)
+-- of each number an element is kept, `none` where there is no number
+module _ {A : Type 0} (element : ℕ → A) (none : A) (κ : Encoding) (b s n : ℕ) where
+  -- those of the first i numbers, of n
+  abbrev pub soFar : ℕ → List A
+  soFar i = padded 64 (min i n) (λ k. element (number κ b s k)) none
 
   -- before the turn for number i, which begins a group: the numbers so far, and the rest of the sequence
-  pub record Turn (i : ℕ) (out : List Stored) (rest : PhysicalBlock) : Type 0 where
+  pub record Turn (i : ℕ) (out : List A) (rest : PhysicalBlock) : Type 0 where
     pub whole : i / groupSize κ * groupSize κ ≡ i
     pub done : out ≡ soFar i
     pub left : blockNumber rest ≡ s / 2 ^ sequenceBits κ b i
 
-  pub turn-first : {out : List Stored} {rest : PhysicalBlock} → out ≡ tab (λ k. stored 0) 64 → blockNumber rest ≡ s → Turn 0 out rest
+  pub turn-first : {out : List A} {rest : PhysicalBlock} → out ≡ tab (λ k. none) 64 → blockNumber rest ≡ s → Turn 0 out rest
   turn-first e f = record {
     whole = rw (zero-div (groupSize κ)) (zero-mul (groupSize κ));
-    done = e ∙ sym (padded-none _ (stored 0) 64) ∙ ap (λ (m : ℕ). padded 64 m (λ k. stored (number κ b s k)) (stored 0)) (omega arith);
+    done = e ∙ sym (padded-none _ none 64) ∙ ap (λ (m : ℕ). padded 64 m (λ k. element (number κ b s k)) none) (omega arith);
     left = f ∙ rw (place-none κ b) (sym (div-one s));
   }
 
   -- number k of the group, from the first word of the rest
-  pub turn-number : {i m word : ℕ} {out : List Stored} {rest : PhysicalBlock} → sequenceBits κ b (groupSize κ) ≤ 64 → word ≡ field (blockNumber rest) 0 64 → Turn i out rest
+  pub turn-number : {i m word : ℕ} {out : List A} {rest : PhysicalBlock} → sequenceBits κ b (groupSize κ) ≤ 64 → word ≡ field (blockNumber rest) 0 64 → Turn i out rest
       → (k : ℕ) → k < groupSize κ → m ≡ i + k → number κ b word k ≡ number κ b s m
   unfolding field
   turn-number {i} {m} {word} {out} {rest} h e t k l q =
@@ -61,25 +61,25 @@ module _ (κ : Encoding) (b s n : ℕ) where
       ap (λ (w : ℕ). number κ b w k) (sym g) ∙ sym (number-in κ b s (i / groupSize κ) h k l) ∙ ap (number κ b s) f
 
   -- the same from the numbers of that word's group
-  pub turn-element : {i m word x : ℕ} {out : List Stored} {rest : PhysicalBlock} → Narrow κ b → sequenceBits κ b (groupSize κ) ≤ 64 → word ≡ field (blockNumber rest) 0 64
+  pub turn-element : {i m word x : ℕ} {out : List A} {rest : PhysicalBlock} → Narrow κ b → sequenceBits κ b (groupSize κ) ≤ 64 → word ≡ field (blockNumber rest) 0 64
       → Turn i out rest → x ≡ groupNumbers κ b word → (k : ℕ) → k < groupSize κ → m ≡ i + k → x / 2 ^ (8 * k) % 256 ≡ number κ b s m
   turn-element {word = word} w h e t g k l q = in-group κ b word w g k l ∙ turn-number h e t k l q
 
   -- number k is put in its place where it is one of the n
-  pub put : {k m v : ℕ} {out new : List Stored} → n ≤ 64 → out ≡ soFar k → v ≡ number κ b s k → m ≡ k + 1 → k < n → new ≡ set out k (stored v) → new ≡ soFar m
-  put {k} {m} {v} {out} h e f q l g =
+  pub put : {k m : ℕ} {x : A} {out new : List A} → n ≤ 64 → out ≡ soFar k → x ≡ element (number κ b s k) → m ≡ k + 1 → k < n → new ≡ set out k x → new ≡ soFar m
+  put {k} {m} {x} {out} h e f q l g =
       let a : min k n ≡ k = omega arith in
       let z : min m n ≡ k + 1 = omega arith in
-      g ∙ rw (e, a, z) (padded-more (λ j. stored (number κ b s j)) (stored 0) 64 k (stored v) (omega arith) (ap stored f))
+      g ∙ rw (e, a, z) (padded-more (λ j. element (number κ b s j)) none 64 k x (omega arith) f)
 
-  pub put-if : {P Q : Type 0} {k m v : ℕ} {out new : List Stored} → (P → k < n) → (Q → n ≤ k) → n ≤ 64 → out ≡ soFar k → v ≡ number κ b s k → m ≡ k + 1
-      → (P × (new ≡ set out k (stored v))) ⊎ (Q × (new ≡ out)) → new ≡ soFar m
+  pub put-if : {P Q : Type 0} {k m : ℕ} {x : A} {out new : List A} → (P → k < n) → (Q → n ≤ k) → n ≤ 64 → out ≡ soFar k → x ≡ element (number κ b s k) → m ≡ k + 1
+      → (P × (new ≡ set out k x)) ⊎ (Q × (new ≡ out)) → new ≡ soFar m
   put-if {P} {Q} {k} {m} l r h e f q = ⊎-elim (λ w. put h e f q (l (w .0)) (w .1)) (λ w. w .1 ∙ e ∙ past (r (w .0)))
     where
       past : n ≤ k → soFar k ≡ soFar m
       past g = let z : min k n ≡ min m n = omega arith in rw z
 
-  pub turn-next : {i step : ℕ} {rest more : PhysicalBlock} {out new : List Stored} → Turn i out rest → step ≡ sequenceBits κ b (groupSize κ)
+  pub turn-next : {i step : ℕ} {rest more : PhysicalBlock} {out new : List A} → Turn i out rest → step ≡ sequenceBits κ b (groupSize κ)
       → new ≡ soFar (i + groupSize κ) → blockNumber more ≡ blockNumber rest / 2 ^ step
       → Turn (i + groupSize κ) new more
   turn-next {i} {step} {rest} {more} t e f m = record {
@@ -90,6 +90,5 @@ module _ (κ : Encoding) (b s n : ℕ) where
         rw (m, t .left, p) (shr-shr s (sequenceBits κ b i) step);
   }
 
-  pub turn-last : {i : ℕ} {out : List Stored} {rest : PhysicalBlock} → n ≤ i → Turn i out rest → out ≡ numbers κ b s n
-  unfolding numbers
+  pub turn-last : {i : ℕ} {out : List A} {rest : PhysicalBlock} → n ≤ i → Turn i out rest → out ≡ padded 64 n (λ k. element (number κ b s k)) none
   turn-last {i} h t = let z : min i n ≡ n = omega arith in t .done ∙ rw z
