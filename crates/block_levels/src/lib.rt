@@ -46,23 +46,6 @@ pub fn level_by(rule: Rule, s: Stored) -> Level
     quantization::unquantize(rule, s)
 }
 
-// So many points, from the stored weights.
-fn grid_points(range: u8, planes: u8, xs: [Stored; 64], count: usize) -> [LevelPair; 64]
-    requires { ⌜ (1 ≤ planes) × (count * planes ≤ 64) ⌝ }
-    ensures { λ r. ⌜ r ≡ padded 64 count (pointOf (tab (λ i. level (unquantWeight range (getD xs i (stored 0) .0))) 64) planes) noPoint ⌝ }
-{
-    let words = quantization::weight_words(range);
-    let each = planes as usize;
-    let mut out = [LevelPair(0); 64];
-    let mut i: usize = 0;
-    while i < count {
-        let k = i * each;
-        out[i] = quantization::weight_pair(&words, planes, xs[k], xs[k + each - 1]);
-        i += 1;
-    }
-    out
-}
-
 // The levels of the first n endpoint numbers.
 fn endpoint_levels(range: u8, xs: [Stored; 64], n: usize) -> [Level; 18]
     requires { ⌜ n ≤ 18 ⌝ }
@@ -84,13 +67,12 @@ pub fn points_of(block: PhysicalBlock, g: WeightGrid) -> [LevelPair; 64]
     ensures { λ r. ⌜ r ≡ pointsOf (weightLevels (g .range) (λ i. pick (ltb i (weightCount g)) (number (encodingAt (g .range)) (bitsAt (g .range)) (sequenceAt (encodingAt (g .range)) (bitsAt (g .range)) (reverse 128 (blockNumber block)) 0 (weightCount g)) i) 0)) (g .planes) (g .width * g .height * g .depth) ⌝ }
 {
     let n = block_header::weight_count(g) as u8;
-    let xs = integer_sequence::read_sequence(bits::reversed(block), 0, g.range, n);
-    grid_points(
-        g.range,
-        g.planes,
-        xs,
-        (g.width as usize) * (g.height as usize) * (g.depth as usize),
-    )
+    let weights = weight_reader::read_weights(bits::reversed(block), g.range, n);
+    if g.planes == 2 {
+        weight_reader::paired(weights, (n / 2) as usize)
+    } else {
+        weights
+    }
 }
 
 // The unquantised endpoint numbers of a block.

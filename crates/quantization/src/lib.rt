@@ -4,9 +4,11 @@ use encoding::Level;
 use encoding::LevelPair;
 use encoding::Stored;
 ghost use mathlib.Core.Path.{_≡_};
-ghost use Prim.Native.Nat.{ℕ, _+_, _-_, _≤_, min};
+ghost use Prim.Native.Nat.{ℕ, _+_, _-_, _≤_, _<_, min};
 ghost use lib.Dec.{eqb};
+ghost use lib.ListN.{getD};
 ghost use Rattle.laws.specs.Choice.{pick};
+ghost use Rattle.laws.specs.Table.{tab};
 ghost use Rattle.encoding.specs.declared.Encoding.the-variants.{Bits, Trits, Quints};
 ghost use Rattle.encoding.specs.inner.Levels.{levelPair};
 ghost use Rattle.quantization.specs.Ranges.{encodingAt, bitsAt, mostAt, rangeBits, endpointRange};
@@ -213,6 +215,59 @@ pub fn weight_words(range: u8) -> [u64; 4]
         ],
         _ => [0, 0, 0, 0],
     }
+}
+
+// The same as bytes: a caller that unquantises all weights of a block looks each up by itself.
+pub fn weight_table(range: u8) -> [u8; 32]
+    ensures { λ r. ⌜ r ≡ tab (unquantWeight range) 32 ⌝ }
+{
+    let words = weight_words(range);
+    let a = words[0];
+    let b = words[1];
+    let c = words[2];
+    let d = words[3];
+    [
+        (a / 1 % 256) as u8,
+        (a / 256 % 256) as u8,
+        (a / 65536 % 256) as u8,
+        (a / 16777216 % 256) as u8,
+        (a / 4294967296 % 256) as u8,
+        (a / 1099511627776 % 256) as u8,
+        (a / 281474976710656 % 256) as u8,
+        (a / 72057594037927936 % 256) as u8,
+        (b / 1 % 256) as u8,
+        (b / 256 % 256) as u8,
+        (b / 65536 % 256) as u8,
+        (b / 16777216 % 256) as u8,
+        (b / 4294967296 % 256) as u8,
+        (b / 1099511627776 % 256) as u8,
+        (b / 281474976710656 % 256) as u8,
+        (b / 72057594037927936 % 256) as u8,
+        (c / 1 % 256) as u8,
+        (c / 256 % 256) as u8,
+        (c / 65536 % 256) as u8,
+        (c / 16777216 % 256) as u8,
+        (c / 4294967296 % 256) as u8,
+        (c / 1099511627776 % 256) as u8,
+        (c / 281474976710656 % 256) as u8,
+        (c / 72057594037927936 % 256) as u8,
+        (d / 1 % 256) as u8,
+        (d / 256 % 256) as u8,
+        (d / 65536 % 256) as u8,
+        (d / 16777216 % 256) as u8,
+        (d / 4294967296 % 256) as u8,
+        (d / 1099511627776 % 256) as u8,
+        (d / 281474976710656 % 256) as u8,
+        (d / 72057594037927936 % 256) as u8,
+    ]
+}
+
+// The point of a weight grid of one plane, from its stored weight and its range's table.
+pub fn weight_point(table: &[u8; 32], s: Stored) -> LevelPair
+    ensures { λ r. ⌜ (s .0 < 32 → r ≡ levelPair (getD (now (table .entry)) (s .0) 0) 0) ⌝ }
+{
+    let v = (s.0 % 32) as usize;
+    LevelPair(wide(table[v]))
 }
 
 // The level of a stored weight by its range's words.
