@@ -3,13 +3,13 @@
 use mathlib.Core.Path.{_≡_, refl, sym, ap, _∙_, subst}
 use mathlib.Core.Bool.{Bool, true, false}
 use mathlib.Core.List.{List, []}
-use Prim.Native.Nat.{ℕ, _+_, _-_, _*_, _≤_, _<_, min}
+use Prim.Native.Nat.{ℕ, _+_, _*_, _/_, _%_, _≤_, _<_, min}
 use native.Mathlib.Nat.{mul-le-mul-left, mul-le-mul-right, suc-mul}
 use native.Mathlib.Decide.{decLt}
 use native.Mathlib.Omega.{arith}
 use lib.Dec.{T, eqb, leb, ltb, eqb→eq, leb→le}
 use lib.ListN.{getD, set}
-use borrow.Author.Tests.{eqb-true, lt-ltb, le-ltb}
+use borrow.Author.Tests.{eq-eqb, ne-eqb, lt-ltb, le-ltb}
 use Rattle.laws.specs.Choice.{pick, both, all}
 use Rattle.laws.specs.Table.{tab, padded}
 use Rattle.laws.proofs.Computed.{both-left, both-right, each}
@@ -17,21 +17,23 @@ use Rattle.laws.proofs.Filling.{getD-tab, tab-ext, padded-none, padded-more, pa
 use Rattle.encoding.specs.declared.Encoding.{Encoding}
 use Rattle.encoding.specs.declared.Level.{Level}
 use Rattle.encoding.specs.declared.LevelPair.{LevelPair}
-use Rattle.encoding.specs.inner.Levels.{levelPair}
+use Rattle.encoding.specs.inner.Levels.{firstLevel}
 use Rattle.encoding.specs.declared.Stored.{Stored}
 use Rattle.integer_sequence.specs.Reading.{number, numbers, sequenceAt, stored}
 use Rattle.quantization.specs.Ranges.{encodingAt, bitsAt, mostAt}
 use Rattle.quantization.specs.inner.Products.{byRule, Right}
 use Rattle.quantization.specs.declared.Rule.{Rule}
 use Rattle.quantization.specs.Unquantise.{isEndpoint, unquantEndpoint, unquantWeight}
+use Rattle.quantization.proofs.Levels.{weight-le}
 use Rattle.weight_grid.specs.Cell.{level, levelIn}
-use Rattle.weight_grid.specs.inner.Points.{pointOf}
+use Rattle.weight_grid.specs.inner.Points.{noPoint, pointOf, pointsOf}
+use Rattle.weight_reader.specs.inner.Weights.{onePlane, weightsOf, pairedOf}
 use Rattle.block_mode.specs.declared.WeightGrid.{WeightGrid}
 use Rattle.block_mode.specs.Back2D.{Limits}
 use Rattle.block_header.specs.declared.BlockHeader.{BlockHeader}
 use Rattle.block_header.specs.Counts.{weightCount, endpointCount, endpointRangeOf}
 use Rattle.block_fault.specs.Bits.{endpointsFrom, endpointAt}
-use Rattle.texel.specs.Meaning.{endpointLevels}
+use Rattle.texel.specs.Meaning.{endpointLevels, weightLevels}
 use Rattle.endpoint_arithmetic.specs.declared.EndpointPair.{EndpointPair}
 use Rattle.endpoint_arithmetic.specs.Pair.{zeroPair}
 use Rattle.color_endpoint.specs.Modes.{pairOf}
@@ -116,46 +118,52 @@ levels-read f z N κ b s n h ex er = er ∙ ap (λ (l : List Stored). padded N n
 
 -- ---- the points of a weight grid
 
--- the levels of stored weights
-abbrev pub levelsOf : ℕ → List Stored → List Level
-levelsOf range xs = tab (λ i. level (unquantWeight range (getD xs i (stored 0) .0))) 64
+module _ (range s n : ℕ) (room : n ≤ 64) where
+  abbrev numberAt : ℕ → ℕ
+  numberAt k = number (encodingAt range) (bitsAt range) s k
 
--- a point, from two stored weights
-pub point-told : (range planes : ℕ) (xs : List Stored) (i : ℕ) {a b : Stored} {r : LevelPair}
-    → i * planes + (planes - 1) < 64 → a ≡ getD xs (i * planes) (stored 0) → b ≡ getD xs (i * planes + planes - 1) (stored 0)
-    → r ≡ levelPair (unquantWeight range (a .0)) (pick (eqb planes 2) (unquantWeight range (b .0)) 0) → r ≡ pointOf (levelsOf range xs) planes i
-unfolding pointOf levelIn
-point-told range planes xs i {a} {b} h ea eb er = er ∙ rw (ea, eb) (go (eqb planes 2) refl) where
-  at : (k : ℕ) → k < 64 → unquantWeight range (getD xs k (stored 0) .0) ≡ getD (levelsOf range xs) k (level 0) .0
-  at k l = sym (ap (λ (x : Level). x .0) (getD-tab (λ i. level (unquantWeight range (getD xs i (stored 0) .0))) 64 k (level 0) l))
+  -- the levels of the n weights of the sequence s
+  abbrev levels : List Level
+  levels = weightLevels range (λ i. pick (ltb i n) (numberAt i) 0)
 
-  go : (t : Bool) → eqb planes 2 ≡ t
-      → levelPair (unquantWeight range (getD xs (i * planes) (stored 0) .0)) (pick t (unquantWeight range (getD xs (i * planes + planes - 1) (stored 0) .0)) 0)
-      ≡ levelPair (getD (levelsOf range xs) (i * planes) (level 0) .0) (pick t (getD (levelsOf range xs) (i * planes + 1) (level 0) .0) 0)
-  go true e =
-      let two = eqb-true planes 2 e in
-      let k : i * planes + planes - 1 ≡ i * planes + 1 = omega (arith, two) in
-      rw (k, at (i * planes) (omega arith), at (i * planes + 1) (omega (arith, two)))
-  go false e = rw (at (i * planes) (omega arith))
+  level-at : (k : ℕ) → k < n → unquantWeight range (numberAt k) ≡ levelIn levels k
+  unfolding weightLevels levelIn
+  level-at k h =
+      sym (ap (λ (x : Level). x .0) (getD-tab (λ i. level (unquantWeight range (pick (ltb i n) (numberAt i) 0))) 64 k (level 0) (omega arith))
+      ∙ ap (λ (t : Bool). unquantWeight range (pick t (numberAt k) 0)) (lt-ltb k n h))
 
--- the place of the last weight of point i of so many
-pub weight-lt : (i count planes : ℕ) → i < count → count * planes ≤ 64 → 1 ≤ planes → i * planes + (planes - 1) < 64
-weight-lt i count planes h room p = omega (arith, mul-le-mul-right planes h, suc-mul i planes)
+  -- points that are the same as far as they count
+  points-same : (f g : ℕ → LevelPair) (count : ℕ) → ((k : ℕ) → k < count → f k ≡ g k) → padded 64 count f noPoint ≡ padded 64 count g noPoint
+  unfolding padded
+  points-same f g count e = tab-ext (λ k. pick (ltb k count) (f k) noPoint) (λ k. pick (ltb k count) (g k) noPoint) noPoint 64 same where
+    same : (k : ℕ) → k < 64 → pick (ltb k count) (f k) noPoint ≡ pick (ltb k count) (g k) noPoint
+    same k l = elim (decLt k count) [ yes p ↦ rw (lt-ltb k count p) (e k p) | no p ↦ rw (le-ltb k count (omega arith)) ]
 
--- read, then unquantised
-pub weights-read : (range : ℕ) (κ : Encoding) (b s n : ℕ) → levelsOf range (numbers κ b s n) ≡ tab (λ i. level (unquantWeight range (pick (ltb i n) (number κ b s i) 0))) 64
-unfolding numbers
-weights-read range κ b s n =
-    tab-ext (λ i. level (unquantWeight range (getD (numbers κ b s n) i (stored 0) .0))) (λ i. level (unquantWeight range (pick (ltb i n) (number κ b s i) 0))) (level 0) 64 same
-  where
-    inner : (t : Bool) (x : ℕ) → pick t (stored x) (stored 0) .0 ≡ pick t x 0
-    inner true x = refl
-    inner false x = refl
+  -- of one plane
+  pub one-plane : {r : List LevelPair} (planes count : ℕ) → planes ≡ 1 → n ≡ count * planes → r ≡ weightsOf range s n → r ≡ pointsOf levels planes count
+  unfolding weightsOf pointsOf pointOf
+  one-plane planes count one en e =
+      let ec : n ≡ count = omega (arith, en, ap (λ (p : ℕ). count * p) one) in
+      e ∙ ap (λ (m : ℕ). padded 64 m (λ i. onePlane (unquantWeight range (numberAt i))) noPoint) ec
+      ∙ points-same _ _ count (λ k h. rw (ne-eqb planes 2 (omega arith)) (ap onePlane (level-at k (omega arith) ∙ ap (levelIn levels) (let p : k ≡ k * planes = omega (arith, ap (λ (q : ℕ). k * q) one) in p))))
 
-    same : (k : ℕ) → k < 64 → level (unquantWeight range (getD (numbers κ b s n) k (stored 0) .0)) ≡ level (unquantWeight range (pick (ltb k n) (number κ b s k) 0))
-    same k l =
-        ap (λ (x : ℕ). level (unquantWeight range x))
-        (ap (λ (x : Stored). x .0) (padded-at (λ i. stored (number κ b s i)) (stored 0) 64 n k (stored 0) l) ∙ inner (ltb k n) (number κ b s k))
+  -- of two, whose levels alternate
+  pub two-planes : {w r : List LevelPair} (planes count : ℕ) → planes ≡ 2 → n ≡ count * planes → w ≡ weightsOf range s n → r ≡ pairedOf w (n / 2) → r ≡ pointsOf levels planes count
+  unfolding weightsOf pairedOf pointsOf pointOf
+  two-planes {w} planes count two en ew e =
+      let m : n ≡ 2 * count = omega (arith, en, ap (λ (q : ℕ). count * q) two) in
+      let half : n / 2 ≡ count = omega (arith, m) in
+      rw half at e
+      ∙ points-same _ _ count (λ k h. rw (eq-eqb planes 2 two)
+      (let at : k * planes ≡ 2 * k = omega (arith, ap (λ (q : ℕ). k * q) two) in
+      rw (at, read (2 * k) (omega (arith, m)), read (2 * k + 1) (omega (arith, m)))))
+    where
+      read : (k : ℕ) → k < n → firstLevel (getD w k noPoint) ≡ levelIn levels k
+      read k h =
+          ap (λ (l : List LevelPair). firstLevel (getD l k noPoint)) ew
+          ∙ ap firstLevel (padded-here (λ i. onePlane (unquantWeight range (numberAt i))) noPoint 64 n k noPoint (omega arith) h)
+          ∙ (let z : (unquantWeight range (numberAt k) + 65536 * 0) % 256 ≡ unquantWeight range (numberAt k) = omega (arith, weight-le range (numberAt k)) in z)
+          ∙ level-at k h
 
 -- ---- the lines of a table's pairs
 

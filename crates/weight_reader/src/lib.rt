@@ -99,13 +99,7 @@ fn read_quints(s: PhysicalBlock, b: u32, n: usize, table: &[u8; 32]) -> [LevelPa
     out
 }
 
-fn read_by(
-    s: PhysicalBlock,
-    e: Encoding,
-    b: u8,
-    n: usize,
-    table: &[u8; 32],
-) -> [LevelPair; 64]
+fn read_by(s: PhysicalBlock, e: Encoding, b: u8, n: usize, table: &[u8; 32]) -> [LevelPair; 64]
     requires { ⌜ (radix e * 2 ^ b ≤ 32) × (n ≤ 64) ⌝ }
     ensures { λ r. ⌜ r ≡ byTable (now (table .entry)) e b (blockNumber s) n ⌝ }
 {
