@@ -9,7 +9,8 @@ use lib.Dec.{eqb, ltb}
 use lib.ListN.{length, getD, List·getD-eq-default}
 use borrow.Author.Tests.{lt-ltb, le-ltb, ne-eqb}
 use Rattle.laws.specs.Table.{tab}
-use Rattle.laws.proofs.Filling.{Filled, length-tab, getD-tab, filled-all, tab-ext}
+use Rattle.laws.specs.inner.Filled.{Filled}
+use Rattle.laws.proofs.Filling.{length-tab, getD-tab, filled-all, tab-ext}
 use Rattle.bc7_block.specs.declared.Bc7Block.{Bc7Block}
 use Rattle.bc7_block.specs.Fields.{valueIn, Sized}
 use Rattle.bc7_block.specs.Reading.{bc7Block}

@@ -10,7 +10,8 @@ use lib.ListN.{length, getD}
 use borrow.Author.Tests.{eqb-true, eqb-false, eq-eqb, ne-eqb}
 use Rattle.laws.specs.Choice.{pick}
 use Rattle.laws.specs.Table.{tab, Bytes}
-use Rattle.laws.proofs.Filling.{length-tab, getD-tab, filled-all, Filled, Filling, filling-done}
+use Rattle.laws.specs.inner.Filled.{Filled}
+use Rattle.laws.proofs.Filling.{length-tab, getD-tab, filled-all, Filling, filling-done}
 use Rattle.bits.specs.Field.{field}
 use Rattle.bits.specs.Block.{numberOf, bytesOf}
 use Rattle.block_answer.specs.declared.Answer.{Answer}

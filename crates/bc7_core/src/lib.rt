@@ -9,7 +9,7 @@ ghost use lib.Dec.{eqb};
 ghost use lib.ListN.{length};
 ghost use Rattle.laws.specs.Choice.{pick};
 ghost use Rattle.laws.specs.Table.{tab, putFour};
-ghost use Rattle.laws.proofs.Filling.{Filled};
+ghost use Rattle.laws.specs.inner.Filled.{Filled};
 ghost use Rattle.bits.specs.Block.{blockNumber};
 ghost use Rattle.bc7_layout.specs.Modes.{subsets, secondaryBits};
 ghost use Rattle.bc7_layout.specs.Layout.{modeAt, fieldAt};

@@ -7,7 +7,7 @@ ghost use mathlib.Core.List.{[]};
 ghost use Prim.Native.Nat.{_*_, _/_, _%_, _^_, _≤_, _<_};
 ghost use lib.Dec.{eqb};
 ghost use Rattle.laws.specs.Choice.{either};
-ghost use Rattle.laws.proofs.Filling.{Filled};
+ghost use Rattle.laws.specs.inner.Filled.{Filled};
 ghost use Rattle.bits.specs.Block.{blockNumber};
 ghost use Rattle.bc7_layout.specs.Modes.{modeRow, subsets, colourBits};
 ghost use Rattle.bc7_layout.specs.Layout.{placeOf, modeAt, fieldAt};

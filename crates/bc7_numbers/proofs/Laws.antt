@@ -9,7 +9,7 @@ use lib.ListN.{length, getD}
 use borrow.Author.Tests.{eq-eqb, ne-eqb}
 use Rattle.laws.specs.Choice.{pick, both}
 use Rattle.laws.specs.Table.{tab}
-use Rattle.laws.proofs.Filling.{Filled, length-tab, filled-all, getD-tab}
+use Rattle.laws.proofs.Filling.{length-tab, filled-all, getD-tab}
 use Rattle.block_answer.specs.Told.{numberTold}
 use Rattle.block_answer.specs.declared.Answer.the-variants.{Refused, Done}
 use Rattle.bc7_block.specs.declared.Bc7Block.{Bc7Block}

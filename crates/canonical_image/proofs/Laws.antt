@@ -11,7 +11,8 @@ use lib.ListN.{length, getD}
 use borrow.Author.Tests.{lt-ltb, le-ltb, ltb-false, eq-eqb, ne-eqb, eqb-true}
 use Rattle.laws.specs.Choice.{pick, either}
 use Rattle.laws.specs.Table.{tab}
-use Rattle.laws.proofs.Filling.{length-tab, getD-tab, Filled, filled-all}
+use Rattle.laws.specs.inner.Filled.{Filled}
+use Rattle.laws.proofs.Filling.{length-tab, getD-tab, filled-all}
 use Rattle.laws.proofs.Reasons.{none-either}
 use Rattle.bits.specs.Field.{field}
 use Rattle.bits.specs.Block.{numberOf, bytesOf}

@@ -13,7 +13,8 @@ use lib.Seq.{ext-getD}
 use borrow.Author.Tests.{eq-eqb, ne-eqb, eqb-true}
 use Rattle.laws.specs.Choice.{pick, either}
 use Rattle.laws.specs.Table.{tab}
-use Rattle.laws.proofs.Filling.{Filled, Filling, filled-all}
+use Rattle.laws.specs.inner.Filled.{Filled}
+use Rattle.laws.proofs.Filling.{Filling, filled-all}
 use Rattle.laws.proofs.Reasons.{none-either}
 use Rattle.image_size.specs.Sides.{badSide, sizeRefusal, blocksAcross, blocksOf}
 use Rattle.image_size.proofs.Laws.{limit-le, side-fine, sized, across-inside, across-pos}

@@ -8,7 +8,8 @@ use lib.ListN.{length, getD, length-append, List·getD-append}
 use lib.Seq.{getD-append-add}
 use borrow.Author.Tests.{eq-eqb, ne-eqb}
 use Rattle.laws.specs.Table.{tab}
-use Rattle.laws.proofs.Filling.{Filled, filled-all}
+use Rattle.laws.specs.inner.Filled.{Filled}
+use Rattle.laws.proofs.Filling.{filled-all}
 use Rattle.clip_frame.specs.declared.Frame.{Frame}
 use Rattle.clip_frame.specs.Frame.{headBytes, frameBytes, writeRefusal, frameOut}
 

@@ -8,7 +8,8 @@ use native.Mathlib.Decide.{decLt}
 use native.Mathlib.Omega.{arith}
 use lib.ListN.{length, getD}
 use Rattle.laws.specs.Table.{tab}
-use Rattle.laws.proofs.Filling.{Filled, filled-all}
+use Rattle.laws.specs.inner.Filled.{Filled}
+use Rattle.laws.proofs.Filling.{filled-all}
 use Rattle.image_size.specs.Sides.{blocksAcross}
 use Rattle.image_size.proofs.Laws.{across-covers}
 use Rattle.picture_regions.specs.Picture.{place}

@@ -8,7 +8,8 @@ use native.Mathlib.Omega.{arith}
 use lib.Pow.{pow-pos}
 use lib.ListN.{length, getD}
 use Rattle.laws.specs.Table.{tab}
-use Rattle.laws.proofs.Filling.{Filled, filled-none, filled-all}
+use Rattle.laws.specs.inner.Filled.{Filled}
+use Rattle.laws.proofs.Filling.{filled-none, filled-all}
 use Rattle.pvrtc_texel.specs.Texel.{lowWord, highWord, relative}
 use Rattle.pvrtc_texel.specs.Image.{wordAt, imageTexel}
 use Rattle.pvrtc_texel.proofs.Places.{row-place, rows-more}

@@ -9,7 +9,7 @@ use native.Mathlib.Decide.{decLt}
 use lib.ListN.{length, getD, set, length-set}
 use lib.Seq.{getD-set-same, getD-set-other}
 use lib.Pow.{pow-pos, pow-mono}
-use Rattle.laws.proofs.Filling.{Filled}
+use Rattle.laws.specs.inner.Filled.{Filled}
 use Rattle.pvrtc_texel.specs.Texel.{lowWord, highWord}
 use Rattle.pvrtc_texel.specs.Word.{colourA, colourB}
 use Rattle.pvrtc_texel.specs.Image.{wordAt}

@@ -5,7 +5,7 @@
 ghost use mathlib.Core.Path.{_≡_};
 ghost use Prim.Native.Nat.{_+_, _-_, _*_, _/_, _^_, _≤_, _<_};
 ghost use lib.ListN.{length, getD};
-ghost use Rattle.laws.proofs.Filling.{Filled};
+ghost use Rattle.laws.specs.inner.Filled.{Filled};
 ghost use Rattle.pvrtc_texel.specs.Word.{colourA, colourB};
 ghost use Rattle.pvrtc_texel.specs.Image.{wordAtPlace, wordAt};
 ghost use Rattle.pvrtc_word.specs.inner.Lanes.{lanes};

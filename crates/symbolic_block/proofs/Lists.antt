@@ -11,7 +11,8 @@ use borrow.Author.Tests.{lt-ltb, le-ltb, ltb-true, ltb-false, not-false}
 use Rattle.laws.specs.Choice.{pick, both, all}
 use Rattle.laws.specs.Table.{tab, padded}
 use Rattle.laws.proofs.Computed.{each}
-use Rattle.laws.proofs.Filling.{Filled, filled-all, getD-tab}
+use Rattle.laws.specs.inner.Filled.{Filled}
+use Rattle.laws.proofs.Filling.{filled-all, getD-tab}
 use Rattle.encoding.specs.declared.Stored.{Stored}
 use Rattle.integer_sequence.specs.Reading.{stored}
 use Rattle.symbolic_block.specs.Fields.{storedIn}

@@ -6,7 +6,8 @@ use mathlib.Core.List.{List, [], _∷_}
 use Prim.Native.Nat.{ℕ}
 use lib.ListN.{length, getD}
 use Rattle.laws.specs.Table.{tab, tabFrom}
-use Rattle.laws.proofs.Filling.{Filled, filled-all}
+use Rattle.laws.specs.inner.Filled.{Filled}
+use Rattle.laws.proofs.Filling.{filled-all}
 use Rattle.block_answer.specs.Told.{numberTold}
 use Rattle.laws.specs.Choice.{pick}
 use Rattle.spare_bits.specs.Spare.{spareCount, spareNumbers}

@@ -10,7 +10,8 @@ use lib.ListN.{length, getD, set, length-set}
 use lib.Seq.{getD-set-same, getD-set-other}
 use borrow.Author.Tests.{lt-ltb, le-ltb}
 use Rattle.laws.specs.Table.{tab}
-use Rattle.laws.proofs.Filling.{Filled, filled-all}
+use Rattle.laws.specs.inner.Filled.{Filled}
+use Rattle.laws.proofs.Filling.{filled-all}
 use Rattle.encoding.specs.declared.Stored.{Stored}
 use Rattle.symbolic_block.specs.Fields.{storedIn}
 use Rattle.symbolic_numbers.specs.inner.Numbers.{flatAt}

@@ -11,7 +11,8 @@ use lib.ListN.{length, getD}
 use borrow.Author.Tests.{eq-eqb, ne-eqb}
 use Rattle.laws.specs.Choice.{pick, both}
 use Rattle.laws.specs.Table.{tab, tabFrom}
-use Rattle.laws.proofs.Filling.{Filled, filled-all, length-tab}
+use Rattle.laws.specs.inner.Filled.{Filled}
+use Rattle.laws.proofs.Filling.{filled-all, length-tab}
 use Rattle.bits.proofs.Blocks.{bytes-length}
 use Rattle.integer_sequence.specs.Reading.{stored}
 use Rattle.block_answer.specs.Told.{numberTold}

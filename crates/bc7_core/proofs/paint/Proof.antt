@@ -2,7 +2,8 @@ use mathlib.Core.Path.{_≡_, refl, ap, _∙_}
 use Prim.Native.Nat.{ℕ, _+_, _-_, _*_, _/_, _%_, _≤_, _<_}
 use native.Mathlib.Omega.{arith}
 use lib.ListN.{length}
-use Rattle.laws.proofs.Filling.{Filled, filled-none}
+use Rattle.laws.specs.inner.Filled.{Filled}
+use Rattle.laws.proofs.Filling.{filled-none}
 use Rattle.bits.specs.Block.{blockNumber}
 use Rattle.bc7_layout.specs.Layout.{modeAt, fieldAt}
 use Rattle.bc7_block.specs.Picture.{texelOf}

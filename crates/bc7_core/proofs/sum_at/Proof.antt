@@ -1,6 +1,6 @@
 use mathlib.Core.Path.{_≡_, _∙_}
 use native.Mathlib.Omega.{arith}
-use Rattle.laws.proofs.Filling.{Filled}
+use Rattle.laws.specs.inner.Filled.{Filled}
 use Rattle.bc7_core.proofs.Painting.{subset-here, subset-small, line-small, shows}
 use borrow.Author.Needs.{needs}
 use Rattle.bc7_core.proofs.sum_at.Statement.{statement}

@@ -4,7 +4,8 @@ use mathlib.Core.List.{List, []}
 use native.Mathlib.Omega.{arith}
 use lib.ListN.{length, length-set}
 use borrow.Author.Needs.{needs}
-use Rattle.laws.proofs.Filling.{Filled, filled-none, filled-more}
+use Rattle.laws.specs.inner.Filled.{Filled}
+use Rattle.laws.proofs.Filling.{filled-none, filled-more}
 use Rattle.bits.specs.Block.{blockNumber}
 use Rattle.bc7_layout.specs.Layout.{modeAt, fieldAt}
 use Rattle.bc7_layout.proofs.Tables.{subsets-most}

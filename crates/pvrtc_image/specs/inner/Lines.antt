@@ -6,7 +6,7 @@ use mathlib.Core.List.{List}
 use lib.Dec.{ltb}
 use lib.ListN.{length, getD}
 use Rattle.laws.specs.Choice.{pick}
-use Rattle.laws.proofs.Filling.{Filled}
+use Rattle.laws.specs.inner.Filled.{Filled}
 use Rattle.pvrtc_texel.specs.Word.{modulationWeight, punched}
 use Rattle.pvrtc_texel.specs.Texel.{relative, unorm8, modulated}
 use Rattle.pvrtc_texel.specs.Image.{imageTexel}

@@ -2,7 +2,8 @@ use mathlib.Core.Path.{_≡_, refl, _∙_}
 use Prim.Native.Nat.{_-_, _≤_}
 use native.Mathlib.Omega.{arith}
 use lib.ListN.{length, getD, length-set}
-use Rattle.laws.proofs.Filling.{Filled, filled-none, filled-more}
+use Rattle.laws.specs.inner.Filled.{Filled}
+use Rattle.laws.proofs.Filling.{filled-none, filled-more}
 use Rattle.pvrtc_rows.proofs.copy_row.Statement.{statement}
 use Rattle.pvrtc_rows.proofs.copy_row.Tie as tie
 
