@@ -8,7 +8,7 @@ use lib.ListN.{getD}
 use Rattle.laws.specs.Choice.{pick, both, all}
 use Rattle.hdr_endpoint.specs.Parts.{bitOf}
 use Rattle.hdr_endpoint.specs.Scale.{redHigh, minorBits, scaleBits}
-use Rattle.hdr_endpoint.specs.Direct.{aHigh, bBits, cBits}
+use Rattle.hdr_endpoint.specs.Direct.{aHigh, bBits, cBits, dBits}
 
 -- a destination: bit `place` of a value
 pub record Dest : Type 0 where
@@ -100,7 +100,8 @@ same11 mode n =
     let v4 = bitOf n 2 * 64 + bitOf n 4 * 32 in
     let v5 = bitOf n 3 * 64 + bitOf n 5 * 32 in
     both (eqb (aHigh mode v2 v3 v4 v5) (gathered 0 row n))
-    (both (eqb (bBits mode v2 v4) (gathered 1 row n)) (both (eqb (bBits mode v3 v5) (gathered 2 row n)) (eqb (cBits mode 0 v3 v4 v5) (gathered 3 row n))))
+    (both (eqb (bBits mode v2 v4) (gathered 1 row n)) (both (eqb (bBits mode v3 v5) (gathered 2 row n)) (both (eqb (cBits mode 0 v3 v4 v5) (gathered 3 row n))
+    (both (eqb (v4 % 2 ^ dBits mode) (gathered 4 row n)) (eqb (v5 % 2 ^ dBits mode) (gathered 5 row n))))))
 
 -- over every mode and every choice of the bits. Theorem: proofs/Tables.antt, `mode-11-table`.
 abbrev pub Mode11Table : Type 0
