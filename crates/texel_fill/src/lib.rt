@@ -1,4 +1,4 @@
-// One texel over a run of a picture: what a row of a block shows that has one colour, or a fault. Two texels at a time.
+// One texel over a run of a picture: what a row of a block shows that has one colour, or a fault. Four texels at a time.
 use interpolation::Texel;
 ghost use mathlib.Core.Path.{_≡_};
 ghost use Prim.Native.Nat.{_+_, _*_, _/_, _%_, _≤_};
@@ -20,20 +20,48 @@ fn put_numbers(out: &mut [u16], i: usize, t: Texel)
     out[i + 3] = t.a;
 }
 
-// So many times from place `at` on.
-pub fn fill_numbers(t: Texel, at: usize, n: usize, out: &mut [u16])
-    requires { ⌜ (n ≤ 216) × (at + 4 * n ≤ length (now out)) ⌝ }
+// Four times from place i on.
+fn four_numbers(t: Texel, i: usize, out: &mut [u16])
+    requires { ⌜ i + 16 ≤ length (now out) ⌝ }
+    ensures { λ _. ⌜ Pasted (shownOf Unorm16) (everywhere t) 0 16 (now (out .entry)) i (now (out .exit)) ⌝ }
+{
+    put_numbers(out, i, t);
+    put_numbers(out, i + 4, t);
+    put_numbers(out, i + 8, t);
+    put_numbers(out, i + 12, t);
+}
+
+// Less than four times, at the edge of a picture.
+fn few_numbers(t: Texel, at: usize, n: usize, out: &mut [u16])
+    requires { ⌜ (n ≤ 3) × (at + 4 * n ≤ length (now out)) ⌝ }
     ensures { λ _. ⌜ Pasted (shownOf Unorm16) (everywhere t) 0 (4 * n) (now (out .entry)) at (now (out .exit)) ⌝ }
 {
     let mut i: usize = 0;
-    while i + 1 < n {
+    while i < n {
         put_numbers(out, at + 4 * i, t);
-        put_numbers(out, at + 4 * (i + 1), t);
-        i += 2;
+        i += 1;
     }
-    if i < n {
-        put_numbers(out, at + 4 * i, t);
+}
+
+// So many times from place `at` on: the first four, the middle four, and the last four, which may lie over those before them.
+pub fn fill_numbers(t: Texel, at: usize, n: usize, out: &mut [u16])
+    requires { ⌜ (n ≤ 12) × (at + 4 * n ≤ length (now out)) ⌝ }
+    ensures { λ _. ⌜ Pasted (shownOf Unorm16) (everywhere t) 0 (4 * n) (now (out .entry)) at (now (out .exit)) ⌝ }
+{
+    if n < 4 {
+        few_numbers(t, at, n, out);
+        return;
     }
+    four_numbers(t, at, out);
+    if n == 4 {
+        return;
+    }
+    if n <= 8 {
+        four_numbers(t, at + 4 * (n - 4), out);
+        return;
+    }
+    four_numbers(t, at + 16, out);
+    four_numbers(t, at + 4 * (n - 4), out);
 }
 
 // The top bytes of a texel's numbers in one number, the first in bits 7..0: made once for all places.
@@ -58,19 +86,47 @@ fn put_bytes(out: &mut [u8], i: usize, w: u32)
     out[i + 3] = (w / 16777216) as u8;
 }
 
-// The same in bytes.
-pub fn fill_bytes(t: Texel, at: usize, n: usize, out: &mut [u8])
-    requires { ⌜ (n ≤ 216) × (at + 4 * n ≤ length (now out)) ⌝ }
-    ensures { λ _. ⌜ Pasted (shownOf Srgb8) (everywhere t) 0 (4 * n) (now (out .entry)) at (now (out .exit)) ⌝ }
+// Four times from place i on.
+fn four_bytes(t: Texel, i: usize, out: &mut [u8])
+    requires { ⌜ i + 16 ≤ length (now out) ⌝ }
+    ensures { λ _. ⌜ Pasted (shownOf Srgb8) (everywhere t) 0 16 (now (out .entry)) i (now (out .exit)) ⌝ }
 {
     let w = byte_word(t);
+    put_bytes(out, i, w);
+    put_bytes(out, i + 4, w);
+    put_bytes(out, i + 8, w);
+    put_bytes(out, i + 12, w);
+}
+
+// Less than four times, at the edge of a picture.
+fn few_bytes(t: Texel, at: usize, n: usize, out: &mut [u8])
+    requires { ⌜ (n ≤ 3) × (at + 4 * n ≤ length (now out)) ⌝ }
+    ensures { λ _. ⌜ Pasted (shownOf Srgb8) (everywhere t) 0 (4 * n) (now (out .entry)) at (now (out .exit)) ⌝ }
+{
     let mut i: usize = 0;
-    while i + 1 < n {
-        put_bytes(out, at + 4 * i, w);
-        put_bytes(out, at + 4 * (i + 1), w);
-        i += 2;
+    while i < n {
+        put_bytes(out, at + 4 * i, byte_word(t));
+        i += 1;
     }
-    if i < n {
-        put_bytes(out, at + 4 * i, w);
+}
+
+// The same in bytes.
+pub fn fill_bytes(t: Texel, at: usize, n: usize, out: &mut [u8])
+    requires { ⌜ (n ≤ 12) × (at + 4 * n ≤ length (now out)) ⌝ }
+    ensures { λ _. ⌜ Pasted (shownOf Srgb8) (everywhere t) 0 (4 * n) (now (out .entry)) at (now (out .exit)) ⌝ }
+{
+    if n < 4 {
+        few_bytes(t, at, n, out);
+        return;
     }
+    four_bytes(t, at, out);
+    if n == 4 {
+        return;
+    }
+    if n <= 8 {
+        four_bytes(t, at + 4 * (n - 4), out);
+        return;
+    }
+    four_bytes(t, at + 16, out);
+    four_bytes(t, at + 4 * (n - 4), out);
 }

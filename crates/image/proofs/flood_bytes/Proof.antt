@@ -29,7 +29,7 @@ flood-bytes-spec =
     μ-loop
     (λ c. placing-none _ _ _ _ _)
     (λ c κs. let p = c .before .before .before .pre in (p .0, (p .1 .0, c .loop-test .taken)))
-    (λ c κs. let o = c .before .run-of .ensures in (omega (arith, fits (c .before), o .n), omega (arith, fits (c .before), o .n)))
+    (λ c κs. let p = c .before .before .before .before .before .pre in (omega (arith, p .0 .columns-most, p .1 .0 .columns .in-block), omega (arith, fits (c .before), c .before .run-of .ensures .n)))
     (λ c. omega arith)
     (λ c. omega arith)
     (λ c. let k = c .before .before in let r = k .before .before in let t = r .before in row-filled (shownOf Srgb8) _ _ _ _ _ _ (t .before .before .before .pre .1 .0) (t .loop-test .taken) (r .run-of .ensures) (fits r) (k .fill-bytes .kept .1 .1 .1 .0) (t .before .loop .inv) (k .fill-bytes .ensures))
