@@ -15,7 +15,6 @@ use mathlib.Core.Bool.{Bool, true, false, _&&_, _||_}
 use borrow.Author.Tests.{lt-ltb, le-ltb, ltb-false}
 use lib.Dec.{ltb}
 use Rattle.laws.specs.Choice.{pick, either}
-use Rattle.footprint.specs.Footprint.{widthOf, heightOf, depthOf}
 use Rattle.block_mode.specs.declared.WeightGrid.{WeightGrid}
 use Rattle.block_header.specs.declared.BlockHeader.{BlockHeader}
 use Rattle.block_header.specs.Counts.{weightCount, weightBits, endpointCount, bitsLeft}
@@ -96,40 +95,7 @@ pub hdr-four : (modes : List ℕ) (n : ℕ) → length modes ≡ 4
 unfolding isHdr
 hdr-four modes n h = some-four (λ p. isHdr (getD modes p 0)) (λ k. rw (List·getD-eq-default modes 0 {n = k + 4} (omega arith))) n
 
--- ---- 14 to 16, one by one
-
-module _ (fp : ℕ) (g : WeightGrid) where
-  pub too-wide : widthOf fp < g .width → 14 ≡ gridFault fp g
-  unfolding gridFault gridTooLarge
-  too-wide h = rw (lt-ltb _ _ h)
-
-  module _ (w : g .width ≤ widthOf fp) where
-    pub too-high : heightOf fp < g .height → 14 ≡ gridFault fp g
-    unfolding gridFault gridTooLarge
-    too-high h = rw (le-ltb _ _ w, lt-ltb _ _ h)
-
-    module _ (l : g .height ≤ heightOf fp) where
-      pub too-deep : depthOf fp < g .depth → 14 ≡ gridFault fp g
-      unfolding gridFault gridTooLarge
-      too-deep h = rw (le-ltb _ _ w, le-ltb _ _ l, lt-ltb _ _ h)
-
-      module _ (z : g .depth ≤ depthOf fp) where
-        pub too-many : 64 < weightCount g → 15 ≡ gridFault fp g
-        unfolding gridFault gridTooLarge tooManyWeights
-        too-many h = rw (le-ltb _ _ w, le-ltb _ _ l, le-ltb _ _ z, lt-ltb _ _ h)
-
-        module _ (n : weightCount g ≤ 64) where
-          pub too-short : weightBits g < 24 → 16 ≡ gridFault fp g
-          unfolding gridFault gridTooLarge tooManyWeights weightBitsOutside
-          too-short h = rw (le-ltb _ _ w, le-ltb _ _ l, le-ltb _ _ z, le-ltb _ _ n, lt-ltb _ _ h)
-
-          pub too-long : 24 ≤ weightBits g → 96 < weightBits g → 16 ≡ gridFault fp g
-          unfolding gridFault gridTooLarge tooManyWeights weightBitsOutside
-          too-long k h = rw (le-ltb _ _ w, le-ltb _ _ l, le-ltb _ _ z, le-ltb _ _ n, le-ltb _ _ k, lt-ltb _ _ h)
-
-          pub grid-sound : 24 ≤ weightBits g → weightBits g ≤ 96 → 0 ≡ gridFault fp g
-          unfolding gridFault gridTooLarge tooManyWeights weightBitsOutside
-          grid-sound k h = rw (le-ltb _ _ w, le-ltb _ _ l, le-ltb _ _ z, le-ltb _ _ n, le-ltb _ _ k, le-ltb _ _ h)
+-- ---- 14 to 16
 
 -- a grid without fault has at most 96 weight bits
 pub grid-bits : (fp : ℕ) (g : WeightGrid) → gridFault fp g ≡ 0 → weightBits g ≤ 96

@@ -3,7 +3,7 @@ use block_mode::WeightGrid;
 ghost use mathlib.Core.Path.{_≡_};
 ghost use Prim.Native.Nat.{_≤_, min};
 ghost use lib.Dec.{eqb};
-ghost use Rattle.laws.specs.Choice.{pick};
+ghost use Rattle.laws.specs.Choice.{pick, either};
 ghost use Rattle.color_endpoint.specs.Table.{numberCount};
 ghost use Rattle.block_header.specs.Reasons.{someHdr, hdrRefused};
 ghost use Rattle.block_header.specs.inner.Stages.{gridFault, endpointFault, stageOf, stageTold};
@@ -153,37 +153,50 @@ pub fn endpoint_range_of(h: BlockHeader) -> u8
     quantization::endpoint_range(endpoint_count(h), bits_left(h))
 }
 
-// The first of 14 to 16 that holds, once the weight bits are known.
+fn either(a: bool, b: bool) -> bool
+    ensures { λ r. ⌜ r ≡ either a b ⌝ }
+{
+    if a { true } else { b }
+}
+
+// One of two values that are both ready: a branch at a block's bits would be guessed.
+fn choose(first: bool, x: u8, y: u8) -> u8
+    ensures { λ r. ⌜ r ≡ pick first x y ⌝ }
+{
+    if first { x } else { y }
+}
+
+// The first of 14 to 16 that holds, 0 where none does, once the weight bits are known.
+fn grid_number(fp: u8, g: WeightGrid, weights: u64) -> u8
+    requires { ⌜ weights ≡ weightBits g ⌝ }
+    ensures { λ r. ⌜ r ≡ gridFault fp g ⌝ }
+{
+    let wide = footprint::width(fp) < g.width;
+    let high = footprint::height(fp) < g.height;
+    let deep = footprint::depth(fp) < g.depth;
+    let large = either(wide, either(high, deep));
+    let many = 64 < weight_count(g);
+    let outside = either(weights < 24, 96 < weights);
+    choose(large, 14, choose(many, 15, choose(outside, 16, 0)))
+}
+
+// The same as a stage.
 pub fn grid_stage(fp: u8, g: WeightGrid, weights: u64) -> Stage
     requires { ⌜ weights ≡ weightBits g ⌝ }
     ensures { λ r. ⌜ r ≡ stageOf (gridFault fp g) ⌝ }
 {
-    if footprint::width(fp) < g.width {
-        return Stage::Stopped(14);
+    let n = grid_number(fp, g, weights);
+    if n == 0 {
+        return Stage::Passed;
     }
-    if footprint::height(fp) < g.height {
-        return Stage::Stopped(14);
-    }
-    if footprint::depth(fp) < g.depth {
-        return Stage::Stopped(14);
-    }
-    if 64 < weight_count(g) {
-        return Stage::Stopped(15);
-    }
-    if weights < 24 {
-        return Stage::Stopped(16);
-    }
-    if 96 < weights {
-        return Stage::Stopped(16);
-    }
-    Stage::Passed
+    Stage::Stopped(n)
 }
 
 // The first of 14 to 16 that holds, 0 where none does.
 pub fn grid_fault(fp: u8, g: WeightGrid) -> u8
     ensures { λ r. ⌜ r ≡ gridFault fp g ⌝ }
 {
-    stage_told(grid_stage(fp, g, weight_bits(g)))
+    grid_number(fp, g, weight_bits(g))
 }
 
 // Whether some partition has an HDR mode; past the fourth a mode is 0, which is none.
