@@ -21,11 +21,12 @@ use Rattle.astc_header.specs.declared.WrittenHeader.{WrittenHeader}
 abbrev pub startBytes : List ℕ
 startBytes = 19 ∷ 171 ∷ 161 ∷ 92 ∷ []
 
--- a file's first four bytes are these
+-- two lists begin with the same four numbers
 abbrev pub sameFour : List ℕ → List ℕ → Bool
 sameFour s t =
     both (eqb (getD s 0 0) (getD t 0 0)) (both (eqb (getD s 1 0) (getD t 1 0)) (both (eqb (getD s 2 0) (getD t 2 0)) (eqb (getD s 3 0) (getD t 3 0))))
 
+-- a file's first four bytes are these
 unfoldable pub hasStart : List ℕ → Bool
 hasStart s = sameFour s startBytes
 
