@@ -13,7 +13,7 @@ returns c =
       c .before .before .choose2 .ensures .0,
       c .before .before .before .choose .ensures .0,
       c .before .before .before .before .other-side .ensures .0,
-      c .before .before .before .before .before .digit .ensures .0,
+      c .before .before .before .before .before .nibble .ensures .0,
     )
 
 pub grid-of-spec : {M : Type 1} → statement M

@@ -9,8 +9,8 @@ use Rattle.block_mode.specs.declared.BlockMode.{BlockMode}
 use Rattle.block_mode.specs.declared.BlockMode.the-variants.{VoidExtent, Reserved, Grid}
 
 -- number k of a list, four bits each
-unfoldable pub digitAt : ℕ → ℕ → ℕ
-digitAt list k = list / 2 ^ (4 * k) % 16
+unfoldable pub nibbleAt : ℕ → ℕ → ℕ
+nibbleAt list k = list / 2 ^ (4 * k) % 16
 
 -- 0 to 7 where bits 1..0 are not 00, 15 where bits 3..0 are 0, 11 to 14 by A where bits 8..7 are 11, else 8 to 10
 unfoldable pub formOf : ℕ → ℕ
@@ -18,8 +18,8 @@ formOf m = pick (eqb (m % 4) 0) (pick (eqb (m / 4 % 4) 0) 15 (pick (eqb (m / 128
 
 -- the side that A does not give
 unfoldable pub otherSide : ℕ → ℕ → ℕ → ℕ
-unfolding digitAt
-otherSide m form marks = digitAt 0x000AA6CC26888844 form + bitAnd (pick (eqb (m % 4) 0) (m / 512 % 4) (m / 128 % 4)) (marks % 4)
+unfolding nibbleAt
+otherSide m form marks = nibbleAt 0x000AA6CC26888844 form + bitAnd (pick (eqb (m % 4) 0) (m / 512 % 4) (m / 128 % 4)) (marks % 4)
 
 -- R - 2 + 6 * H, as a number of four bits
 unfoldable pub rangeIn : ℕ → ℕ → ℕ
@@ -27,9 +27,9 @@ rangeIn m h = (2 * pick (eqb (m % 4) 0) (m / 4 % 4) (m % 4) + m / 16 % 2 + 6 * h
 
 -- the grid of a form that is not reserved
 unfoldable pub gridOf : ℕ → ℕ → ℕ → WeightGrid
-unfolding digitAt otherSide rangeIn
+unfolding nibbleAt otherSide rangeIn
 gridOf m form marks =
-    let side = digitAt 0x0005662222222222 form + m / 32 % 4 in
+    let side = nibbleAt 0x0005662222222222 form + m / 32 % 4 in
     let other = otherSide m form marks in
     let top = pick (eqb form 10) 0 (m / 512 % 4) in
     record {
@@ -42,8 +42,8 @@ gridOf m form marks =
 
 -- which bits of the other side count; 4 more where the width is that side, 8 more where the form is reserved
 unfoldable pub marksOf : ℕ → ℕ
-unfolding digitAt formOf
-marksOf m = digitAt 0x8884030451337777 (formOf m)
+unfolding nibbleAt formOf
+marksOf m = nibbleAt 0x8884030451337777 (formOf m)
 
 -- the mode. Theorem: proofs/ByForm.antt, `mode-by`: it is `blockMode`
 unfoldable pub modeBy : ℕ → BlockMode
