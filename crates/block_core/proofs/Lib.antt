@@ -1,3 +1,4 @@
 pub mod Frames
 pub mod Painting
+pub mod PairPainting
 pub mod Shows

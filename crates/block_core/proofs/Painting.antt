@@ -82,7 +82,7 @@ single-told kind g component points lines seeds partitions f n old ep ec w = rw 
 
 -- what the test of one partition and one plane says
 pub single-true : (partitions planes component : ℕ) {r : Bool} → r ≡ both (eqb partitions 1) (not (eqb planes 2)) → r ≡ true
-    → (partitions ≡ 1) × (pick (eqb planes 2) component 4 ≡ 4)
+    → (partitions ≡ 1) × (pick (eqb planes 2) component 4 ≡ 4) × (eqb planes 2 ≡ false)
 single-true partitions planes component e t = go (eqb planes 2) refl where
   p : T (both (eqb partitions 1) (not (eqb planes 2)))
   p = subst T (sym (sym e ∙ t)) tt
@@ -90,8 +90,8 @@ single-true partitions planes component e t = go (eqb planes 2) refl where
   one : partitions ≡ 1
   one = eqb→eq partitions 1 (both-left (eqb partitions 1) _ p)
 
-  go : (b : Bool) → eqb planes 2 ≡ b → (partitions ≡ 1) × (pick (eqb planes 2) component 4 ≡ 4)
-  go false q = (one, rw q)
+  go : (b : Bool) → eqb planes 2 ≡ b → (partitions ≡ 1) × (pick (eqb planes 2) component 4 ≡ 4) × (eqb planes 2 ≡ false)
+  go false q = (one, rw q, q)
   go true q = absurd (subst T (ap not q) (both-right (eqb partitions 1) (not (eqb planes 2)) p))
 
 -- what the test of a grid's sides says

@@ -28,6 +28,7 @@ use Rattle.weight_grid.specs.inner.Points.{noPoint, readOf, pointOf, pointsOf}
 use Rattle.weight_grid.proofs.Reading.{first-read, second-read, first-le, second-most}
 use Rattle.volume_infill.specs.Simplex.{volumeInfill}
 use Rattle.volume_infill.specs.inner.Way.{WithinGrid, ByteLevels}
+use Rattle.weight_grid.specs.inner.Pairs.{OnePlane}
 use Rattle.volume_infill.proofs.Reading.{first-volume, second-volume, first-volume-le, second-volume-le}
 use Rattle.volume_paint.specs.declared.VolumeFrame.{VolumeFrame}
 use Rattle.volume_paint.specs.inner.Volume.{volumeTexelAt, volumeTexel}
@@ -139,6 +140,16 @@ module _ (h : BlockHeader) (stored : ℕ → ℕ) where
       go : (t : Bool) → pairs.BytePair (pick t (pointOf weights (h .grid .planes) i) noPoint)
       go true = two _ _ (most (i * h .grid .planes)) (second i (eqb (h .grid .planes) 2))
       go false = none
+
+  -- with one plane a point is its weight
+  pub one-plane : eqb (h .grid .planes) 2 ≡ false → OnePlane points
+  unfolding pointsOf pointOf padded
+  one-plane e k = tab-all (λ p. p .0 ≤ 64) (λ i. pick (ltb i (h .grid .width * h .grid .height * h .grid .depth)) (pointOf weights (h .grid .planes) i) noPoint) noPoint each (omega arith) 64 k where
+    each : (i : ℕ) → (pick (ltb i (h .grid .width * h .grid .height * h .grid .depth)) (pointOf weights (h .grid .planes) i) noPoint) .0 ≤ 64
+    each i = go (ltb i (h .grid .width * h .grid .height * h .grid .depth)) where
+      go : (t : Bool) → (pick t (pointOf weights (h .grid .planes) i) noPoint) .0 ≤ 64
+      go true = rw e (omega (arith, most (i * h .grid .planes)))
+      go false = omega arith
 
 -- ---- a texel from its weights
 

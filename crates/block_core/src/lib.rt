@@ -30,6 +30,7 @@ ghost use mathlib.Core.List.{List};
 ghost use Rattle.block_core.specs.inner.Shows.{Shows};
 ghost use Rattle.block_core.specs.inner.Prepared.{frameOf, volumeFrameOf, preparedTexel, singleTexel, pointTexel, Inside, halves};
 ghost use Rattle.volume_infill.specs.inner.Way.{ByteLevels};
+ghost use Rattle.weight_grid.specs.inner.Pairs.{OnePlane};
 
 // A footprint's sides and the scale factors of a weight grid along them, once for each block.
 struct FlatFrame {
@@ -143,28 +144,29 @@ fn paint_single(
     out: &mut [u16; 864],
 )
     requires { ⌜ Inside g f ⌝ }
-    requires { ⌜ ByteLevels points ⌝ }
+    requires { ⌜ OnePlane points ⌝ }
     ensures { λ r. ⌜ (length (now (out .entry)) ≡ 864 → now (out .exit) ≡ painted (f .width) (singleTexel kind g points (now (lines .entry)) f) (f .height * f .width) (now (out .entry))) ⌝ }
 {
     let row = g.width as usize;
-    let columns = weight_grid::columns(f.across, g.width, f.width);
+    let places = weight_grid::places(f.across, g.width, f.width);
+    let pairs = weight_grid::pairs(points);
     let line = lines[0];
     let mut y: u8 = 0;
     while y < f.height {
         let gt = weight_grid::grid_place(f.down, y, g.height);
-        let upper = ((gt / 16) as usize) * row;
-        let lower = upper + weight_grid::step(gt, g.height, row);
+        let from = ((gt / 16) as usize) * row;
+        let next = from + weight_grid::step(gt, g.height, row);
+        let mut upper: [u16; 16] = [0; 16];
+        let mut lower: [u16; 16] = [0; 16];
+        weight_grid::factor_pairs(&places, gt, &mut upper, &mut lower);
         let mut x: u8 = 0;
         while x < f.width {
-            let c = columns[x as usize];
-            let left = c.at as usize;
-            let right = c.next as usize;
-            let q00 = points[upper + left];
-            let q01 = points[upper + right];
-            let q10 = points[lower + left];
-            let q11 = points[lower + right];
-            let both = weight_grid::infill_both(c.part as u32, gt, q00, q01, q10, q11);
-            let texel = half_line::mix(kind, line, both, 4);
+            let i = x as usize;
+            let at = (places[i] / 16) as usize;
+            let above = pairs[from + at];
+            let below = pairs[next + at];
+            let weight = weight_grid::infill_pairs(upper[i], lower[i], above, below);
+            let texel = half_line::mix(kind, line, weight, 4);
             put(
                 out,
                 place(f.width, x, y),

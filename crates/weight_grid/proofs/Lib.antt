@@ -3,3 +3,4 @@ pub mod Planes
 pub mod Points
 pub mod Reading
 pub mod ByColumns
+pub mod PairBlend

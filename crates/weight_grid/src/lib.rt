@@ -1,12 +1,14 @@
 // The weight of a texel, from the weights of a grid that may be smaller than the block.
 ghost use mathlib.Core.Path.{_≡_};
-ghost use Prim.Native.Nat.{ℕ, _-_, _*_, _%_, _≤_, _<_};
+ghost use Prim.Native.Nat.{ℕ, _+_, _-_, _*_, _%_, _≤_, _<_};
 ghost use Rattle.weight_grid.specs.Place.{scaleOf, gridPlace};
 ghost use Rattle.encoding.specs.inner.Levels.{firstLevel, secondLevel, BytePair};
 ghost use Rattle.weight_grid.specs.Bilinear.{blendOf};
 ghost use Rattle.weight_grid.specs.inner.Points.{bothOf, neighbourStep};
 ghost use Rattle.weight_grid.specs.inner.Columns.{gridColumn, noColumn};
-ghost use Rattle.laws.specs.Table.{padded};
+ghost use Rattle.weight_grid.specs.inner.Pairs.{OnePlane, pointPair, pairsOf, upperPair, lowerPair, pairBlend};
+ghost use Rattle.laws.specs.Table.{tab, padded};
+ghost use lib.ListN.{length, getD};
 use encoding::LevelPair;
 
 fn less_one(n: u8) -> u32
@@ -103,6 +105,89 @@ pub fn columns(scale: u16, points: u8, width: u8) -> [Column; 12]
         x += 1;
     }
     out
+}
+
+// Two points beside each other on a grid of one plane: the right one's level, and the left one's from bit 11 on. So one product weighs both.
+pub struct PointPair(pub u32);
+
+fn pair_of(left: LevelPair, right: LevelPair) -> PointPair
+    requires { ⌜ (left .0 ≤ 64) × (right .0 ≤ 64) ⌝ }
+    ensures { λ r. ⌜ r ≡ pointPair left right ⌝ }
+{
+    PointPair(right.0 + 2048 * left.0)
+}
+
+// Each point of a grid of one plane with the next one of the list: past the end of a row its factor is 0.
+pub fn pairs(points: [LevelPair; 64]) -> [PointPair; 64]
+    requires { ⌜ OnePlane points ⌝ }
+    ensures { λ r. ⌜ r ≡ pairsOf points ⌝ }
+{
+    let none = PointPair(0);
+    let mut out = [none; 64];
+    let mut i: usize = 0;
+    while i < 63 {
+        out[i] = pair_of(points[i], points[i + 1]);
+        i += 1;
+    }
+    out[63] = pair_of(points[63], LevelPair(0));
+    out
+}
+
+// The places on the grid of a block's columns, this many, once for all rows; 16 of them, so that a row's factors are made side by side.
+pub fn places(scale: u16, points: u8, width: u8) -> [u16; 16]
+    requires { ⌜ ((x : ℕ) → x < width → gridPlace scale x points ≤ 16 * (points - 1)) ⌝ }
+    requires { ⌜ (points ≤ 12) × (width ≤ 12) ⌝ }
+    ensures { λ r. ⌜ r ≡ padded 16 width (λ x. gridPlace scale x points) 0 ⌝ }
+{
+    let mut out: [u16; 16] = [0; 16];
+    let mut i: u8 = 0;
+    while i < width {
+        out[i as usize] = grid_place(scale, i, points) as u16;
+        i += 1;
+    }
+    out
+}
+
+// The factors of the lower two of four neighbours, the left one's below: so a product with their pair has both in its middle.
+fn lower_pair(fs: u16, ft: u16) -> u16
+    requires { ⌜ (fs < 16) × (ft < 16) ⌝ }
+    ensures { λ r. ⌜ r ≡ lowerPair fs ft ⌝ }
+{
+    let w11 = (fs * ft + 8) / 16;
+    (ft - w11) + 2048 * w11
+}
+
+// Those of the upper two, from those of the lower two: what both come to is one number for a column.
+fn upper_pair(fs: u16, ft: u16, below: u16) -> u16
+    requires { ⌜ (fs < 16) × (ft < 16) ⌝ }
+    requires { ⌜ below ≡ lowerPair fs ft ⌝ }
+    ensures { λ r. ⌜ r ≡ upperPair fs ft ⌝ }
+{
+    16 + 2047 * fs - below
+}
+
+// Both for a row of texels that lies at gt of the grid.
+pub fn factor_pairs(places: &[u16; 16], gt: u32, upper: &mut [u16; 16], lower: &mut [u16; 16])
+    ensures { λ _. ⌜ (length (now (upper .entry)) ≡ 16 → now (upper .exit) ≡ tab (λ x. upperPair (getD (now (places .entry)) x 0 % 16) (gt % 16)) 16) ⌝ }
+    ensures { λ _. ⌜ (length (now (lower .entry)) ≡ 16 → now (lower .exit) ≡ tab (λ x. lowerPair (getD (now (places .entry)) x 0 % 16) (gt % 16)) 16) ⌝ }
+{
+    let ft = (gt % 16) as u16;
+    let mut x: usize = 0;
+    while x < 16 {
+        let fs = places[x] % 16;
+        let below = lower_pair(fs, ft);
+        lower[x] = below;
+        upper[x] = upper_pair(fs, ft, below);
+        x += 1;
+    }
+}
+
+// The weight between two pairs of neighbours, by their factors: the middle of two products, in sixteenths.
+pub fn infill_pairs(upper: u16, lower: u16, above: PointPair, below: PointPair) -> LevelPair
+    requires { ⌜ above .0 * upper + below .0 * lower ≤ 4278190079 ⌝ }
+    ensures { λ r. ⌜ r .0 ≡ pairBlend upper lower (above .0) (below .0) ⌝ }
+{
+    LevelPair((above.0 * (upper as u32) + below.0 * (lower as u32) + 16384) / 32768 % 128)
 }
 
 // The factors of four neighbours, and the sum of their packed weights in sixteenths: both planes at once. 16711935 is 255 in each.

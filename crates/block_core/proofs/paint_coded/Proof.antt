@@ -10,7 +10,7 @@ use Rattle.block_core.proofs.Frames.{inside, in-volume}
 use Rattle.block_core.proofs.Painting.{points-true, point-told, single-true, single-told, room-for}
 use native.Mathlib.Nat.{mul-comm}
 use native.Mathlib.Omega.{arith}
-use Rattle.block_core.proofs.Shows.{byte-levels, flat-told, volume-told}
+use Rattle.block_core.proofs.Shows.{byte-levels, one-plane, flat-told, volume-told}
 use borrow.Author.Needs.{needs}
 use Rattle.block_core.proofs.paint_coded.Statement.{statement}
 use Rattle.block_core.proofs.paint_coded.Tie as tie
@@ -54,7 +54,15 @@ paint-points-requires c κs =
     rw (← e .0, ← e .1) (omega (arith, layer-le _ (i .limits) (i .count), mul-comm (start (q .before .before .before .before .before) .args .s .header .grid .width) (start (q .before .before .before .before .before) .args .s .header .grid .height)))
 
 paint-single-requires : tie.Need-paint-single-requires
-paint-single-requires c κs = ready (c .before .before .before .before .before .before)
+unfolding weightAt
+paint-single-requires c κs =
+    let n = c .before .before in
+    let f = n .before .before .before .before in
+    let q = f .before .before .before in
+    let s = start q in
+    let h = s .args .s .header in
+    let z = single-true (h .partitions) (h .grid .planes) (h .component) (n .before .is-single .ensures) (n .if3 .taken) in
+    (ready f .0, rw (q .before .before .before .points-of .ensures) (one-plane h (weightAt (blockNumber (s .args .block)) h) (z .2)))
 
 paint-requires : tie.Need-paint-requires
 paint-requires c κs = ready (c .before .before .before .before .before .before)
