@@ -181,15 +181,23 @@ pub fn filled(count: u8) -> usize
     if count < 4 { count as usize } else { 4 }
 }
 
-// The pairs of four partitions, those past the count zeros.
-pub fn endpoint_table(modes: [u8; 4], count: u8, levels: [Level; 18]) -> [EndpointPair; 4]
+// The pairs of four partitions, from that of the first alone.
+fn later_pairs(
+    modes: [u8; 4],
+    count: u8,
+    levels: [Level; 18],
+    first: [EndpointPair; 4],
+) -> [EndpointPair; 4]
+    requires { ⌜ first ≡ tableOf modes 1 levels ⌝ }
     ensures { λ r. ⌜ r ≡ tableOf modes count levels ⌝ }
 {
     let n = filled(count);
-    let none = endpoint_arithmetic::zero_pair();
-    let mut t = [none; 4];
-    let mut p: usize = 0;
-    let mut start: u32 = 0;
+    if n == 0 {
+        return [endpoint_arithmetic::zero_pair(); 4];
+    }
+    let mut t = first;
+    let mut p: usize = 1;
+    let mut start = number_count(modes[0]);
     while p < n {
         let mode = modes[p];
         t[p] = endpoint_pair(mode, numbers_from(levels, start));
@@ -197,6 +205,18 @@ pub fn endpoint_table(modes: [u8; 4], count: u8, levels: [Level; 18]) -> [Endpoi
         p += 1;
     }
     t
+}
+
+// The pairs of four partitions, those past the count zeros. Most blocks have one partition, whose numbers are the first eight.
+pub fn endpoint_table(modes: [u8; 4], count: u8, levels: [Level; 18]) -> [EndpointPair; 4]
+    ensures { λ r. ⌜ r ≡ tableOf modes count levels ⌝ }
+{
+    let mut t = [endpoint_arithmetic::zero_pair(); 4];
+    t[0] = endpoint_pair(modes[0], numbers_from(levels, 0));
+    if count == 1 {
+        return t;
+    }
+    later_pairs(modes, count, levels, t)
 }
 
 // Bit m of 51340 is 1 for the HDR modes: 2, 3, 7, 11, 14 and 15.
