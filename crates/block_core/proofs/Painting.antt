@@ -73,6 +73,12 @@ pub told : (kind : Kind) (g : WeightGrid) (component : ℕ) (points : List Level
 unfolding preparedTexel
 told kind g component points lines seeds partitions f x y h ew e = rw (← which-told seeds partitions y x ew h) e
 
+-- with no component for the second weight
+pub four-told : (kind : Kind) (g : WeightGrid) (component : ℕ) (points : List LevelPair) (lines : List (List ℕ)) (seeds : Seeds) (partitions : ℕ) (f : FlatFrame) (n : ℕ) (old : List ℕ) {l : List ℕ}
+    → component ≡ 4 → l ≡ painted (f .width) (preparedTexel kind g 4 points lines seeds partitions f) n old
+    → l ≡ painted (f .width) (preparedTexel kind g component points lines seeds partitions f) n old
+four-told kind g component points lines seeds partitions f n old ec w = rw ec w
+
 -- with one partition and one plane none is asked, and nor is the second weight
 pub single-told : (kind : Kind) (g : WeightGrid) (component : ℕ) (points : List LevelPair) (lines : List (List ℕ)) (seeds : Seeds) (partitions : ℕ) (f : FlatFrame) (n : ℕ) (old : List ℕ) {l : List ℕ}
     → partitions ≡ 1 → component ≡ 4 → l ≡ painted (f .width) (singleTexel kind g points lines f) n old

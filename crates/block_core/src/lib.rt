@@ -275,7 +275,11 @@ fn paint_coded(
     let frame = frame_of(fp);
     if on_points(g, frame, h.partitions) {
         let count = (frame.height as usize) * (frame.width as usize);
-        paint_points(kind, component, points, &lines, count, out);
+        if g.planes == 2 {
+            paint_points(kind, component, points, &lines, count, out);
+        } else {
+            paint_points(kind, 4, points, &lines, count, out);
+        }
     } else if is_single(h.partitions, g.planes) {
         paint_single(kind, g, points, &lines, frame, out);
     } else {

@@ -1,5 +1,8 @@
-use mathlib.Core.Bool.{false}
-use mathlib.Core.Path.{_≡_, sym, _∙_}
+use mathlib.Core.Bool.{Bool, false}
+use mathlib.Core.Path.{_≡_, sym, ap, _∙_}
+use Prim.Native.Nat.{_*_, _≤_}
+use borrow.Author.Tests.{ne-eqb}
+use Rattle.laws.specs.Choice.{pick}
 use Rattle.bits.specs.Block.{blockNumber}
 use Rattle.footprint.specs.Footprint.{isVolume}
 use Rattle.block_fault.specs.Bits.{weightAt}
@@ -7,7 +10,7 @@ use Rattle.block_core.specs.inner.Prepared.{frameOf, Inside}
 use Rattle.volume_infill.specs.inner.Way.{ByteLevels}
 use Rattle.block_levels.proofs.Levels.{layer-le}
 use Rattle.block_core.proofs.Frames.{inside, in-volume}
-use Rattle.block_core.proofs.Painting.{points-true, point-told, single-true, single-told, room-for}
+use Rattle.block_core.proofs.Painting.{points-true, point-told, four-told, single-true, single-told, room-for}
 use native.Mathlib.Nat.{mul-comm}
 use native.Mathlib.Omega.{arith}
 use Rattle.block_core.proofs.Shows.{byte-levels, one-plane, flat-told, volume-told}
@@ -46,9 +49,8 @@ mul-count c = omega (arith, room-for _ _ (ready (c .before .before .before .befo
 same : (c : tie.Then2) → (start (c .before .before .before .before .before) .args .s .header .partitions ≡ 1) × ((start (c .before .before .before .before .before) .args .s .header .grid .width ≡ c .before .before .frame-of .result .width) × (start (c .before .before .before .before .before) .args .s .header .grid .height ≡ c .before .before .frame-of .result .height))
 same c = points-true _ _ _ _ _ (c .before .on-points .ensures) (c .if2 .taken)
 
-paint-points-requires : tie.Need-paint-points-requires
-paint-points-requires c κs =
-    let q = c .before .before .before .before in
+points-fit : (q : tie.Then2) → q .before .before .frame-of .result .height * q .before .before .frame-of .result .width ≤ 64
+points-fit q =
     let e = same q .1 in
     let i = ready (q .before .before) .0 in
     rw (← e .0, ← e .1) (omega (arith, layer-le _ (i .limits) (i .count), mul-comm (start (q .before .before .before .before .before) .args .s .header .grid .width) (start (q .before .before .before .before .before) .args .s .header .grid .height)))
@@ -61,7 +63,7 @@ paint-single-requires c κs =
     let q = f .before .before .before in
     let s = start q in
     let h = s .args .s .header in
-    let z = single-true (h .partitions) (h .grid .planes) (h .component) (n .before .is-single .ensures) (n .if3 .taken) in
+    let z = single-true (h .partitions) (h .grid .planes) (h .component) (n .before .is-single .ensures) (n .if4 .taken) in
     (ready f .0, rw (q .before .before .before .points-of .ensures) (one-plane h (weightAt (blockNumber (s .args .block)) h) (z .2)))
 
 paint-requires : tie.Need-paint-requires
@@ -78,7 +80,7 @@ returns c = let f = c .before .before .before in
 
 returns-2 : tie.Need-returns-2
 unfolding weightAt frameOf
-returns-2 c = let t = c .before .before .before .before .before in
+returns-2 c = let t = c .before .before .before .before .before .before .before in
     let f = t .before .before in
     let d = f .before in
     let q = d .before .before in
@@ -89,23 +91,39 @@ returns-2 c = let t = c .before .before .before .before .before in
     (flat (d .before)) (s .pre .1 .1 .1 .1 (flat (d .before))) (d .partition-seeds .ensures .0) (f .frame-of .ensures)
     (c .paint-points .ensures _ _ (rw (f .frame-of .ensures) (point-told _ _ _ _ _ _ (s .args .fp) _ (flat (d .before)) (z .0) (rw (f .frame-of .ensures) at (z .1 .0)) (rw (f .frame-of .ensures) at (z .1 .1)))) e)
 
+-- with one plane no component takes a second weight
 returns-3 : tie.Need-returns-3
+unfolding weightAt frameOf
+returns-3 c = let k = c .before .before .before in
+    let t = k .before .before .before .before in
+    let f = t .before .before in
+    let d = f .before in
+    let q = d .before .before in
+    let s = start q in
+    let z = same t in
+    let four : q .second-component .result ≡ 4 = q .second-component .ensures ∙ ap (λ (b : Bool). pick b (s .args .s .header .component) 4) (ne-eqb (s .args .s .header .grid .planes) 2 (k .if3 .left)) in
+    λ e. flat-told (s .args .fp) (s .args .kind) (blockNumber (s .args .block)) (s .args .s .header) _ (s .pre .1 .1 .1 .0) (s .pre .1 .0 .0)
+    (q .before .before .before .points-of .ensures) (q .before .before .lines-of .ensures) (q .before .is-small .ensures) (q .second-component .ensures)
+    (flat (d .before)) (s .pre .1 .1 .1 .1 (flat (d .before))) (d .partition-seeds .ensures .0) (f .frame-of .ensures)
+    (four-told _ _ _ _ _ _ _ _ _ _ four (c .paint-points2 .ensures _ _ (rw (f .frame-of .ensures) (point-told _ _ _ _ _ _ (s .args .fp) _ (flat (d .before)) (z .0) (rw (f .frame-of .ensures) at (z .1 .0)) (rw (f .frame-of .ensures) at (z .1 .1)))) e))
+
+returns-4 : tie.Need-returns-4
 unfolding weightAt
-returns-3 c = let n = c .before .before .before in
+returns-4 c = let n = c .before .before .before in
     let f = n .before .before .before .before in
     let d = f .before in
     let q = d .before .before in
     let s = start q in
     let h = s .args .s .header in
-    let z = single-true (h .partitions) (h .grid .planes) (h .component) (n .before .is-single .ensures) (n .if3 .taken) in
+    let z = single-true (h .partitions) (h .grid .planes) (h .component) (n .before .is-single .ensures) (n .if4 .taken) in
     λ e. flat-told (s .args .fp) (s .args .kind) (blockNumber (s .args .block)) (s .args .s .header) _ (s .pre .1 .1 .1 .0) (s .pre .1 .0 .0)
     (q .before .before .before .points-of .ensures) (q .before .before .lines-of .ensures) (q .before .is-small .ensures) (q .second-component .ensures)
     (flat (d .before)) (s .pre .1 .1 .1 .1 (flat (d .before))) (d .partition-seeds .ensures .0) (f .frame-of .ensures)
     (single-told _ _ _ _ _ _ _ _ _ _ (z .0) (q .second-component .ensures ∙ z .1) (c .paint-single .ensures e))
 
-returns-4 : tie.Need-returns-4
+returns-5 : tie.Need-returns-5
 unfolding weightAt
-returns-4 c = let f = c .before .before .before .before .before .before .before in
+returns-5 c = let f = c .before .before .before .before .before .before .before in
     let d = f .before in
     let q = d .before .before in
     let s = start q in
@@ -130,10 +148,12 @@ paint-coded-spec =
     (λ c. search needs)
     (λ c. search needs)
     mul-count
-    paint-points-requires
+    (λ c κs. points-fit (c .before .before .before .before .before .before))
+    (λ c κs. points-fit (c .before .before .before .before .before .before))
     (λ c κs. search needs)
     paint-single-requires
     paint-requires
     returns-2
     returns-3
-    returns-4)
+    returns-4
+    returns-5)
