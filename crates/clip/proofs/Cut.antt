@@ -6,15 +6,18 @@ use native.Mathlib.Omega.{arith}
 use mathlib.Core.Path.{_≡_, refl, sym, ap, _∙_}
 use mathlib.Core.Bool.{Bool, true, false, not, true≢false}
 use mathlib.Core.List.{List, [], _∷_, _++_}
-use lib.ListN.{length, take, drop, take-append-drop, length-drop}
+use lib.Dec.{eqb, ltb}
+use lib.ListN.{length, set, take, drop, take-append-drop, length-drop}
 use Rattle.laws.specs.Choice.{pick, either}
+use Rattle.clip_frame.specs.Frame.{lengthIn, frameIn, frameRefusal}
 use Rattle.clip.specs.declared.Phase.{Phase}
 use Rattle.clip.specs.declared.Phase.the-variants.{Version, Header, Blocks, Over}
 use Rattle.clip.specs.declared.Event.{Event}
-use Rattle.clip.specs.declared.Event.the-variants.{Nothing, Told}
+use Rattle.clip.specs.declared.Event.the-variants.{Nothing, Block, Told}
 use Rattle.clip.specs.declared.Clip.{Clip}
+use Rattle.clip.specs.declared.Step.{Step}
 use Rattle.clip.specs.declared.Fed.{Fed}
-use Rattle.clip.specs.Step.{zeros, isHanded, stepIn, stepOf}
+use Rattle.clip.specs.Step.{zeros, isHanded, entered, quiet, over, more, begun, checked, handed, versionStep, headerStep, blockStep, stepIn, stepOf}
 use Rattle.clip.specs.Feed.{Handed, handedOut, run, told, usedUp, fedBy, oneMore, goOn, feedIn, feedOf, finishNumber, finishOf}
 use Rattle.clip.specs.Pieces.{isOverIn, isOver, endBy, takenBy, outBy, Reading, after, pieceRead, piecesRead, joined}
 use Rattle.clip.specs.Theorems.{OneFeed, Cut, Fixed, ForGood}
@@ -56,6 +59,20 @@ record Fair (c : Clip) (s : List ℕ) (f : Fed) : Type 0 where
   within : f .taken ≤ length s
   stops : isHanded (f .event) ≡ false → f .taken ≡ length s
   moves : isHanded (f .event) ≡ true → 0 < f .taken
+  not-before : (n : ℕ) → n < f .taken → told c (take n s) ≡ []
+
+-- fewer bytes than one, and fewer than one more
+none-before : (c : Clip) (b : ℕ) (s : List ℕ) (n : ℕ) → n < 1 → told c (take n (b ∷ s)) ≡ []
+unfolding told
+none-before c b s zero h = refl
+none-before c b s (suc n) h = absurd (omega (arith, h))
+
+more-before : (c : Clip) (b : ℕ) (s : List ℕ) (m : ℕ) → isHanded (stepOf c b .event) ≡ false
+    → ((n : ℕ) → n < m → told (stepOf c b .clip) (take n s) ≡ []) → (n : ℕ) → n < suc m → told c (take n (b ∷ s)) ≡ []
+unfolding told
+more-before c b s m e w zero h = refl
+more-before c b s m e w (suc n) h =
+    ap (λ q. pick q (record { event = stepOf c b .event; block = stepOf c b .block } ∷ []) [] ++ told (stepOf c b .clip) (take n s)) e ∙ w n (omega (arith, h))
 
 fair-step : (c : Clip) (b : ℕ) (s : List ℕ) (g : Fed) (t : Bool) → isHanded (stepOf c b .event) ≡ t → Fair (stepOf c b .clip) s g
     → Fair c (b ∷ s) (pick t (fedBy (stepOf c b) 1) (oneMore g))
@@ -66,6 +83,7 @@ fair-step c b s g true e w = record {
   within = omega arith;
   stops = λ h. absurd (true≢false (sym e ∙ h));
   moves = λ h. omega arith;
+  not-before = none-before c b s;
 }
 fair-step c b s g false e w = record {
   state = w .state;
@@ -73,11 +91,19 @@ fair-step c b s g false e w = record {
   within = let h = w .within in omega arith;
   stops = λ h. ap suc (w .stops h);
   moves = λ h. omega arith;
+  not-before = more-before c b s (g .taken) e (w .not-before);
 }
 
 fair-none : (c : Clip) → Fair c [] (usedUp c 0)
 unfolding run told
-fair-none c = record { state = refl; out = refl; within = omega arith; stops = λ h. refl; moves = λ h. absurd (true≢false (sym h)) }
+fair-none c = record {
+  state = refl;
+  out = refl;
+  within = omega arith;
+  stops = λ h. refl;
+  moves = λ h. absurd (true≢false (sym h));
+  not-before = λ n h. absurd (omega (arith, h));
+}
 
 fair : (c : Clip) (s : List ℕ) → Fair c s (goOn c s)
 unfolding goOn
@@ -92,6 +118,7 @@ taking q c p e n = let w = fair c p in record {
   within = w .within;
   stops = w .stops;
   moves = λ o h. w .moves h;
+  not-before = w .not-before;
 }
 
 fed-in : (q : Phase) (c : Clip) (p : List ℕ) → c .phase ≡ q → OneFeed c p (feedIn q c p)
@@ -105,6 +132,7 @@ fed-in (Over n) c p e = record {
   within = omega arith;
   stops = λ h. absurd (true≢false h);
   moves = λ o h. absurd (true≢false (sym (ap isOverIn e) ∙ o));
+  not-before = λ k h. absurd (omega (arith, h));
 }
 
 pub one-feed : (c : Clip) (p : List ℕ) → OneFeed c p (feedOf c p)
@@ -153,6 +181,50 @@ told-over c (b ∷ s) e =
     ap (λ (v : Event). handedOut v (stepOf c b .block) ++ told (stepOf c b .clip) s) (q .1)
     ∙ ap (λ (k : Clip). told k s) (q .0) ∙ told-over c s e
 
+-- the phase that a number told leads to
+abbrev toldIn : Event → Phase → Phase
+toldIn Nothing q = q
+toldIn (Block i j) q = q
+toldIn (Told n) q = Over n
+
+abbrev Led : Clip → Event → Type 0
+Led c e = c .phase ≡ toldIn e (c .phase)
+
+led-by : (t : Bool) (a b : Step) → Led (a .clip) (a .event) → Led (b .clip) (b .event) → Led (pick t a b .clip) (pick t a b .event)
+led-by true a b h l = h
+led-by false a b h l = l
+
+step-led : (q : Phase) (c : Clip) (b : ℕ) → Led (stepIn q c b .clip) (stepIn q c b .event)
+unfolding versionStep headerStep blockStep checked
+step-led Version c b = led-by (eqb b 1) (quiet (entered c Header)) (over c 51) refl refl
+step-led Header c b =
+    let s : List ℕ = set (c .held) 9 b in
+    let n : ℕ = frameRefusal (frameIn s) (lengthIn s) in
+    led-by (ltb (c .have) 9) (more c b) (checked c s) refl (led-by (eqb n 0) (quiet (begun c (frameIn s))) (over c n) refl refl)
+step-led Blocks c b = led-by (ltb (c .have) 15) (more c b) (handed c (set (c .held) 15 b)) refl refl
+step-led (Over n) c b = refl
+
+fed-led : (t : Bool) (c : Clip) (b : ℕ) (g : Fed) → Led (g .clip) (g .event)
+    → Led (pick t (fedBy (stepOf c b) 1) (oneMore g) .clip) (pick t (fedBy (stepOf c b) 1) (oneMore g) .event)
+unfolding stepOf
+fed-led true c b g h = step-led (c .phase) c b
+fed-led false c b g h = h
+
+on-led : (c : Clip) (s : List ℕ) → Led (goOn c s .clip) (goOn c s .event)
+unfolding goOn
+on-led c [] = refl
+on-led c (b ∷ s) = fed-led (isHanded (stepOf c b .event)) c b (goOn (stepOf c b .clip) s) (on-led (stepOf c b .clip) s)
+
+in-led : (q : Phase) (c : Clip) (s : List ℕ) → c .phase ≡ q → Led (feedIn q c s .clip) (feedIn q c s .event)
+in-led Version c s e = on-led c s
+in-led Header c s e = on-led c s
+in-led Blocks c s e = on-led c s
+in-led (Over n) c s e = e
+
+refused : (c : Clip) (s : List ℕ) (n : ℕ) → feedOf c s .event ≡ Told n → feedOf c s .clip .phase ≡ Over n
+unfolding feedOf
+refused c s n e = in-led (c .phase) c s refl ∙ ap (λ (v : Event). toldIn v (feedOf c s .clip .phase)) e
+
 fed-again : (c : Clip) (n : ℕ) (s : List ℕ) → c .phase ≡ Over n → feedOf c s ≡ record { clip = c; taken = 0; event = Told n; block = zeros }
 unfolding feedOf
 fed-again c n s e = ap (λ (q : Phase). feedIn q c s) e
@@ -166,7 +238,7 @@ unfolding finishOf
 finished c = refl
 
 pub for-good : ForGood
-for-good = record { run-over = run-over; told-over = told-over; fed-again = fed-again; finished-again = finished-again; finished = finished }
+for-good = record { run-over = run-over; told-over = told-over; refused = refused; fed-again = fed-again; finished-again = finished-again; finished = finished }
 
 -- ---- the caller's loop
 

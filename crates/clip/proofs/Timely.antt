@@ -1,6 +1,6 @@
 -- 02, j: what the bytes bring, and when: nothing is handed out early and nothing late.
 -- Assumes nothing.
-use Prim.Native.Nat.{ℕ, zero, suc, _+_, _%_, _^_, _≤_, _<_}
+use Prim.Native.Nat.{ℕ, zero, suc, _+_, _-_, _%_, _^_, _≤_, _<_}
 use native.Mathlib.Omega.{arith}
 use mathlib.Core.Path.{_≡_, refl, sym, ap, _∙_}
 use mathlib.Core.Bool.{Bool, true, false}
@@ -8,12 +8,12 @@ use mathlib.Core.List.{List, [], _∷_, _++_}
 use lib.Dec.{eqb, ltb}
 use lib.ListN.{length, getD, set, take, drop, take-append-drop, length-take, length-drop}
 use lib.Seq.{getD-take, ext-getD}
-use borrow.Author.Tests.{ne-eqb, lt-ltb, le-ltb}
+use borrow.Author.Tests.{eq-eqb, ne-eqb, lt-ltb, le-ltb}
 use Rattle.laws.specs.Choice.{pick}
 use Rattle.laws.specs.Table.{tabFrom, tab}
 use Rattle.laws.proofs.Filling.{length-tab, getD-tab}
 use Rattle.clip_frame.specs.declared.Frame.{Frame}
-use Rattle.clip_frame.specs.Frame.{lengthIn, frameIn, frameRefusal}
+use Rattle.clip_frame.specs.Frame.{blocksIn, lengthIn, frameIn, frameRefusal}
 use Rattle.clip.specs.declared.Phase.the-variants.{Header, Blocks}
 use Rattle.clip.specs.declared.Event.the-variants.{Nothing, Block, Told}
 use Rattle.clip.specs.declared.Clip.{Clip}
@@ -179,9 +179,22 @@ ten-brings i g s e =
     ∙ ten-told i g (getD s 0 0) (getD s 1 0) (getD s 2 0) (getD s 3 0) (getD s 4 0) (getD s 5 0) (getD s 6 0) (getD s 7 0) (getD s 8 0) (getD s 9 0) []
     ∙ brings (eqb n 0) (begun (ready i g) (frameIn s)) (ready i g) n
 
+ten-begins : (i : ℕ) (g : Frame) (s : List ℕ) → length s ≡ 10 → frameRefusal (frameIn s) (lengthIn s) ≡ 0
+    → run (ready i g) s ≡ waits i 0 (blocksIn (frameIn s) - 1) (frameIn s)
+unfolding first tab tabFrom checked run
+ten-begins i g s e z =
+    let n : ℕ = frameRefusal (frameIn s) (lengthIn s) in
+    ap (run (ready i g)) (spelt 10 s (omega (arith, e)) ∙ ap (λ (k : List ℕ). first 10 s ++ k) (none (drop 10 s) (length-drop 10 s ∙ omega (arith, e))))
+    ∙ ten-run i g (getD s 0 0) (getD s 1 0) (getD s 2 0) (getD s 3 0) (getD s 4 0) (getD s 5 0) (getD s 6 0) (getD s 7 0) (getD s 8 0) (getD s 9 0) []
+    ∙ ap (λ (t : Bool). pick t (quiet (begun (ready i g) (frameIn s))) (over (ready i g) n) .clip) (eq-eqb n 0 z)
+
 first-brings : (b : ℕ) → told freshOf (b ∷ []) ≡ pick (eqb b 1) [] (record { event = Told 51; block = zeros } ∷ [])
 unfolding told stepOf versionStep
 first-brings b = brings (eqb b 1) (ready 0 (freshOf .frame)) freshOf 51
+
+first-taken : run freshOf (1 ∷ []) ≡ ready 0 (freshOf .frame)
+unfolding run stepOf versionStep
+first-taken = refl
 
 pub timely : Timely
 timely = record {
@@ -191,7 +204,9 @@ timely = record {
   next-frame = λ i j l f s e h. exactly-run i j l f s e ∙ past-last i j l f h;
   frame-not-earlier = λ i g s h. header-quiet i g s zeros 0 (omega arith);
   frame-told = ten-brings;
+  frame-begun = ten-begins;
   version-told = first-brings;
+  version-taken = first-taken;
 }
 
 -- ---- the end inside a frame
