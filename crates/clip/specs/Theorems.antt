@@ -1,5 +1,5 @@
--- 02, j: what is proved of the reader's rules. Theorems: proofs/Cut.antt, `one-feed`, `cut`, `fixed`, `for-good`; proofs/Timely.antt, `timely`;
--- proofs/ReadBack.antt, `ends`, `read-back`.
+-- 02, j: what is proved of the reader's rules. Theorems: proofs/Cut.antt, `one-feed`, `cut`, `fixed`; proofs/Timely.antt, `timely`;
+-- proofs/ForGood.antt, `for-good`; proofs/ReadBack.antt, `ends`, `read-back`.
 -- Assumes nothing.
 use Prim.Native.Nat.{ℕ, _+_, _-_, _%_, _^_, _≤_, _<_}
 use mathlib.Core.Path.{_≡_}
