@@ -4,44 +4,18 @@ use Prim.Native.Nat.{ℕ}
 use mathlib.Core.Path.{_≡_, refl, ap, _∙_}
 use mathlib.Core.Bool.{Bool, true, false}
 use mathlib.Core.List.{List, [], _∷_}
-use lib.Dec.{eqb, ltb}
-use lib.ListN.{set}
 use Rattle.laws.specs.Choice.{pick}
-use Rattle.clip_frame.specs.Frame.{lengthIn, frameIn, frameRefusal}
 use Rattle.clip.specs.declared.Phase.{Phase}
 use Rattle.clip.specs.declared.Phase.the-variants.{Version, Header, Blocks, Over}
 use Rattle.clip.specs.declared.Event.{Event}
-use Rattle.clip.specs.declared.Event.the-variants.{Nothing, Block, Told}
+use Rattle.clip.specs.declared.Event.the-variants.{Told}
 use Rattle.clip.specs.declared.Clip.{Clip}
-use Rattle.clip.specs.declared.Step.{Step}
 use Rattle.clip.specs.declared.Fed.{Fed}
-use Rattle.clip.specs.Step.{zeros, isHanded, entered, quiet, over, more, begun, checked, handed, versionStep, headerStep, blockStep, stepIn, stepOf}
+use Rattle.clip.specs.Step.{zeros, isHanded, stepOf}
 use Rattle.clip.specs.Feed.{fedBy, oneMore, goOn, feedIn, feedOf, finishNumber, finishOf}
 use Rattle.clip.specs.Theorems.{ForGood}
 use Rattle.clip.proofs.Cut.{run-over, told-over}
-
--- the phase that a number told leads to
-abbrev toldIn : Event → Phase → Phase
-toldIn Nothing q = q
-toldIn (Block i j) q = q
-toldIn (Told n) q = Over n
-
-abbrev Led : Clip → Event → Type 0
-Led c e = c .phase ≡ toldIn e (c .phase)
-
-led-by : (t : Bool) (a b : Step) → Led (a .clip) (a .event) → Led (b .clip) (b .event) → Led (pick t a b .clip) (pick t a b .event)
-led-by true a b h l = h
-led-by false a b h l = l
-
-step-led : (q : Phase) (c : Clip) (b : ℕ) → Led (stepIn q c b .clip) (stepIn q c b .event)
-unfolding versionStep headerStep blockStep checked
-step-led Version c b = led-by (eqb b 1) (quiet (entered c Header)) (over c 51) refl refl
-step-led Header c b =
-    let s : List ℕ = set (c .held) 9 b in
-    let n : ℕ = frameRefusal (frameIn s) (lengthIn s) in
-    led-by (ltb (c .have) 9) (more c b) (checked c s) refl (led-by (eqb n 0) (quiet (begun c (frameIn s))) (over c n) refl refl)
-step-led Blocks c b = led-by (ltb (c .have) 15) (more c b) (handed c (set (c .held) 15 b)) refl refl
-step-led (Over n) c b = refl
+use Rattle.clip.proofs.Timely.{toldIn, Led, step-led}
 
 fed-led : (t : Bool) (c : Clip) (b : ℕ) (g : Fed) → Led (g .clip) (g .event)
     → Led (pick t (fedBy (stepOf c b) 1) (oneMore g) .clip) (pick t (fedBy (stepOf c b) 1) (oneMore g) .event)

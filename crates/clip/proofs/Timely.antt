@@ -14,12 +14,14 @@ use Rattle.laws.specs.Table.{tabFrom, tab}
 use Rattle.laws.proofs.Filling.{length-tab, getD-tab}
 use Rattle.clip_frame.specs.declared.Frame.{Frame}
 use Rattle.clip_frame.specs.Frame.{blocksIn, lengthIn, frameIn, frameRefusal}
-use Rattle.clip.specs.declared.Phase.the-variants.{Header, Blocks}
+use Rattle.clip.specs.declared.Phase.{Phase}
+use Rattle.clip.specs.declared.Phase.the-variants.{Version, Header, Blocks, Over}
+use Rattle.clip.specs.declared.Event.{Event}
 use Rattle.clip.specs.declared.Event.the-variants.{Nothing, Block, Told}
 use Rattle.clip.specs.declared.Clip.{Clip}
 use Rattle.clip.specs.declared.Step.{Step}
-use Rattle.clip.specs.Step.{zeros, freshOf, quiet, over, begun, checked, versionStep, headerStep, blockStep, stepOf, past}
-use Rattle.clip.specs.Feed.{Handed, handedOut, run, told, finishOf}
+use Rattle.clip.specs.Step.{zeros, freshOf, entered, quiet, over, more, begun, checked, handed, versionStep, headerStep, blockStep, stepIn, stepOf, past}
+use Rattle.clip.specs.Feed.{handedOut, run, told, finishOf}
 use Rattle.clip.specs.Frames.{ready, waits, handedBlock}
 use Rattle.clip.specs.Theorems.{Timely}
 
@@ -220,3 +222,28 @@ end-in-header i g s p h =
 pub end-in-block : (i j l : ℕ) (f : Frame) (s : List ℕ) → length s < 16 → finishOf (run (waits i j l f) s) .number ≡ 53
 unfolding finishOf
 end-in-block i j l f s h = let r = block-stays i j l f s zeros 0 (omega arith) in rw r
+
+-- ---- where a told number leads
+
+-- the phase that a number told leads to
+abbrev pub toldIn : Event → Phase → Phase
+toldIn Nothing q = q
+toldIn (Block i j) q = q
+toldIn (Told n) q = Over n
+
+abbrev pub Led : Clip → Event → Type 0
+Led c e = c .phase ≡ toldIn e (c .phase)
+
+led-by : (t : Bool) (a b : Step) → Led (a .clip) (a .event) → Led (b .clip) (b .event) → Led (pick t a b .clip) (pick t a b .event)
+led-by true a b h l = h
+led-by false a b h l = l
+
+pub step-led : (q : Phase) (c : Clip) (b : ℕ) → Led (stepIn q c b .clip) (stepIn q c b .event)
+unfolding versionStep headerStep blockStep checked
+step-led Version c b = led-by (eqb b 1) (quiet (entered c Header)) (over c 51) refl refl
+step-led Header c b =
+    let s : List ℕ = set (c .held) 9 b in
+    let n : ℕ = frameRefusal (frameIn s) (lengthIn s) in
+    led-by (ltb (c .have) 9) (more c b) (checked c s) refl (led-by (eqb n 0) (quiet (begun c (frameIn s))) (over c n) refl refl)
+step-led Blocks c b = led-by (ltb (c .have) 15) (more c b) (handed c (set (c .held) 15 b)) refl refl
+step-led (Over n) c b = refl
