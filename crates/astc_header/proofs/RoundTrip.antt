@@ -19,7 +19,7 @@ use Rattle.image_size.proofs.Laws.{sized}
 use Rattle.astc_header.specs.declared.FileHeader.{FileHeader}
 use Rattle.astc_header.specs.declared.HeaderAnswer.the-variants.{Accepted}
 use Rattle.astc_header.specs.Header.{hasStart, footprintFor, sizeAt, headerIn, blocksIn, knownShape, headerRefusal, headerAnswer, fileBlocks, headerBytes, writtenHeader}
-use Rattle.astc_header.specs.Theorems.{ReadsBack, WrittenAgain}
+use Rattle.astc_header.specs.Theorems.{ReadsBack, AllReadBack, AllWrittenAgain}
 use Rattle.astc_header.proofs.Search.{footprint-back, found}
 use Rattle.laws.proofs.Computed.{both-true}
 use Rattle.astc_header.proofs.Refusals.{Formed, refused-none, answer-accepted, its-blocks, less, taken, passed}
@@ -55,9 +55,9 @@ module _ (h : FileHeader) (s : List ℕ) (z : sizeRefusal (h .footprint) (h .wid
   unfolding writtenHeader
   as-written = rw z
 
-  pub reads-back : length s ≡ 16 * blocksIn h → ReadsBack h s
+  header-read : length s ≡ 16 * blocksIn h → ReadsBack h s
   unfolding file
-  reads-back n =
+  header-read n =
       let none : 0 ≡ headerRefusal file = refused-none file form (rw says z) (over ∙ rw says n) in
       let b : List ℕ = writtenHeader (h .footprint) (h .width) (h .height) .bytes in
       let e : b ++ s ≡ file = ap (λ (l : List ℕ). l ++ s) (sym as-written) in
@@ -65,6 +65,9 @@ module _ (h : FileHeader) (s : List ℕ) (z : sizeRefusal (h .footprint) (h .wid
         header-back = ap headerAnswer e ∙ sym (answer-accepted file (sym none)) ∙ ap Accepted says;
         blocks-back = ap fileBlocks e ∙ sym (its-blocks file (sym none));
       }
+
+pub reads-back : AllReadBack
+reads-back = header-read
 
 -- ---- read, then written
 
@@ -120,7 +123,7 @@ again s bytes f =
     ∙ rw (eqb-true (getD s 0 0) 19 (a0 .0), eqb-true (getD s 1 0) 171 (a1 .0), eqb-true (getD s 2 0) 161 (a2 .0), eqb-true (getD s 3 0) 92 (a2 .1), eqb-true (getD s 6 0) 1 (k1 .0), t .0, t .1, t .2)
     (spelt s fp (w .0) (w .1) bytes))
 
-pub written-again : (s : List ℕ) (h : FileHeader) → ((k : ℕ) → getD s k 0 < 256) → headerAnswer s ≡ Accepted h → WrittenAgain s h
+pub written-again : AllWrittenAgain
 unfolding writtenHeader
 written-again s h bytes q =
     let p = passed s h q in

@@ -19,7 +19,7 @@ use Rattle.astc_header.specs.declared.WrittenHeader.{WrittenHeader}
 
 -- "must begin with the bytes 13 AB A1 5C"
 abbrev pub startBytes : List ℕ
-startBytes = 19 ∷ 171 ∷ 161 ∷ 92 ∷ []
+startBytes = 0x13 ∷ 0xAB ∷ 0xA1 ∷ 0x5C ∷ []
 
 -- two lists begin with the same four numbers
 abbrev pub sameFour : List ℕ → List ℕ → Bool

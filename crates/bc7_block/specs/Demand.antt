@@ -26,8 +26,8 @@ pub record Demand3 : Type 0 where
   -- and shows its picture, at every texel and in every channel
   pub written-shows : (s : Bc7Block) → Sized s → Acceptable s → (i c : ℕ) → blockTexel (blockOf s) i c ≡ pictureOf s i c
   -- a block without fault reads as one that is acceptable,
-  pub read-is-sized : (B : ℕ) → faultOf B ≡ 0 → Sized (readBlock B)
-  pub read-is-acceptable : (B : ℕ) → faultOf B ≡ 0 → Acceptable (readBlock B)
+  pub read-sized : (B : ℕ) → faultOf B ≡ 0 → Sized (readBlock B)
+  pub read-acceptable : (B : ℕ) → faultOf B ≡ 0 → Acceptable (readBlock B)
   pub reads-as : (B : ℕ) → faultOf B ≡ 0 → ReadsAs B (readBlock B)
   -- and as no other
   pub reads-as-one : (B : ℕ) (s : Bc7Block) → faultOf B ≡ 0 → Sized s → ReadsAs B s → s ≡ readBlock B

@@ -14,6 +14,7 @@ use Rattle.bits.specs.Field.{field}
 use Rattle.bc7_layout.specs.Modes.{subsets, partitionBits, rotationBits, selectionBits, colourBits, alphaBits, indexBits, secondaryBits, pBits}
 use Rattle.bc7_layout.specs.Partitions.{subsetOf, anchorOf}
 use Rattle.bc7_layout.specs.Layout.{endpointWidth, pBitWidth, primaryWidth, secondaryWidth, fieldWidth, placeOf, lowestOne}
+use Rattle.bc7_layout.specs.Tables.{TablesSound}
 
 -- ---- the fields of a mode end at bit 128, in each of its partitions
 
@@ -163,3 +164,13 @@ mark-mode m b h l e =
     (or-right (not (eqb (b % 2 ^ (m + 1)) (2 ^ m))) (eqb (lowestOne 8 b) m)
     (each (λ c. either (not (eqb (c % 2 ^ (m + 1)) (2 ^ m))) (eqb (lowestOne 8 c) m)) 256 (each single 8 all-single m h) b l)
     (rw (eq-eqb (b % 2 ^ (m + 1)) (2 ^ m) e)))
+
+pub tables-sound : TablesSound
+tables-sound = record {
+  filled = filled-block;
+  divided = subset-lt;
+  anchored = anchor-within;
+  known = mode-lt;
+  marked = mode-mark;
+  single = mark-mode;
+}

@@ -1,4 +1,4 @@
--- 004, Table 13.3: the eight modes as one table of widths. A field that a mode does not have has no bits.
+-- 004, Tables 13.3 and 13.4: the eight modes as one table of widths. A field that a mode does not have has no bits.
 -- Assumes nothing.
 use Prim.Native.Nat.{ℕ, _+_, _*_}
 use mathlib.Core.List.{List, [], _∷_}

@@ -182,7 +182,7 @@ module _ (block : List ℕ) (h : Sound block) where
 
   again : writingOf (readBlock (numberOf block)) .bytes ≡ block
   again =
-      bytes-are (readBlock (numberOf block)) (demand-3 .read-is-sized (numberOf block) (h .no-fault)) (demand-3 .read-is-acceptable (numberOf block) (h .no-fault))
+      bytes-are (readBlock (numberOf block)) (demand-3 .read-sized (numberOf block) (h .no-fault)) (demand-3 .read-acceptable (numberOf block) (h .no-fault))
       ∙ ap (bytesOf 16) (demand-3 .rewritten-same (numberOf block) small (h .no-fault))
       ∙ ap (λ (n : ℕ). bytesOf n (numberOf block)) (sym (h .sixteen)) ∙ bytes-number block b
 
@@ -191,8 +191,8 @@ module _ (block : List ℕ) (h : Sound block) where
     read = refl;
     reads-as = demand-3 .reads-as (numberOf block) (h .no-fault);
     reads-as-one = λ s y r. demand-3 .reads-as-one (numberOf block) s (h .no-fault) y r;
-    acceptable = demand-3 .read-is-acceptable (numberOf block) (h .no-fault);
-    written = accepted-answer (readBlock (numberOf block)) (demand-3 .read-is-acceptable (numberOf block) (h .no-fault));
+    acceptable = demand-3 .read-acceptable (numberOf block) (h .no-fault);
+    written = accepted-answer (readBlock (numberOf block)) (demand-3 .read-acceptable (numberOf block) (h .no-fault));
     same-bytes = again;
   }
 

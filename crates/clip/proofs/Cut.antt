@@ -15,9 +15,9 @@ use Rattle.clip.specs.declared.Event.the-variants.{Nothing, Told}
 use Rattle.clip.specs.declared.Clip.{Clip}
 use Rattle.clip.specs.declared.Fed.{Fed}
 use Rattle.clip.specs.Step.{zeros, isHanded, stepIn, stepOf}
-use Rattle.clip.specs.Feed.{Handed, handedOut, run, told, usedUp, fedBy, oneMore, goOn, feedIn, feedOf, finishNumber, finishOf}
+use Rattle.clip.specs.Feed.{Handed, handedOut, run, told, usedUp, fedBy, oneMore, goOn, feedIn, feedOf}
 use Rattle.clip.specs.Pieces.{isOverIn, isOver, endBy, takenBy, outBy, Reading, after, pieceRead, piecesRead, joined}
-use Rattle.clip.specs.Theorems.{OneFeed, Cut, Fixed, ForGood}
+use Rattle.clip.specs.Theorems.{OneFeed, Cut, Fixed}
 
 -- lists
 nothing-after : {A : Type 0} (l : List A) → l ++ [] ≡ l
@@ -56,6 +56,20 @@ record Fair (c : Clip) (s : List ℕ) (f : Fed) : Type 0 where
   within : f .taken ≤ length s
   stops : isHanded (f .event) ≡ false → f .taken ≡ length s
   moves : isHanded (f .event) ≡ true → 0 < f .taken
+  not-before : (n : ℕ) → n < f .taken → told c (take n s) ≡ []
+
+-- fewer bytes than one, and fewer than one more
+none-before : (c : Clip) (b : ℕ) (s : List ℕ) (n : ℕ) → n < 1 → told c (take n (b ∷ s)) ≡ []
+unfolding told
+none-before c b s zero h = refl
+none-before c b s (suc n) h = absurd (omega (arith, h))
+
+more-before : (c : Clip) (b : ℕ) (s : List ℕ) (m : ℕ) → isHanded (stepOf c b .event) ≡ false
+    → ((n : ℕ) → n < m → told (stepOf c b .clip) (take n s) ≡ []) → (n : ℕ) → n < suc m → told c (take n (b ∷ s)) ≡ []
+unfolding told
+more-before c b s m e w zero h = refl
+more-before c b s m e w (suc n) h =
+    ap (λ q. pick q (record { event = stepOf c b .event; block = stepOf c b .block } ∷ []) [] ++ told (stepOf c b .clip) (take n s)) e ∙ w n (omega (arith, h))
 
 fair-step : (c : Clip) (b : ℕ) (s : List ℕ) (g : Fed) (t : Bool) → isHanded (stepOf c b .event) ≡ t → Fair (stepOf c b .clip) s g
     → Fair c (b ∷ s) (pick t (fedBy (stepOf c b) 1) (oneMore g))
@@ -66,6 +80,7 @@ fair-step c b s g true e w = record {
   within = omega arith;
   stops = λ h. absurd (true≢false (sym e ∙ h));
   moves = λ h. omega arith;
+  not-before = none-before c b s;
 }
 fair-step c b s g false e w = record {
   state = w .state;
@@ -73,11 +88,19 @@ fair-step c b s g false e w = record {
   within = let h = w .within in omega arith;
   stops = λ h. ap suc (w .stops h);
   moves = λ h. omega arith;
+  not-before = more-before c b s (g .taken) e (w .not-before);
 }
 
 fair-none : (c : Clip) → Fair c [] (usedUp c 0)
 unfolding run told
-fair-none c = record { state = refl; out = refl; within = omega arith; stops = λ h. refl; moves = λ h. absurd (true≢false (sym h)) }
+fair-none c = record {
+  state = refl;
+  out = refl;
+  within = omega arith;
+  stops = λ h. refl;
+  moves = λ h. absurd (true≢false (sym h));
+  not-before = λ n h. absurd (omega (arith, h));
+}
 
 fair : (c : Clip) (s : List ℕ) → Fair c s (goOn c s)
 unfolding goOn
@@ -92,6 +115,7 @@ taking q c p e n = let w = fair c p in record {
   within = w .within;
   stops = w .stops;
   moves = λ o h. w .moves h;
+  not-before = w .not-before;
 }
 
 fed-in : (q : Phase) (c : Clip) (p : List ℕ) → c .phase ≡ q → OneFeed c p (feedIn q c p)
@@ -105,6 +129,7 @@ fed-in (Over n) c p e = record {
   within = omega arith;
   stops = λ h. absurd (true≢false h);
   moves = λ o h. absurd (true≢false (sym (ap isOverIn e) ∙ o));
+  not-before = λ k h. absurd (omega (arith, h));
 }
 
 pub one-feed : (c : Clip) (p : List ℕ) → OneFeed c p (feedOf c p)
@@ -140,33 +165,18 @@ quiet-in Header c b e = absurd (true≢false (sym e))
 quiet-in Blocks c b e = absurd (true≢false (sym e))
 quiet-in (Over n) c b e = (refl, refl)
 
-run-over : (c : Clip) (s : List ℕ) → isOver c ≡ true → run c s ≡ c
+pub run-over : (c : Clip) (s : List ℕ) → isOver c ≡ true → run c s ≡ c
 unfolding run stepOf
 run-over c [] e = refl
 run-over c (b ∷ s) e = let q = quiet-in (c .phase) c b e .0 in ap (λ (k : Clip). run k s) q ∙ run-over c s e
 
-told-over : (c : Clip) (s : List ℕ) → isOver c ≡ true → told c s ≡ []
+pub told-over : (c : Clip) (s : List ℕ) → isOver c ≡ true → told c s ≡ []
 unfolding told stepOf
 told-over c [] e = refl
 told-over c (b ∷ s) e =
     let q = quiet-in (c .phase) c b e in
     ap (λ (v : Event). handedOut v (stepOf c b .block) ++ told (stepOf c b .clip) s) (q .1)
     ∙ ap (λ (k : Clip). told k s) (q .0) ∙ told-over c s e
-
-fed-again : (c : Clip) (n : ℕ) (s : List ℕ) → c .phase ≡ Over n → feedOf c s ≡ record { clip = c; taken = 0; event = Told n; block = zeros }
-unfolding feedOf
-fed-again c n s e = ap (λ (q : Phase). feedIn q c s) e
-
-finished-again : (c : Clip) (n : ℕ) → c .phase ≡ Over n → finishOf c .number ≡ n
-unfolding finishOf
-finished-again c n e = ap (λ (q : Phase). finishNumber q (c .have)) e
-
-finished : (c : Clip) → finishOf c .clip .phase ≡ Over (finishOf c .number)
-unfolding finishOf
-finished c = refl
-
-pub for-good : ForGood
-for-good = record { run-over = run-over; told-over = told-over; fed-again = fed-again; finished-again = finished-again; finished = finished }
 
 -- ---- the caller's loop
 

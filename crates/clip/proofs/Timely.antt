@@ -1,6 +1,6 @@
 -- 02, j: what the bytes bring, and when: nothing is handed out early and nothing late.
 -- Assumes nothing.
-use Prim.Native.Nat.{ℕ, zero, suc, _+_, _%_, _^_, _≤_, _<_}
+use Prim.Native.Nat.{ℕ, zero, suc, _+_, _-_, _%_, _^_, _≤_, _<_}
 use native.Mathlib.Omega.{arith}
 use mathlib.Core.Path.{_≡_, refl, sym, ap, _∙_}
 use mathlib.Core.Bool.{Bool, true, false}
@@ -8,18 +8,20 @@ use mathlib.Core.List.{List, [], _∷_, _++_}
 use lib.Dec.{eqb, ltb}
 use lib.ListN.{length, getD, set, take, drop, take-append-drop, length-take, length-drop}
 use lib.Seq.{getD-take, ext-getD}
-use borrow.Author.Tests.{ne-eqb, lt-ltb, le-ltb}
+use borrow.Author.Tests.{eq-eqb, ne-eqb, lt-ltb, le-ltb}
 use Rattle.laws.specs.Choice.{pick}
 use Rattle.laws.specs.Table.{tabFrom, tab}
 use Rattle.laws.proofs.Filling.{length-tab, getD-tab}
 use Rattle.clip_frame.specs.declared.Frame.{Frame}
-use Rattle.clip_frame.specs.Frame.{lengthIn, frameIn, frameRefusal}
-use Rattle.clip.specs.declared.Phase.the-variants.{Header, Blocks}
+use Rattle.clip_frame.specs.Frame.{blocksIn, lengthIn, frameIn, frameRefusal}
+use Rattle.clip.specs.declared.Phase.{Phase}
+use Rattle.clip.specs.declared.Phase.the-variants.{Version, Header, Blocks, Over}
+use Rattle.clip.specs.declared.Event.{Event}
 use Rattle.clip.specs.declared.Event.the-variants.{Nothing, Block, Told}
 use Rattle.clip.specs.declared.Clip.{Clip}
 use Rattle.clip.specs.declared.Step.{Step}
-use Rattle.clip.specs.Step.{zeros, freshOf, quiet, over, begun, checked, versionStep, headerStep, blockStep, stepOf, past}
-use Rattle.clip.specs.Feed.{Handed, handedOut, run, told, finishOf}
+use Rattle.clip.specs.Step.{zeros, freshOf, entered, quiet, over, more, begun, checked, handed, versionStep, headerStep, blockStep, stepIn, stepOf, past}
+use Rattle.clip.specs.Feed.{handedOut, run, told, finishOf}
 use Rattle.clip.specs.Frames.{ready, waits, handedBlock}
 use Rattle.clip.specs.Theorems.{Timely}
 
@@ -179,9 +181,22 @@ ten-brings i g s e =
     ∙ ten-told i g (getD s 0 0) (getD s 1 0) (getD s 2 0) (getD s 3 0) (getD s 4 0) (getD s 5 0) (getD s 6 0) (getD s 7 0) (getD s 8 0) (getD s 9 0) []
     ∙ brings (eqb n 0) (begun (ready i g) (frameIn s)) (ready i g) n
 
+ten-begins : (i : ℕ) (g : Frame) (s : List ℕ) → length s ≡ 10 → frameRefusal (frameIn s) (lengthIn s) ≡ 0
+    → run (ready i g) s ≡ waits i 0 (blocksIn (frameIn s) - 1) (frameIn s)
+unfolding first tab tabFrom checked run
+ten-begins i g s e z =
+    let n : ℕ = frameRefusal (frameIn s) (lengthIn s) in
+    ap (run (ready i g)) (spelt 10 s (omega (arith, e)) ∙ ap (λ (k : List ℕ). first 10 s ++ k) (none (drop 10 s) (length-drop 10 s ∙ omega (arith, e))))
+    ∙ ten-run i g (getD s 0 0) (getD s 1 0) (getD s 2 0) (getD s 3 0) (getD s 4 0) (getD s 5 0) (getD s 6 0) (getD s 7 0) (getD s 8 0) (getD s 9 0) []
+    ∙ ap (λ (t : Bool). pick t (quiet (begun (ready i g) (frameIn s))) (over (ready i g) n) .clip) (eq-eqb n 0 z)
+
 first-brings : (b : ℕ) → told freshOf (b ∷ []) ≡ pick (eqb b 1) [] (record { event = Told 51; block = zeros } ∷ [])
 unfolding told stepOf versionStep
 first-brings b = brings (eqb b 1) (ready 0 (freshOf .frame)) freshOf 51
+
+first-taken : run freshOf (1 ∷ []) ≡ ready 0 (freshOf .frame)
+unfolding run stepOf versionStep
+first-taken = refl
 
 pub timely : Timely
 timely = record {
@@ -191,7 +206,9 @@ timely = record {
   next-frame = λ i j l f s e h. exactly-run i j l f s e ∙ past-last i j l f h;
   frame-not-earlier = λ i g s h. header-quiet i g s zeros 0 (omega arith);
   frame-told = ten-brings;
+  frame-begun = ten-begins;
   version-told = first-brings;
+  version-taken = first-taken;
 }
 
 -- ---- the end inside a frame
@@ -205,3 +222,28 @@ end-in-header i g s p h =
 pub end-in-block : (i j l : ℕ) (f : Frame) (s : List ℕ) → length s < 16 → finishOf (run (waits i j l f) s) .number ≡ 53
 unfolding finishOf
 end-in-block i j l f s h = let r = block-stays i j l f s zeros 0 (omega arith) in rw r
+
+-- ---- where a told number leads
+
+-- the phase that a number told leads to
+abbrev pub toldIn : Event → Phase → Phase
+toldIn Nothing q = q
+toldIn (Block i j) q = q
+toldIn (Told n) q = Over n
+
+abbrev pub Led : Clip → Event → Type 0
+Led c e = c .phase ≡ toldIn e (c .phase)
+
+led-by : (t : Bool) (a b : Step) → Led (a .clip) (a .event) → Led (b .clip) (b .event) → Led (pick t a b .clip) (pick t a b .event)
+led-by true a b h l = h
+led-by false a b h l = l
+
+pub step-led : (q : Phase) (c : Clip) (b : ℕ) → Led (stepIn q c b .clip) (stepIn q c b .event)
+unfolding versionStep headerStep blockStep checked
+step-led Version c b = led-by (eqb b 1) (quiet (entered c Header)) (over c 51) refl refl
+step-led Header c b =
+    let s : List ℕ = set (c .held) 9 b in
+    let n : ℕ = frameRefusal (frameIn s) (lengthIn s) in
+    led-by (ltb (c .have) 9) (more c b) (checked c s) refl (led-by (eqb n 0) (quiet (begun c (frameIn s))) (over c n) refl refl)
+step-led Blocks c b = led-by (ltb (c .have) 15) (more c b) (handed c (set (c .held) 15 b)) refl refl
+step-led (Over n) c b = refl

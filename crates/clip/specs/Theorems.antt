@@ -1,7 +1,7 @@
--- 02, j: what is proved of the reader's rules. Theorems: proofs/Cut.antt, `one-feed`, `cut`, `fixed`, `for-good`; proofs/Timely.antt, `timely`;
--- proofs/ReadBack.antt, `ends`, `read-back`.
+-- 02, j: what is proved of the reader's rules. Theorems: proofs/Cut.antt, `one-feed`, `cut`, `fixed`; proofs/Timely.antt, `timely`;
+-- proofs/ForGood.antt, `for-good`; proofs/ReadBack.antt, `ends`, `read-back`.
 -- Assumes nothing.
-use Prim.Native.Nat.{ℕ, _+_, _%_, _^_, _≤_, _<_}
+use Prim.Native.Nat.{ℕ, _+_, _-_, _%_, _^_, _≤_, _<_}
 use mathlib.Core.Path.{_≡_}
 use mathlib.Core.Bool.{true, false}
 use mathlib.Core.List.{List, [], _∷_, _++_}
@@ -28,6 +28,8 @@ pub record OneFeed (c : Clip) (p : List ℕ) (f : Fed) : Type 0 where
   -- it stops before the piece's end only where something is handed out, and hands out nothing without taking a byte
   pub stops : isHanded (f .event) ≡ false → f .taken ≡ length p
   pub moves : isOver c ≡ false → isHanded (f .event) ≡ true → 0 < f .taken
+  -- "stops at the byte that completes a block or a refusal": fewer bytes than it took hand out nothing
+  pub not-before : (n : ℕ) → n < f .taken → told c (take n p) ≡ []
 
 -- "Cut anywhere after a fresh start, empty pieces included, the blocks, refusal and end state are the same"
 pub record Cut : Type 0 where
@@ -57,8 +59,13 @@ pub record Timely : Type 0 where
   pub frame-told : (i : ℕ) (g : Frame) (s : List ℕ) → length s ≡ 10
       → told (ready i g) s
       ≡ pick (eqb (frameRefusal (frameIn s) (lengthIn s)) 0) [] (record { event = Told (frameRefusal (frameIn s) (lengthIn s)); block = zeros } ∷ [])
+  -- a frame that is not refused: the reader waits for its first block
+  pub frame-begun : (i : ℕ) (g : Frame) (s : List ℕ) → length s ≡ 10 → frameRefusal (frameIn s) (lengthIn s) ≡ 0
+      → run (ready i g) s ≡ waits i 0 (blocksIn (frameIn s) - 1) (frameIn s)
   -- "51 other version, told at the first byte"
   pub version-told : (b : ℕ) → told freshOf (b ∷ []) ≡ pick (eqb b 1) [] (record { event = Told 51; block = zeros } ∷ [])
+  -- after "one version byte, 1" it waits for frame 0
+  pub version-taken : run freshOf (1 ∷ []) ≡ ready 0 (freshOf .frame)
 
 -- "After a refusal the reader takes nothing more until a fresh start and repeats that number"; after the end "nothing is taken until a fresh
 -- start, and the same number is repeated"
@@ -66,7 +73,9 @@ pub record ForGood : Type 0 where
   -- bytes that come then change nothing and bring nothing
   pub run-over : (c : Clip) (s : List ℕ) → isOver c ≡ true → run c s ≡ c
   pub told-over : (c : Clip) (s : List ℕ) → isOver c ≡ true → told c s ≡ []
-  -- any feed, an empty one too, and finishing repeat the number
+  -- a feed that tells a number has come to this,
+  pub refused : (c : Clip) (s : List ℕ) (n : ℕ) → feedOf c s .event ≡ Told n → feedOf c s .clip .phase ≡ Over n
+  -- and any feed after it, an empty one too, and finishing repeat the number
   pub fed-again : (c : Clip) (n : ℕ) (s : List ℕ) → c .phase ≡ Over n → feedOf c s ≡ record { clip = c; taken = 0; event = Told n; block = zeros }
   pub finished-again : (c : Clip) (n : ℕ) → c .phase ≡ Over n → finishOf c .number ≡ n
   -- finishing is such an end

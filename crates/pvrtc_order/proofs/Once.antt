@@ -6,7 +6,7 @@ use native.Mathlib.Nat.{pow-suc, add-zero, add-suc, zero-add, suc-add}
 use native.Mathlib.Omega.{arith}
 use lib.Pow.{pow-pos, pow-add}
 use Rattle.pvrtc_order.specs.Order.{wordPlace, columnOf, rowOf}
-use Rattle.pvrtc_order.specs.Once.{Once}
+use Rattle.pvrtc_order.specs.Once.{Once, Place54}
 
 double : (k : ℕ) → 2 ^ suc k ≡ 2 ^ k * 2
 double k = pow-suc 2 k
@@ -89,7 +89,6 @@ once a b = record {
   by-one = λ n X Y h l e. (sym (column-place a b X Y h l) ∙ ap (columnOf a b) e, sym (row-place a b X Y h l) ∙ ap (rowOf a b) e);
 }
 
--- "Word place for X = 13, Y = 2 in 64 by 16 texels is 54": sixteen words wide and four high
-pub sample : wordPlace 4 2 13 2 ≡ 54
+pub place-54 : Place54
 unfolding wordPlace
-sample = refl
+place-54 = refl

@@ -20,7 +20,7 @@ use Rattle.pvrtc_order.specs.Order.{wordPlace}
 use Rattle.pvrtc_order.proofs.Once.{once}
 use Rattle.pvrtc_texel.specs.Texel.{texelAt}
 use Rattle.pvrtc_texel.specs.Image.{wordAtPlace, wordAt, imageTexel}
-use Rattle.pvrtc_texel.specs.Counting.{countingAlong, placesIn, countingWords, Counts, Exact}
+use Rattle.pvrtc_texel.specs.Counting.{countingAlong, placesIn, countingWords, Counts, ExactEverywhere}
 use Rattle.pvrtc_texel.proofs.Local.{along-lt, counting-length, texel-same, in-places, places-length, Listed, listed}
 use Rattle.pvrtc_texel.proofs.Each.{lit, some-red, no-red}
 
@@ -107,7 +107,7 @@ module _ (a b x y : ℕ) (hx : x < 4 * 2 ^ a) (hy : y < 4 * 2 ^ b) where
         omega (arith, none, some, e, texel-of (λ q. eqb q p));
   }
 
-pub exact : (a b x y : ℕ) → x < 4 * 2 ^ a → y < 4 * 2 ^ b → Exact a b x y
+pub exact : ExactEverywhere
 unfolding countingWords imageTexel wordAt
 exact a b x y hx hy = record {
   at-most-four =

@@ -5,11 +5,12 @@ use mathlib.Core.Bool.{Bool, true, false, not}
 use Prim.Native.Nat.{ℕ, zero, suc, _+_, _-_, _*_, _/_, _%_, _^_, _≤_, _<_}
 use native.Mathlib.Nat.{mod-eq-of-lt, mul-le-mul}
 use native.Mathlib.Omega.{arith}
-use lib.Dec.{eqb, ltb}
+use lib.Dec.{T, eqb, ltb}
 use lib.Pow.{pow-mono}
 use borrow.Author.Tests.{eqb-true, eqb-false, eq-eqb, ne-eqb, ltb-false, le-ltb, lt-ltb}
-use Rattle.laws.specs.Choice.{pick, either}
-use Rattle.pvrtc_texel.specs.Image.{bitsFrom, sideBits, badPvrtcSide, wordsIn, imageRefusals, imageRefusal}
+use Rattle.laws.specs.Choice.{pick, either, all}
+use Rattle.laws.proofs.Computed.{each}
+use Rattle.pvrtc_texel.specs.Image.{bitsFrom, sideBits, badPvrtcSide, SidesTaken, wordsIn, imageRefusals, imageRefusal}
 
 pub shift-exact : (k : ℕ) → k < 11 → 4 * 2 ^ k % 2 ^ 32 ≡ 4 * 2 ^ k
 shift-exact k h = let l : 2 ^ k ≤ 2 ^ 10 = pow-mono {j = 10} (omega arith) in mod-eq-of-lt (omega arith)
@@ -49,6 +50,21 @@ module _ (side : ℕ) (h : badPvrtcSide side ≡ false) where
 
   pub side-most : side ≤ 4096
   side-most = rw side-is (omega (arith, pow-mono {j = 10} bits-most))
+
+-- each of the eleven has bits
+eleven : T (all (λ k. not (badPvrtcSide (4 * 2 ^ k))) 11)
+unfolding badPvrtcSide
+eleven = tt
+
+not-bad : (t : Bool) → T (not t) → t ≡ false
+not-bad true h = absurd h
+not-bad false h = refl
+
+pub sides-taken : SidesTaken
+sides-taken = record {
+  taken = λ k h. not-bad (badPvrtcSide (4 * 2 ^ k)) (each (λ n. not (badPvrtcSide (4 * 2 ^ n))) 11 eleven k (omega arith));
+  only = λ side h. (bits-most side h, side-is side h);
+}
 
 -- what a product of two sides reaches
 pub product-most : (most : ℕ) {a b : ℕ} → a ≤ most → b ≤ most → a * b ≤ most * most

@@ -42,7 +42,7 @@ pub record Counts (a b x y p : ℕ) : Type 0 where
   pub elsewhere : (q : ℕ) → q < 2 ^ a * 2 ^ b → (q ≡ p → ⊥) → wordAtPlace one q ≡ wordAtPlace other q
   pub differ : imageTexel a b one x y 0 ≡ imageTexel a b other x y 0 → ⊥
 
--- the list is exact, at every texel of the image: x < 4 * 2 ^ a, y < 4 * 2 ^ b
+-- the list is exact for texel (x, y)
 pub record Exact (a b x y : ℕ) : Type 0 where
   pub at-most-four : length (countingWords a b x y) ≤ 4
   -- each listed place is that of a word of the image,
@@ -52,3 +52,7 @@ pub record Exact (a b x y : ℕ) : Type 0 where
       → (c : ℕ) → imageTexel a b s x y c ≡ imageTexel a b t x y c
   -- and each listed word counts
   pub each : (p : ℕ) → List·Memᴰ p (countingWords a b x y) → Counts a b x y p
+
+-- of images of all sides, at every texel
+abbrev pub ExactEverywhere : Type 0
+ExactEverywhere = (a b x y : ℕ) → x < 4 * 2 ^ a → y < 4 * 2 ^ b → Exact a b x y

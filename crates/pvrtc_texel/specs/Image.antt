@@ -1,7 +1,8 @@
 -- 02, k: an image from its bytes, and what a call refuses.
 -- Assumes nothing.
-use Prim.Native.Nat.{ℕ, zero, suc, _*_, _/_, _%_, _^_}
-use mathlib.Core.Bool.{Bool, not}
+use Prim.Native.Nat.{ℕ, zero, suc, _*_, _/_, _%_, _^_, _≤_}
+use mathlib.Core.Path.{_≡_}
+use mathlib.Core.Bool.{Bool, false, not}
 use mathlib.Core.List.{List, [], _∷_}
 use lib.Dec.{eqb, ltb}
 use lib.ListN.{length, take, drop}
@@ -26,6 +27,11 @@ sideBits side = bitsFrom side 0 11
 unfoldable pub badPvrtcSide : ℕ → Bool
 unfolding sideBits
 badPvrtcSide side = ltb 10 (sideBits side)
+
+-- the sides that are not refused are these eleven, and sideBits is their log2 less 2 (theorem: proofs/Sides.antt, `sides-taken`)
+pub record SidesTaken : Type 0 where
+  pub taken : (k : ℕ) → k ≤ 10 → badPvrtcSide (4 * 2 ^ k) ≡ false
+  pub only : (side : ℕ) → badPvrtcSide side ≡ false → (sideBits side ≤ 10) × (side ≡ 4 * 2 ^ sideBits side)
 
 -- how many words an image has
 unfoldable pub wordsIn : ℕ → ℕ → ℕ

@@ -1,5 +1,5 @@
 -- 02, h: texels (R, G, B, A in kind 0) and faults of volume blocks, what the definitions compute and what a decoder written from 000 gives: several
--- partitions with z at 3x3x3 and 4x4x4, two planes, every simplex order, solid blocks, and each fault.
+-- partitions with z at 3x3x3 and 4x4x4, two planes, every simplex order, solid blocks, and each fault. Theorem: proofs/Volumes.antt, `volumes-hold`.
 -- Assumes nothing.
 use mathlib.Core.Bool.{false}
 use mathlib.Core.List.{List, [], _∷_, map}

@@ -1,4 +1,4 @@
--- What the calls for C tell of sizes.
+-- Beyond 01: what the calls for C tell of sizes.
 -- Assumes nothing.
 use Prim.Native.Nat.{ℕ, _*_}
 use lib.Dec.{eqb}

@@ -20,7 +20,8 @@ pub extern "C" fn stallbrook_astc_read_symbolic(
     symbolic_numbers::read_numbers(footprint, block, numbers, spare)
 }
 
-// The block of a symbolic block: 0, the refusal with zeros in `block`, or 1, 4 or 5 with `block` as it was where a length is wrong.
+// The block of a symbolic block: 0, or the refusal with zeros in `block`, also 5 where `numbers` is not of 107; 1 or else 4 with `block` as it was
+// where it is not of sixteen bytes.
 #[no_mangle]
 pub extern "C" fn stallbrook_astc_write_symbolic(
     footprint: u8,

@@ -14,7 +14,7 @@ ghost use Rattle.volume_numbers.specs.Calls.{volumeNumberIn, volumeShownIn, tal
 ghost use Rattle.strict_reader.specs.Sheets.{sheetIn};
 ghost use Rattle.symbolic_numbers.specs.Calls.{putNumber, putNumbers, putSpare};
 ghost use Rattle.canonical_image.specs.Frames.{oneAnswer, oneOut, canonicalRefusal};
-ghost use Rattle.stallbrook_strict.specs.Frames.{frameNumber, frameShown, frameTally};
+ghost use Rattle.stallbrook_strict.specs.Canonical.{canonicalNumber, canonicalShown, canonicalTally};
 
 // ---- one block: the fault's number, 21 too, the refusal's with `out` as it was, or 0
 
@@ -299,9 +299,9 @@ pub extern "C" fn stallbrook_astc_canonical_image(
     out: &mut [u8],
     tally: &mut [u64],
 ) -> u8
-    ensures { λ r. ⌜ r ≡ frameNumber footprint width height (now (blocks .entry)) (length (now (out .entry))) (length (now (tally .entry))) ⌝ }
-    ensures { λ r. ⌜ now (out .exit) ≡ frameShown footprint width height (now (blocks .entry)) (now (out .entry)) (length (now (tally .entry))) ⌝ }
-    ensures { λ r. ⌜ now (tally .exit) ≡ frameTally footprint width height (now (blocks .entry)) (length (now (out .entry))) (now (tally .entry)) ⌝ }
+    ensures { λ r. ⌜ r ≡ canonicalNumber footprint width height (now (blocks .entry)) (length (now (out .entry))) (length (now (tally .entry))) ⌝ }
+    ensures { λ r. ⌜ now (out .exit) ≡ canonicalShown footprint width height (now (blocks .entry)) (now (out .entry)) (length (now (tally .entry))) ⌝ }
+    ensures { λ r. ⌜ now (tally .exit) ≡ canonicalTally footprint width height (now (blocks .entry)) (length (now (out .entry))) (now (tally .entry)) ⌝ }
 {
     if tally.len() != 3 {
         return refusal_or_5(footprint, width, height, blocks.len(), out.len());
@@ -320,9 +320,9 @@ pub extern "C" fn stallbrook_astc_canonical_in_place(
     blocks: &mut [u8],
     tally: &mut [u64],
 ) -> u8
-    ensures { λ r. ⌜ r ≡ frameNumber footprint width height (now (blocks .entry)) (length (now (blocks .entry))) (length (now (tally .entry))) ⌝ }
-    ensures { λ r. ⌜ now (blocks .exit) ≡ frameShown footprint width height (now (blocks .entry)) (now (blocks .entry)) (length (now (tally .entry))) ⌝ }
-    ensures { λ r. ⌜ now (tally .exit) ≡ frameTally footprint width height (now (blocks .entry)) (length (now (blocks .entry))) (now (tally .entry)) ⌝ }
+    ensures { λ r. ⌜ r ≡ canonicalNumber footprint width height (now (blocks .entry)) (length (now (blocks .entry))) (length (now (tally .entry))) ⌝ }
+    ensures { λ r. ⌜ now (blocks .exit) ≡ canonicalShown footprint width height (now (blocks .entry)) (now (blocks .entry)) (length (now (tally .entry))) ⌝ }
+    ensures { λ r. ⌜ now (tally .exit) ≡ canonicalTally footprint width height (now (blocks .entry)) (length (now (blocks .entry))) (now (tally .entry)) ⌝ }
 {
     if tally.len() != 3 {
         return refusal_or_5(footprint, width, height, blocks.len(), blocks.len());
