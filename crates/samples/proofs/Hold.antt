@@ -1,7 +1,6 @@
 -- 01: "The P samples form one table, proved against the definitions by a single statement."
 -- Assumes nothing.
-use mathlib.Core.Path.{_≡_, refl}
-use mathlib.Core.List.{map}
+use mathlib.Core.Path.{refl}
 use lib.Count.{leadingZeros}
 use Rattle.quantization.specs.Ranges.{rangeBits, endpointRange}
 use Rattle.quantization.specs.Unquantise.{unquantEndpoint, unquantWeight}
@@ -28,9 +27,9 @@ use Rattle.void_extent.specs.Layout.{extentPlace, extentWidth, extentMost, exte
 use Rattle.half_float.specs.Half.{towardZero, unormHalf}
 use Rattle.texel.specs.Meaning.{texelFrom, planeWeight, secondWeight, secondComponent, shownChannel, solidNumber, solidTexel, errorTexel}
 use Rattle.texel.specs.BlockTexel.{blockNumberAt}
-use Rattle.samples.specs.Samples.{Sample, samples}
+use Rattle.samples.specs.Samples.{Hold, samples}
 
 -- every sample computes to what is wanted
-pub samples-hold : map (λ (s : Sample). s .computed) samples ≡ map (λ (s : Sample). s .wanted) samples
+pub samples-hold : Hold samples
 unfolding codeOf rangeBits unquantWeight unquantEndpoint bitTransfer baseOf offsetOf pairOf mode1 luminancePair lowLuminance highLuminance expandedPair expandedEnd replicated centred texelOf channelOf mixOf weightOf widthOf footprints scaleOf gridPlace numberOf blockModeIn blockMode isVolume depthOf axesOf extentPlace extentWidth extentMost heightOf endpointRange mode0 numberCount startOf numbersFrom entryBy tableBy levelIn cellOf infillOf blendOf w00 w01 w10 w11 partitionOf endpointRangeOf gridTooLarge tooManyWeights weightBitsOutside fourWithTwoPlanes tooManyEndpoints tooFewEndpointBits isHdr someHdr hdrRefused block.headerAt block.endpointAt block.weightAt extentAt colourAt badExtents badFixed badVoidExtent hdrVoidExtent voidReasons faultOf leadingZeros towardZero unormHalf solidNumber solidTexel errorTexel texelFrom planeWeight secondWeight secondComponent shownChannel blockNumberAt
 samples-hold = refl

@@ -1,6 +1,7 @@
 -- 01, "Bench samples": the samples marked P, as one table, and behind them those of solid blocks, which 02, i, shows in kind 2. Each entry is 01's
 -- words, what the definitions compute, and what 01 wants.
 -- Assumes nothing.
+use mathlib.Core.Path.{_≡_}
 use mathlib.Core.Bool.{true, false}
 use Prim.Native.Nat.{ℕ, _-_, _/_, _%_, _^_}
 use mathlib.Core.List.{List, [], _∷_, map}
@@ -29,6 +30,11 @@ use Rattle.texel.specs.BlockTexel.{blockNumberAt}
 pub record Sample : Type 0 where
   pub computed : List ℤ
   pub wanted : List ℤ
+
+-- every entry computes to what is wanted: 01, "proved against the definitions by a single statement". Theorems: proofs/Hold.antt, `samples-hold`;
+-- proofs/Volumes.antt, `volumes-hold`.
+abbrev pub Hold : List Sample → Type 0
+Hold l = map (λ (s : Sample). s .computed) l ≡ map (λ (s : Sample). s .wanted) l
 
 -- an entry whose numbers are all natural
 abbrev pub sample : List ℕ → List ℕ → Sample
