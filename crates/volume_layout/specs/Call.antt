@@ -1,5 +1,5 @@
--- 02, h: what a volume picture call refuses, answers and leaves in the result buffer: "in these refusal 1 is a footprint above 23", "Refusal 3 also holds for a depth of 0 or above 2,048".
--- Flat footprints are taken too: their blocks are one layer thick.
+-- 02, h: what a volume picture call refuses, answers and leaves in the result buffer: "in these refusal 1 is a footprint above 23", "Refusal 3 also
+-- holds for a depth of 0 or above 2,048". Flat footprints are taken too: their blocks are one layer thick.
 -- Assumes nothing.
 use Prim.Native.Nat.{ℕ, _*_}
 use mathlib.Core.Bool.{Bool, not}
