@@ -70,8 +70,7 @@ first-in Strict hdr fp B =
 pub fault-told : FaultTold
 fault-told = record {
   none-exactly = λ reading hdr fp B.
-      let rs = reasonsIn reading hdr fp B in
-      (
+      let rs = reasonsIn reading hdr fp B in (
         λ e. none-at rs (first-none rs (numbered-in reading hdr fp B) (first-in reading hdr fp B ∙ e)),
         λ h. sym (first-in reading hdr fp B) ∙ none-first rs (at-none rs (λ i l. h i)),
       );
