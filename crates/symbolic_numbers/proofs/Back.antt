@@ -20,7 +20,7 @@ use Rattle.symbolic_reader.proofs.SpareTold.{count-is, written-clear}
 use Rattle.round_trip.proofs.Laws.{back}
 use Rattle.symbolic_numbers.specs.Numbers.{flatOf, blockOver, blockFrom}
 use Rattle.symbolic_numbers.specs.Calls.{readNumber, readNumbers, readSpare, writeNumber, writeBlock}
-use Rattle.symbolic_numbers.specs.Back.{Taken, OneOrder}
+use Rattle.symbolic_numbers.specs.Back.{OneOrder}
 use Rattle.symbolic_numbers.proofs.Laws.{from-sized, from-flat, number-read, numbers-read, spare-read, write-told, block-written}
 
 module _ (numbers : List ℕ) (l : length numbers ≡ 107) where
