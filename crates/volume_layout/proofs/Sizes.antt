@@ -2,7 +2,7 @@
 -- Assumes nothing.
 use mathlib.Core.Path.{_≡_, refl, sym, _∙_, subst}
 use mathlib.Core.Bool.{Bool, true, false, true≢false}
-use Prim.Native.Nat.{ℕ, _+_, _-_, _*_, _/_, _≤_, _<_}
+use Prim.Native.Nat.{ℕ, _*_, _≤_, _<_}
 use native.Mathlib.Nat.{mul-le-mul}
 use native.Mathlib.Decide.{decLe, decLt, ℕ-discrete}
 use native.Mathlib.Omega.{arith}
@@ -17,8 +17,9 @@ use Rattle.volume_layout.specs.declared.VolumeGrid.{VolumeGrid}
 use Rattle.volume_layout.specs.declared.CheckedVolume.{CheckedVolume}
 use Rattle.volume_layout.specs.declared.CheckedVolume.the-variants.{Rejected, Accepted}
 use Rattle.volume_layout.specs.Numbers.{texelsIn}
-use Rattle.volume_layout.specs.Call.{depthLimit, badDepth, badSizes, blocksOf, volumeRefusal, volumeGrid, checkedOf}
-use Rattle.volume_layout.specs.Sizes.{Counts}
+use Rattle.volume_layout.specs.Call.{depthLimit, badDepth, badSizes, blocksOf, volumeRefusal}
+use Rattle.volume_layout.specs.inner.Checked.{volumeGrid, checkedOf}
+use Rattle.volume_layout.specs.Sizes.{NeverWraps}
 use Rattle.volume_layout.specs.inner.Parts.{SoundGrid}
 use Rattle.image_layout.proofs.Sizes.{across-most}
 
@@ -187,8 +188,8 @@ texels-there : texelsIn 16384 16384 2048 ≡ 549755813888
 unfolding texelsIn
 texels-there = refl
 
-pub counts : Counts
-counts = record { blocks = blocks-most; texels = texels-most; blocks-reached = blocks-there; texels-reached = texels-there }
+pub never-wraps : NeverWraps
+never-wraps = record { blocks = blocks-most; texels = texels-most; blocks-reached = blocks-there; texels-reached = texels-there }
 
 -- the counts of a layout are the volume's
 module _ (fp w h d : ℕ) {g : VolumeGrid} (e : g ≡ volumeGrid fp w h d) where
