@@ -12,9 +12,9 @@ use Rattle.image_layout.specs.declared.ImageAnswer.{ImageAnswer}
 use Rattle.image_layout.specs.declared.ImageAnswer.the-variants.{Refused, Decoded}
 use Rattle.image_layout.specs.declared.CheckedImage.the-variants.{Rejected, Accepted}
 use Rattle.image_layout.specs.declared.Tally.{Tally}
-use Rattle.image_layout.specs.Geometry.{imageGrid}
+use Rattle.image_layout.specs.inner.Checked.{imageGrid, checkedOf}
 use Rattle.image_layout.specs.Faulty.{tallyOf}
-use Rattle.image_layout.specs.Call.{imageRefusal, checkedOf, toldOf}
+use Rattle.image_layout.specs.Call.{imageRefusal, toldOf}
 use Rattle.image_layout.proofs.Calls.{rejected, accepted}
 use Rattle.bc7_image.specs.Image.{bc7FaultAt, bc7Numbers, ThreeFourFive, bc7Tally, bc7Answer, bc7Told, bc7Out}
 

@@ -16,7 +16,7 @@ use Rattle.symbolic_block.specs.Writing.{blockOf}
 use Rattle.symbolic_block.specs.Reading.{readBlock}
 use Rattle.symbolic_block.proofs.Demand.{demand-3}
 use Rattle.block_reading.specs.Faults.{canonicalOf, strictFault}
-use Rattle.block_reading.specs.Canonical.{canonicalIn, CanonicalForm}
+use Rattle.block_reading.specs.Canonical.{canonicalIn, CanonicalForm, CanonicalForms}
 use Rattle.block_reading.proofs.Strict.{strict-other, strict-none, written-canonical}
 
 module _ (fp B : ℕ) where
@@ -95,8 +95,11 @@ module _ (fp B : ℕ) where
     settled = ap (canonicalIn fp) (canonical-faulty h);
   }
 
-  pub canonical-form : fp ≤ 23 → CanonicalForm fp B
-  canonical-form low = elim (ℕ-discrete (faultOf true fp B) 0) [
+  form : fp ≤ 23 → CanonicalForm fp B
+  form low = elim (ℕ-discrete (faultOf true fp B) 0) [
     | yes e ↦ sound-form low e
     | no h ↦ faulty-form h
   ]
+
+pub canonical-form : CanonicalForms
+canonical-form = form

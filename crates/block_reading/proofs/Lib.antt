@@ -1,4 +1,5 @@
 pub mod Solid
 pub mod Strict
+pub mod Told
 pub mod Forms
 pub mod Shows

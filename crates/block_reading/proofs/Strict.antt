@@ -9,22 +9,29 @@ use native.Mathlib.Omega.{arith}
 use borrow.Author.Tests.{eq-eqb, ne-eqb}
 use Rattle.laws.specs.Choice.{pick, both}
 use Rattle.laws.specs.Reasons.{firstOf}
+use Rattle.interpolation.specs.declared.Kind.{Kind}
+use Rattle.interpolation.specs.Expansion.{takesHdr}
 use Rattle.block_header.specs.Reasons.{gridTooLarge, tooManyWeights, weightBitsOutside, fourWithTwoPlanes, tooManyEndpoints, tooFewEndpointBits, hdrRefused}
 use Rattle.block_fault.specs.Bits.{modeAt, isVoid, isReserved, headerAt}
 use Rattle.footprint.specs.Footprint.{isVolume}
 use Rattle.void_extent.specs.Layout.{badVoidExtent, hdrVoidExtent}
 use Rattle.block_fault.specs.Faults.{voidReasons, modeReasons, faultOf}
 use Rattle.block_fault.proofs.ByKind.{fault-hdr}
+use Rattle.texel.specs.Meaning.{errorTexel}
+use Rattle.texel.specs.BlockTexel.{soundTexel, blockTexel}
 use Rattle.symbolic_block.specs.declared.SymbolicBlock.{SymbolicBlock}
 use Rattle.symbolic_block.specs.Fields.{Sized}
 use Rattle.symbolic_block.specs.Refusals.{Acceptable}
 use Rattle.symbolic_block.specs.Writing.{blockOf}
 use Rattle.symbolic_block.specs.Reading.{readBlock, ReadsAs}
 use Rattle.symbolic_block.proofs.Demand.{demand-3}
+use Rattle.block_reading.specs.declared.Reading.{Reading}
 use Rattle.block_reading.specs.declared.Reading.the-variants.{Ordinary, Strict}
 use Rattle.block_reading.specs.Faults.{canonicalOf, isCanonical, strictFault, faultIn}
+use Rattle.block_reading.specs.Shown.{texelIn}
 use Rattle.block_reading.specs.OnePasses.{Reads, OnePasses, StrictReading}
 use Rattle.block_reading.proofs.Solid.{solid}
+use Rattle.block_reading.proofs.Shows.{strict-own, strict-error}
 
 -- ---- the three cases
 
@@ -99,6 +106,25 @@ solid-fault hdr fp B small v = elim (ℕ-discrete (faultOf hdr fp B) 0) [
   | no n ↦ strict-other hdr fp B n
 ]
 
+-- ---- what is shown
+
+error : (reading : Reading) (kind : Kind) (fp B : ℕ) → (faultIn reading (takesHdr kind) fp B ≡ 0 → ⊥) → (x y z : ℕ) → texelIn reading fp kind B x y z ≡ errorTexel kind
+unfolding blockTexel
+error Ordinary kind fp B h x y z = rw (ne-eqb (faultOf (takesHdr kind) fp B) 0 h)
+error Strict kind fp B h x y z = strict-error fp kind B h x y z
+
+-- a block that passes has no other fault either
+none-other : (hdr : Bool) (fp B : ℕ) → strictFault hdr fp B ≡ 0 → faultOf hdr fp B ≡ 0
+none-other hdr fp B e = elim (ℕ-discrete (faultOf hdr fp B) 0) [ yes z ↦ z | no n ↦ sym (strict-other hdr fp B n) ∙ e ]
+
+sound : (kind : Kind) (fp B : ℕ) → faultOf (takesHdr kind) fp B ≡ 0 → (x y z : ℕ) → blockTexel fp kind B x y z ≡ soundTexel fp kind B x y z
+unfolding blockTexel
+sound kind fp B e x y z = rw (eq-eqb (faultOf (takesHdr kind) fp B) 0 e)
+
+own : (reading : Reading) (kind : Kind) (fp B : ℕ) → faultIn reading (takesHdr kind) fp B ≡ 0 → (x y z : ℕ) → texelIn reading fp kind B x y z ≡ soundTexel fp kind B x y z
+own Ordinary kind fp B e x y z = sound kind fp B e x y z
+own Strict kind fp B e x y z = strict-own fp kind B e x y z ∙ sound kind fp B (none-other (takesHdr kind) fp B e) x y z
+
 -- ---- of the blocks that read as a sheet
 
 module _ (fp : ℕ) (s : SymbolicBlock) (z : Sized s) (a : Acceptable fp s) where
@@ -132,6 +158,8 @@ strict-reading = record {
   new-number = fault-lt;
   last-in-order = strict-other;
   exactly = exactly-21;
+  error-shown = error;
+  own-shown = own;
   solid-never = solid-fault;
   one-passes = one;
 }

@@ -3,7 +3,7 @@
 -- Assumes nothing.
 use mathlib.Core.Path.{_≡_}
 use mathlib.Core.Bool.{Bool, true}
-use Prim.Native.Nat.{ℕ, _^_, _<_}
+use Prim.Native.Nat.{ℕ, _^_, _≤_, _<_}
 use lib.Dec.{eqb}
 use Rattle.laws.specs.Choice.{pick}
 use Rattle.interpolation.specs.declared.Kind.{Kind}
@@ -17,7 +17,7 @@ unfoldable pub canonicalIn : ℕ → ℕ → ℕ
 unfolding canonicalOf
 canonicalIn fp B = pick (eqb (faultOf true fp B) 0) (canonicalOf fp B) B
 
--- What it is, at a footprint that is covered (theorem: proofs/Forms.antt, `canonical-form`).
+-- What it is.
 pub record CanonicalForm (fp B : ℕ) : Type 0 where
   -- it is a block
   pub fits : B < 2 ^ 128 → canonicalIn fp B < 2 ^ 128
@@ -33,3 +33,7 @@ pub record CanonicalForm (fp B : ℕ) : Type 0 where
   pub same-sheet : readBlock fp (canonicalIn fp B) ≡ readBlock fp B
   -- and is its own canonical form
   pub settled : canonicalIn fp (canonicalIn fp B) ≡ canonicalIn fp B
+
+-- of every block, at every footprint that is covered. Theorem: proofs/Forms.antt, `canonical-form`.
+abbrev pub CanonicalForms : Type 0
+CanonicalForms = (fp B : ℕ) → fp ≤ 23 → CanonicalForm fp B

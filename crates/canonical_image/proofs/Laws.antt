@@ -30,7 +30,7 @@ use Rattle.image_layout.specs.inner.Noted.{noted}
 use Rattle.image_layout.specs.Numbers.{blockBytes, blockAt, faultAt, faultAtIn}
 use Rattle.image_layout.specs.Faulty.{tallyOf}
 use Rattle.image_layout.specs.Call.{imageTally, imageTallyIn}
-use Rattle.image_layout.specs.Geometry.{imageGrid}
+use Rattle.image_layout.specs.inner.Checked.{imageGrid}
 use Rattle.image_layout.proofs.Calls.{sound, sizes}
 use Rattle.image_layout.proofs.Independence.{same-bytes}
 use Rattle.image_layout.proofs.Tallies.{tally-start, tally-more}

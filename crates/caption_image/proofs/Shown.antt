@@ -27,7 +27,7 @@ use Rattle.grey_caption.specs.Caption.{footprint, weightFor, captionOf}
 use Rattle.grey_caption.specs.Best.{shownBy, GreysShown}
 use Rattle.grey_caption.proofs.Demand.{chosen, shows}
 use Rattle.caption_image.specs.Image.{wantedAt, wantedOf, captionBlocks}
-use Rattle.caption_image.specs.Shown.{bestGrey, CaptionShown}
+use Rattle.caption_image.specs.Shown.{bestGrey, CaptionShown, CaptionShownEverywhere}
 use Rattle.caption_image.proofs.Laws.{byteAt}
 
 module _ (e0 e1 w h : ℕ) (wanted : List ℕ) where
@@ -97,5 +97,8 @@ module _ (e0 e1 w h : ℕ) (wanted : List ℕ) where
           ∙ caption-shows .texel i c (omega arith) l
           ∙ ap (λ (n : ℕ). getD (bestGrey e0 e1 n ∷ bestGrey e0 e1 n ∷ bestGrey e0 e1 n ∷ 255 ∷ []) c 0) wanted-is
 
-      pub shown : CaptionShown e0 e1 w h wanted old x y
-      shown = record { taken = taken; texel = texel }
+      at-place : CaptionShown e0 e1 w h wanted old x y
+      at-place = record { taken = taken; texel = texel }
+
+pub shown : CaptionShownEverywhere
+shown e0 e1 w h wanted old x y h0 h1 wide high size hx hy = at-place e0 e1 w h wanted x y hx hy h0 h1 wide high old size

@@ -5,3 +5,4 @@ pub mod Bits
 pub mod Demand
 pub mod Samples
 pub mod Choices
+pub mod Whole

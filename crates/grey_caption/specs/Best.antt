@@ -1,8 +1,7 @@
 -- 02, n: "no other choice of weights at these settings does better. Among equals take the smaller weight at each place. .. prove also that
 -- changing one wanted grey changes at most that texel's weight, the rest of the block's bits staying equal."
 -- Said of the writer's blocks and of what the one-block call and the reader of sheets tell of them.
--- Theorems: proofs/Demand.antt, `shows`, `best`, `local`, `placed`; proofs/Choices.antt, `chosen`, `at-settings`. The two ends are bytes, the result
--- buffer is of 64.
+-- Theorem: proofs/Whole.antt, `grey-caption`.
 -- Assumes nothing.
 use mathlib.Core.Path.{_≡_}
 use mathlib.Core.List.{List, [], _∷_}
@@ -89,3 +88,15 @@ pub record Local (e0 e1 i : ℕ) (wanted other : List ℕ) : Type 0 where
 pub record Placed (e0 e1 : ℕ) (w : ℕ → ℕ) (i : ℕ) : Type 0 where
   pub low : blockBit (blockWith e0 e1 w) (127 - 2 * i) ≡ w i % 2
   pub high : blockBit (blockWith e0 e1 w) (126 - 2 * i) ≡ w i / 2
+
+-- All of it, for two ends that are bytes and a result buffer of 64.
+pub record GreyCaption : Type 0 where
+  -- the choices of sixteen weights are the sheets at these settings
+  pub at-settings : (e0 e1 : ℕ) → e0 ≤ 255 → e1 ≤ 255 → (w : ℕ → ℕ) → Weights w → AtSettings e0 e1 (sheetWith e0 e1 w)
+  pub chosen : (e0 e1 : ℕ) (s : SymbolicBlock) → AtSettings e0 e1 s → Chosen e0 e1 s
+  pub shows : (e0 e1 : ℕ) → e0 ≤ 255 → e1 ≤ 255 → (w : ℕ → ℕ) → Weights w → (old : List ℕ) → length old ≡ 64 → GreysShown e0 e1 w old
+  pub best : (e0 e1 : ℕ) → e0 ≤ 255 → e1 ≤ 255 → (wanted old : List ℕ) → length old ≡ 64 → Best e0 e1 wanted old (captionOf e0 e1 wanted)
+  -- "changing one wanted grey", that at place i
+  pub local : (e0 e1 : ℕ) → e0 ≤ 255 → e1 ≤ 255 → (i : ℕ) (wanted other : List ℕ) → ((k : ℕ) → k < 16 → (k ≡ i → ⊥) → getD wanted k 0 ≡ getD other k 0)
+      → Local e0 e1 i wanted other
+  pub placed : (e0 e1 : ℕ) → e0 ≤ 255 → e1 ≤ 255 → (w : ℕ → ℕ) → Weights w → (i : ℕ) → i < 16 → Placed e0 e1 w i

@@ -46,7 +46,7 @@ blockWith e0 e1 w = writingOf footprint (sheetWith e0 e1 w) .bytes
 
 -- ---- the choice of a weight
 
--- the grey that kind 1 shows with a weight between the two ends (`Shows` says it of the written block)
+-- the grey that kind 1 shows with a weight between the two ends (`GreysShown` says it of the written block)
 unfoldable pub greyOf : ℕ → ℕ → ℕ → ℕ
 greyOf e0 e1 w = shownOf Srgb8 (mixOf (expandOf Srgb8 e0) (expandOf Srgb8 e1) (unquantWeight 2 w))
 

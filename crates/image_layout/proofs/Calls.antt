@@ -18,11 +18,11 @@ use Rattle.image_layout.specs.declared.ImageAnswer.the-variants.{Refused
 use Rattle.image_layout.specs.declared.CheckedImage.{CheckedImage}
 use Rattle.image_layout.specs.declared.CheckedImage.the-variants.{Rejected, Accepted}
 use Rattle.image_layout.specs.declared.Tally.{Tally}
-use Rattle.image_layout.specs.Geometry.{imageGrid}
+use Rattle.image_layout.specs.inner.Checked.{imageGrid, checkedOf}
 use Rattle.image_size.specs.Sides.{blocksAcross, blocksOf, badSide}
 use Rattle.image_layout.specs.Numbers.{faultAtIn, imageNumbersIn}
 use Rattle.image_layout.specs.Faulty.{tallyOf}
-use Rattle.image_layout.specs.Call.{imageRefusal, checkedOf, imageTallyIn, imageAnswerIn, imageOutIn, toldOf, imageToldIn}
+use Rattle.image_layout.specs.Call.{imageRefusal, imageTallyIn, imageAnswerIn, imageOutIn, toldOf, imageToldIn}
 use Rattle.image_size.proofs.Laws.{limit-le, side-fine, across-covers, across-le, across-pos}
 use Rattle.picture_regions.proofs.Covering.{mul-bound}
 use Rattle.picture_regions.proofs.Blocks.{Covered}

@@ -26,7 +26,7 @@ use Rattle.image_layout.specs.Numbers.{blockBytes, blockAt, imageNumberA
 use Rattle.image_layout.specs.Call.{imageRefusal, imageOutIn}
 use Rattle.picture_regions.specs.Picture.{place}
 use Rattle.picture_regions.proofs.Covering.{place-within, below-row, quotient, remainder}
-use Rattle.image_layout.specs.OwnBlock.{OwnBlock}
+use Rattle.image_layout.specs.OwnBlock.{OwnBlock, OwnBlockEverywhere}
 use Rattle.image_size.proofs.Laws.{across-covers}
 use Rattle.image_layout.proofs.Blocks.{flat-texels, flat-number, sixteen, byte-of}
 use Rattle.image_layout.proofs.Calls.{accept, decoded-out}
@@ -98,7 +98,10 @@ module _ (reading : Reading) (fp : ℕ) (kind : Kind) (w h x y c : ℕ) (hx : x 
       (same-bytes s t i (whole fp kind w h x y c hx hy hc s old zs) (whole fp kind w h x y c hx hy hc t new zt) same)
       ∙ sym (image-texel t new block zt size)
 
-  -- ---- the whole
+  whole-block : OwnBlock reading fp kind w h x y c
+  whole-block = record { index-in = index-in fp kind w h x y c hx hy hc; image-texel = image-texel; same-texel = same-texel }
 
-  pub own-block : OwnBlock reading fp kind w h x y c
-  own-block = record { index-in = index-in fp kind w h x y c hx hy hc; image-texel = image-texel; same-texel = same-texel }
+-- ---- the whole
+
+pub own-block : OwnBlockEverywhere
+own-block = whole-block

@@ -10,7 +10,7 @@ use lib.Dec.{eqb}
 use borrow.Author.Tests.{eq-eqb, ne-eqb, lt-ltb, le-ltb}
 use Rattle.laws.specs.Choice.{pick}
 use Rattle.image_layout.specs.declared.Tally.{Tally}
-use Rattle.image_layout.specs.Faulty.{faultCount, firstFrom, firstFaulty, ofFirst, tallyOf, Least, First}
+use Rattle.image_layout.specs.Faulty.{faultCount, firstFrom, firstFaulty, ofFirst, tallyOf, Least, First, Tallied}
 use Rattle.image_layout.specs.inner.Noted.{noted}
 
 module _ (f : ℕ → ℕ) where
@@ -206,3 +206,8 @@ module _ (f : ℕ → ℕ) where
         least = λ j q s. rw a (before j q s);
         counted = λ e. h (count-zero n e k l);
       }
+
+  -- ---- the whole
+
+  pub tallied : (n : ℕ) → Tallied f n
+  tallied n = record { first-least = first-least n; least-one = λ r l. least-unique n r _ l (first-least n); none = tally-none n; some = tally-first n }

@@ -15,9 +15,6 @@ use Rattle.image_size.specs.Sides.{badSide, blocksOf}
 use Rattle.image_layout.specs.declared.Tally.{Tally}
 use Rattle.image_layout.specs.declared.ImageAnswer.{ImageAnswer}
 use Rattle.image_layout.specs.declared.ImageAnswer.the-variants.{Refused, Decoded}
-use Rattle.image_layout.specs.declared.CheckedImage.{CheckedImage}
-use Rattle.image_layout.specs.declared.CheckedImage.the-variants.{Rejected, Accepted}
-use Rattle.image_layout.specs.Geometry.{imageGrid}
 use Rattle.image_layout.specs.Numbers.{faultAtIn, imageNumbersIn}
 use Rattle.image_layout.specs.Faulty.{tallyOf}
 
@@ -30,12 +27,6 @@ imageRefusal fp w h bytes places =
     ∷ when (not (eqb bytes (16 * blocksOf fp w h))) 4
     ∷ when (not (eqb places (4 * (h * w)))) 5
     ∷ [])
-
--- the first stage of the call: the refusal, or the image's layout
-unfoldable pub checkedOf : ℕ → ℕ → ℕ → ℕ → ℕ → CheckedImage
-checkedOf fp w h bytes places =
-    let e = imageRefusal fp w h bytes places in
-    pick (eqb e 0) (Accepted (imageGrid fp w h)) (Rejected e)
 
 -- the faults of an image's blocks
 unfoldable pub imageTallyIn : Reading → ℕ → Kind → ℕ → ℕ → List ℕ → Tally

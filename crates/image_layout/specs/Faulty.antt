@@ -29,7 +29,7 @@ module _ (fault : ℕ → ℕ) where
   unfoldable pub tallyOf : ℕ → Tally
   tallyOf n = record { count = faultCount n; first = ofFirst (λ b. b) n; fault = ofFirst fault n }
 
-  -- What these come to (theorems: proofs/Tallies.antt, `first-least`, `least-unique`, `tally-none`, `tally-first`).
+  -- What these come to (theorem: proofs/Tallies.antt, `tallied`).
   -- r is the least number from i on, and below n, at which `fault` is not 0; n where there is none
   pub record Least (i n r : ℕ) : Type 0 where
     pub from : i ≤ r
@@ -44,3 +44,13 @@ module _ (fault : ℕ → ℕ) where
     pub faulty : t .fault ≡ 0 → ⊥
     pub least : (k : ℕ) → k < n → (fault k ≡ 0 → ⊥) → t .first ≤ k
     pub counted : t .count ≡ 0 → ⊥
+
+  -- of n blocks
+  pub record Tallied (n : ℕ) : Type 0 where
+    -- the first is the least, and there is only one least
+    pub first-least : Least 0 n (firstFaulty n)
+    pub least-one : (r : ℕ) → Least 0 n r → r ≡ firstFaulty n
+    -- "both 0 where there is none", and the count too
+    pub none : ((k : ℕ) → k < n → fault k ≡ 0) → tallyOf n ≡ record { count = 0; first = 0; fault = 0 }
+    -- where there is one, the first is told
+    pub some : (k : ℕ) → k < n → (fault k ≡ 0 → ⊥) → First n (tallyOf n)

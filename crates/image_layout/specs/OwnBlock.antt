@@ -1,6 +1,6 @@
 -- Demand 2's last sentence: "a texel depends on its own block's sixteen bytes, the footprint, the kind and its place, on nothing else".
 -- 02, b: so in each reading.
--- Theorem: proofs/Independence.antt, `own-block`.
+-- Theorem: proofs/Independence.antt, `own-block` (`OwnBlockEverywhere`).
 -- Assumes nothing.
 use mathlib.Core.Path.{_≡_}
 use Prim.Native.Nat.{ℕ, _+_, _*_, _%_, _<_}
@@ -16,7 +16,7 @@ use Rattle.image_layout.specs.Geometry.{blockIndex}
 use Rattle.image_layout.specs.Numbers.{blockBytes}
 use Rattle.image_layout.specs.Call.{imageRefusal, imageOutIn}
 
--- at every place of every image that a call takes: x < w, y < h, c < 4
+-- channel c of the texel in column x and row y of an image that a call takes
 pub record OwnBlock (reading : Reading) (fp : ℕ) (kind : Kind) (w h x y c : ℕ) : Type 0 where
   -- the texel's block is one of the image's
   pub index-in : fp < 14 → blockIndex fp w x y < blocksOf fp w h
@@ -28,3 +28,7 @@ pub record OwnBlock (reading : Reading) (fp : ℕ) (kind : Kind) (w h x y c : �
   pub same-texel : (s t old new : List ℕ) → imageRefusal fp w h (length s) (length old) ≡ 0 → imageRefusal fp w h (length t) (length new) ≡ 0
       → ((k : ℕ) → k < 16 → getD s (16 * blockIndex fp w x y + k) 0 ≡ getD t (16 * blockIndex fp w x y + k) 0)
       → getD (imageOutIn reading fp kind w h s old) (place w x y c) 0 ≡ getD (imageOutIn reading fp kind w h t new) (place w x y c) 0
+
+-- at every place of every image
+abbrev pub OwnBlockEverywhere : Type 0
+OwnBlockEverywhere = (reading : Reading) (fp : ℕ) (kind : Kind) (w h x y c : ℕ) → x < w → y < h → c < 4 → OwnBlock reading fp kind w h x y c

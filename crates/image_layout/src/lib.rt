@@ -2,9 +2,8 @@
 ghost use mathlib.Core.Path.{_≡_};
 ghost use mathlib.Core.Bool.{false};
 ghost use Prim.Native.Nat.{_^_, _≤_, _<_};
-ghost use Rattle.image_layout.specs.Geometry.{imageGrid};
+ghost use Rattle.image_layout.specs.inner.Checked.{imageGrid, checkedOf};
 ghost use Rattle.image_size.specs.Sides.{badSide};
-ghost use Rattle.image_layout.specs.Call.{checkedOf};
 ghost use Rattle.image_layout.specs.inner.Noted.{noted};
 
 // The layout of an image: its footprint, its sides in texels, a block's sides in texels, and how many blocks lie across and down.

@@ -10,7 +10,8 @@ use Rattle.laws.specs.Choice.{pick}
 use Rattle.image_layout.specs.declared.ImageGrid.{ImageGrid}
 use Rattle.image_layout.specs.declared.Tally.{Tally}
 use Rattle.image_layout.specs.declared.CheckedImage.the-variants.{Rejected, Accepted}
-use Rattle.image_layout.specs.Call.{Told, imageRefusal, checkedOf}
+use Rattle.image_layout.specs.Call.{Told, imageRefusal}
+use Rattle.image_layout.specs.inner.Checked.{checkedOf}
 use Rattle.image_layout.proofs.Calls.{rejected, accepted}
 use Rattle.image_numbers.specs.Calls.{tallyTold, tallyNumbers, refusalOr5, outWith, tallyWith}
 

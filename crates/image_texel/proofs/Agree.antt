@@ -18,7 +18,7 @@ use Rattle.image_layout.proofs.Independence.{index-in, number-of}
 use Rattle.image_texel.specs.declared.Asked.{Asked}
 use Rattle.image_texel.specs.Making.{viewRefusal}
 use Rattle.image_texel.specs.Asking.{askedIn, askedAt}
-use Rattle.image_texel.specs.Agreement.{AsPicture}
+use Rattle.image_texel.specs.Agreement.{AsPicture, AsPictureEverywhere}
 use Rattle.image_texel.proofs.Ask.{all-good, asked-inside}
 
 four : (fp : ℕ) (kind : Kind) (w : ℕ) (s : List ℕ) (x y c : ℕ) → c < 4 → channel (askedIn fp w s kind x y .texel) c ≡ imageNumberAt fp kind w s x y c
@@ -40,9 +40,9 @@ module _ (fp : ℕ) (kind : Kind) (w h x y : ℕ) (s old : List ℕ) (hx : x < w
   is : askedAt fp w h s kind x y ≡ askedIn fp w s kind x y
   is = sym (asked-inside fp w h s kind x y made hx hy)
 
-  pub agrees : AsPicture fp kind w h x y s old
+  as-picture : AsPicture fp kind w h x y s old
   unfolding askedIn
-  agrees = record {
+  as-picture = record {
     not-refused = ap (λ (a : Asked). a .refusal) is;
     in-picture = index-in fp kind w h x y 0 hx hy (omega arith) (accept fp w h (length s) (length old) taken .footprint);
     its-fault = ap (λ (a : Asked). a .fault) is;
@@ -51,3 +51,6 @@ module _ (fp : ℕ) (kind : Kind) (w h x y : ℕ) (s old : List ℕ) (hx : x < w
         ∙ four fp kind w s x y c hc
         ∙ sym (ap (λ (l : List ℕ). getD l (place w x y c) 0) (sym (decoded-out Ordinary fp kind w h s old taken)) ∙ number-of Ordinary fp kind w h x y c hx hy hc s);
   }
+
+pub agrees : AsPictureEverywhere
+agrees = as-picture

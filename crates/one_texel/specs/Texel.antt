@@ -1,4 +1,4 @@
--- 02, f: "It answers the fault with the magenta texel where the block is bad." What one texel of a block is asked for: the block's fault, 0 for
+-- 02, f: "It answers the fault with the magenta texel where the block is bad." What asking one texel of a block answers: the block's fault, 0 for
 -- none, and the texel, in 16 bits. B is the number of its 128 bits, x and y a place in its one layer.
 -- Assumes nothing.
 use Prim.Native.Nat.{ℕ}

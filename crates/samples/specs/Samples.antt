@@ -31,6 +31,11 @@ pub record Sample : Type 0 where
   pub computed : List ℤ
   pub wanted : List ℤ
 
+-- every entry computes to what is wanted: 01, "proved against the definitions by a single statement". Theorems: proofs/Hold.antt, `samples-hold`;
+-- proofs/Volumes.antt, `volumes-hold`.
+abbrev pub Hold : List Sample → Type 0
+Hold l = map (λ (s : Sample). s .computed) l ≡ map (λ (s : Sample). s .wanted) l
+
 -- an entry whose numbers are all natural
 abbrev pub sample : List ℕ → List ℕ → Sample
 sample computed wanted = record { computed = map pos computed; wanted = map pos wanted }

@@ -1,5 +1,6 @@
 -- 02, h: texels (R, G, B, A in kind 0) and faults of volume blocks, what the definitions compute and what a decoder written from 000 gives: several
--- partitions with z at 3x3x3 and 4x4x4, two planes, every simplex order, solid blocks, and each fault. Theorem: proofs/Volumes.antt, `volumes-hold`.
+-- partitions with z at 3x3x3 and 4x4x4, two planes, each row of the simplex table, the colours of a solid block, and each fault. Theorem:
+-- proofs/Volumes.antt, `volumes-hold`.
 -- Assumes nothing.
 use mathlib.Core.Bool.{false}
 use mathlib.Core.List.{List, [], _∷_, map}
@@ -28,6 +29,16 @@ volumes =
     ∷ sample (map (blockNumberAt 16 Unorm16 0x302ECE3FE13CDF92277AFD0B92F54112 3 3 2) (0 ∷ 1 ∷ 2 ∷ 3 ∷ [])) (15420 ∷ 25186 ∷ 16705 ∷ 48573 ∷ [])
     ∷ sample (map (blockNumberAt 16 Unorm16 0x302ECE3FE13CDF92277AFD0B92F54112 1 2 1) (0 ∷ 1 ∷ 2 ∷ 3 ∷ [])) (21893 ∷ 35940 ∷ 23805 ∷ 30824 ∷ [])
     ∷ sample (map (blockNumberAt 16 Unorm16 0x302ECE3FE13CDF92277AFD0B92F54112 0 1 2) (0 ∷ 1 ∷ 2 ∷ 3 ∷ [])) (15420 ∷ 25186 ∷ 16705 ∷ 48573 ∷ [])
+    -- 000, "ASTC simplex interpolation parameters", row by row: at these places fs, ft, fr are 12, 8, 4; 4, 8, 0; 12, 4, 8; 8, 4, 12; 0, 8, 4; 4, 8, 12
+    ∷ sample (map (blockNumberAt 20 Unorm16 0x522C95838598853AD554FC05E2958512 3 2 1) (0 ∷ 1 ∷ 2 ∷ 3 ∷ [])) (25668 ∷ 46421 ∷ 6007 ∷ 40140 ∷ [])
+    ∷ sample (map (blockNumberAt 20 Unorm16 0x522C95838598853AD554FC05E2958512 1 2 0) (0 ∷ 1 ∷ 2 ∷ 3 ∷ [])) (32221 ∷ 31129 ∷ 4915 ∷ 47786 ∷ [])
+    ∷ sample (map (blockNumberAt 20 Unorm16 0x522C95838598853AD554FC05E2958512 3 3 2) (0 ∷ 1 ∷ 2 ∷ 3 ∷ [])) (28945 ∷ 38775 ∷ 6554 ∷ 43963 ∷ [])
+    ∷ sample (map (blockNumberAt 20 Unorm16 0x522C95838598853AD554FC05E2958512 2 3 3) (0 ∷ 1 ∷ 2 ∷ 3 ∷ [])) (28945 ∷ 38775 ∷ 4915 ∷ 43963 ∷ [])
+    ∷ sample (map (blockNumberAt 20 Unorm16 0x522C95838598853AD554FC05E2958512 0 2 1) (0 ∷ 1 ∷ 2 ∷ 3 ∷ [])) (32221 ∷ 31129 ∷ 3277 ∷ 47786 ∷ [])
+    ∷ sample (map (blockNumberAt 20 Unorm16 0x522C95838598853AD554FC05E2958512 1 2 3) (0 ∷ 1 ∷ 2 ∷ 3 ∷ [])) (25668 ∷ 46421 ∷ 4369 ∷ 40140 ∷ [])
+    -- a solid block
+    ∷ sample (map (blockNumberAt 15 Unorm16 0x444433332222123403014080301005FC 3 2 2) (0 ∷ 1 ∷ 2 ∷ 3 ∷ [])) (0x1234 ∷ 0x2222 ∷ 0x3333 ∷ 0x4444 ∷ [])
+    -- faults, 0 for none
     ∷ sample (faultOf false 15 0x000000000000123403014080301005FC ∷ []) (0 ∷ [])
     ∷ sample (faultOf false 15 0x000000000000000003018080301005FC ∷ []) (12 ∷ [])
     ∷ sample (faultOf false 23 0xFD6EDC91966A93E170BA90F0E64D52A0 ∷ []) (11 ∷ [])

@@ -30,7 +30,7 @@ use Rattle.symbolic_calls.specs.Writing.{writingOf}
 use Rattle.round_trip.proofs.Laws.{bytes-are, number, back}
 use Rattle.strict_reader.specs.Sheets.{sheetIn}
 use Rattle.strict_reader.specs.Calls.{ReadBytes, OneBlockPasses, StrictSheets}
-use Rattle.strict_reader.proofs.Laws.{ordinary, sheet-told, told-fault, sheet-sound, sheet-faulty, Read, read}
+use Rattle.strict_reader.proofs.Laws.{ordinary, sheet-told, told-fault, sheet-sound, sheet-faulty, faulty-zeros, Read, read}
 
 small : (v : ℕ) → Bytes (bytesOf 16 v)
 unfolding bytesOf
@@ -83,4 +83,4 @@ module _ (fp : ℕ) (s : SymbolicBlock) (z : Sized s) (a : Acceptable fp s) wher
   one-passes = record { written-reads = written-read; written-passes = passes; only-written = only; others-told = others }
 
 pub one-block-passes : StrictSheets
-one-block-passes = record { ordinary = ordinary; one-passes = one-passes }
+one-block-passes = record { ordinary = ordinary; zeros = faulty-zeros; one-passes = one-passes }

@@ -6,7 +6,7 @@ use mathlib.Core.List.{List}
 use Prim.Native.Nat.{ℕ, _≤_}
 use native.Mathlib.Decide.{ℕ-discrete}
 use native.Mathlib.Omega.{arith}
-use lib.Dec.{eqb, ltb}
+use lib.Dec.{T, eqb, ltb}
 use lib.ListN.{length}
 use borrow.Author.Tests.{ltb-false, eq-eqb, ne-eqb, eqb-true}
 use Rattle.laws.specs.Choice.{pick}
@@ -60,6 +60,24 @@ module _ (reading : Reading) (fp : ℕ) (s : List ℕ) where
     pub sheet-faulty : (n : ℕ) → faultIn reading true fp (numberOf s) ≡ n → (n ≡ 0 → ⊥) → sheetIn reading fp s ≡ nothing (Faulty n)
     unfolding sheetIn sheetOf
     sheet-faulty n e h = rw (eq-eqb (readRefusal fp (length s)) 0 none, e, ne-eqb n 0 h)
+
+-- a fault is told with a sheet of zeros
+abbrev isFaulty : Answer → Bool
+isFaulty (Refused n) = false
+isFaulty (Faulty n) = true
+isFaulty Done = false
+
+pub faulty-zeros : (reading : Reading) (fp : ℕ) (s : List ℕ) (n : ℕ) → sheetIn reading fp s .answer ≡ Faulty n → sheetIn reading fp s ≡ nothing (Faulty n)
+unfolding sheetIn sheetOf
+faulty-zeros reading fp s n e =
+    go (eqb (readRefusal fp (length s)) 0) (eqb (faultIn reading true fp (numberOf s)) 0) (done (numberOf s) (readBlock fp (numberOf s))) refl
+    (faultIn reading true fp (numberOf s)) (readRefusal fp (length s)) e
+  where
+    go : (a b : Bool) (x : SymbolicReading) → x .answer ≡ Done → (f r : ℕ) → pick a (pick b x (nothing (Faulty f))) (nothing (Refused r)) .answer ≡ Faulty n
+        → pick a (pick b x (nothing (Faulty f))) (nothing (Refused r)) ≡ nothing (Faulty n)
+    go true true x d f r q = absurd (subst (λ (y : Answer). T (not (isFaulty y))) (sym d ∙ q) tt)
+    go true false x d f r q = ap nothing q
+    go false b x d f r q = absurd (subst (λ (y : Answer). T (not (isFaulty y))) q tt)
 
 -- refused
 module _ (fp : ℕ) (s : List ℕ) (h : readRefusal fp (length s) ≡ 0 → ⊥) where

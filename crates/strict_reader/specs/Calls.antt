@@ -10,8 +10,9 @@ use Rattle.block_answer.specs.declared.Answer.the-variants.{Faulty, Done}
 use Rattle.symbolic_block.specs.declared.SymbolicBlock.{SymbolicBlock}
 use Rattle.symbolic_block.specs.Fields.{Sized}
 use Rattle.symbolic_block.specs.Refusals.{Acceptable}
+use Rattle.block_reading.specs.declared.Reading.{Reading}
 use Rattle.block_reading.specs.declared.Reading.the-variants.{Ordinary, Strict}
-use Rattle.symbolic_reader.specs.Answers.{readingOf}
+use Rattle.symbolic_reader.specs.Answers.{nothing, readingOf}
 use Rattle.symbolic_calls.specs.Writing.{writingOf}
 use Rattle.strict_reader.specs.Sheets.{sheetIn}
 
@@ -34,4 +35,6 @@ pub record OneBlockPasses (fp : ℕ) (s : SymbolicBlock) : Type 0 where
 pub record StrictSheets : Type 0 where
   -- with the ordinary reading this is the reader as it stands
   pub ordinary : (fp : ℕ) (block : List ℕ) → sheetIn Ordinary fp block ≡ readingOf fp block
+  -- "21 shows .. a sheet of zeros like any fault": whatever fault is told, with `nothing`
+  pub zeros : (reading : Reading) (fp : ℕ) (block : List ℕ) (n : ℕ) → sheetIn reading fp block .answer ≡ Faulty n → sheetIn reading fp block ≡ nothing (Faulty n)
   pub one-passes : (fp : ℕ) (s : SymbolicBlock) → Sized s → Acceptable fp s → OneBlockPasses fp s

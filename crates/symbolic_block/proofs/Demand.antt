@@ -7,7 +7,7 @@ use Prim.Native.Nat.{ℕ, _+_, _-_, _*_, _/_, _^_, _≤_, _<_}
 use native.Mathlib.Omega.{arith}
 use lib.Dec.{T, eqb}
 use lib.ListN.{length}
-use borrow.Author.Tests.{eqb-true, eqb-false, ltb-false}
+use borrow.Author.Tests.{eq-eqb, eqb-true, eqb-false, ltb-false}
 use Rattle.laws.specs.Choice.{pick}
 use Rattle.laws.proofs.Filling.{length-padded}
 use Rattle.bits.specs.Field.{field, reverse}
@@ -207,6 +207,13 @@ module _ (fp : ℕ) (s : SymbolicBlock) (z : Sized s) (a : Acceptable fp s) wher
     smallest-mode : (m : ℕ) → m < 2048 → blockModeIn (isVolume fp) m ≡ Grid (sheetGrid s) → field (blockOf fp s) 0 11 ≤ m
     smallest-mode = rw (block-mode s not-1 fp) (written.mode-least fp s (fine fp s not-1 (mode-none fp s a not-1)) z)
 
+-- the HDR mark
+marked : (fp : ℕ) (s : SymbolicBlock) → Acceptable fp s → s .mark ≡ 0 → (s .hdr ≡ 1) ↔ (someHdr (headerOf s) ≡ true)
+marked fp s a z =
+    let not-1 : s .mark ≡ 1 → ⊥ = λ e. omega (arith, z, e) in
+    let same : isMarked s ≡ someHdr (headerOf s) = fine fp s not-1 (mode-none fp s a not-1) .marked in
+    (λ e. sym same ∙ eq-eqb (s .hdr) 1 e, λ t. eqb-true (s .hdr) 1 (same ∙ t))
+
 -- ---- reading
 
 four-modes : (fp B : ℕ) → length (headerAt fp B .modes) ≡ 4
@@ -267,6 +274,7 @@ pub demand-3 : Demand3
 demand-3 = record {
   refused-exactly = λ fp s. (λ a. none-at (refusals fp s) (none fp s a), λ h. accepted fp s (at-none (refusals fp s) (λ i l. h i)));
   first-is-told = λ fp s i e h. refusal-is fp s ∙ first-told (refusals fp s) i e h;
+  marked-exactly = marked;
   written-fits = fits;
   written-no-fault = no-fault;
   written-reads-back = back;

@@ -18,6 +18,7 @@ use Rattle.footprint.specs.Footprint.{isVolume}
 use Rattle.block_mode.specs.declared.BlockMode.the-variants.{Grid}
 use Rattle.volume_mode.specs.Either.{blockModeIn}
 use Rattle.block_header.specs.Counts.{weightCount, weightBits, componentBits, extraBits, endpointCount, endpointRangeOf}
+use Rattle.block_header.specs.Reasons.{someHdr}
 use Rattle.block_fault.specs.Bits.{modeAt, isVoid, headerAt, endpointsFrom}
 use Rattle.block_fault.specs.Faults.{faultOf}
 use Rattle.texel.specs.BlockTexel.{blockTexel, blockNumberAt}
@@ -34,6 +35,8 @@ pub record Demand3 : Type 0 where
   -- and the first is told
   pub first-is-told : (fp : ℕ) (s : SymbolicBlock) (i : ℕ) → reasonAt (refusals fp s) i .holds ≡ true
       → ((j : ℕ) → j < i → reasonAt (refusals fp s) j .holds ≡ false) → refusalOf fp s ≡ reasonAt (refusals fp s) i .told
+  -- 02, i: the HDR mark of an acceptable mode sheet "is set exactly when some partition's mode is HDR"
+  pub marked-exactly : (fp : ℕ) (s : SymbolicBlock) → Acceptable fp s → s .mark ≡ 0 → (s .hdr ≡ 1) ↔ (someHdr (headerOf s) ≡ true)
   -- what is written for an acceptable one is a block without fault
   pub written-fits : (fp : ℕ) (s : SymbolicBlock) → Sized s → Acceptable fp s → blockOf fp s < 2 ^ 128
   pub written-no-fault : (fp : ℕ) (s : SymbolicBlock) → Sized s → Acceptable fp s → faultOf true fp (blockOf fp s) ≡ 0

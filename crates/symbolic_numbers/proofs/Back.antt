@@ -20,7 +20,8 @@ use Rattle.symbolic_reader.proofs.SpareTold.{count-is, written-clear}
 use Rattle.round_trip.proofs.Laws.{back}
 use Rattle.symbolic_numbers.specs.Numbers.{flatOf, blockOver, blockFrom}
 use Rattle.symbolic_numbers.specs.Calls.{readNumber, readNumbers, readSpare, writeNumber, writeBlock}
-use Rattle.symbolic_numbers.proofs.Laws.{from-sized, number-read, numbers-read, spare-read, write-told, block-written}
+use Rattle.symbolic_numbers.specs.Back.{OneOrder}
+use Rattle.symbolic_numbers.proofs.Laws.{from-sized, from-flat, number-read, numbers-read, spare-read, write-told, block-written}
 
 module _ (numbers : List ℕ) (l : length numbers ≡ 107) where
   by-place : flatOf (blockFrom numbers) ≡ tab (λ i. getD numbers i 0) 107
@@ -28,7 +29,7 @@ module _ (numbers : List ℕ) (l : length numbers ≡ 107) where
   by-place = refl
 
   -- a list's symbolic block has that list
-  pub flat-from : flatOf (blockFrom numbers) ≡ numbers
+  flat-from : flatOf (blockFrom numbers) ≡ numbers
   unfolding Filled
   flat-from = by-place ∙ sym (filled-all (λ i. getD numbers i 0) 0 numbers 107 l (λ i h. refl))
 
@@ -40,15 +41,26 @@ module _ (numbers : List ℕ) (l : length numbers ≡ 107) where
     read : readingOf fp (writeBlock fp numbers old) ≡ done (blockOf fp (blockFrom numbers)) (blockFrom numbers)
     read = ap (readingOf fp) (sym (block-written fp numbers old sixteen l)) ∙ back fp (blockFrom numbers) (from-sized numbers) acceptable
 
-    pub list-back : (readNumber fp (writeBlock fp numbers old) (length told) (length spare) ≡ 0) × (readNumbers fp (writeBlock fp numbers old) told (length spare) ≡ numbers)
-    list-back = (
-      sym (number-read (readingOf fp (writeBlock fp numbers old)) told spare room two) ∙ ap (λ (r : SymbolicReading). numberTold (r .answer)) read,
-      sym (numbers-read (readingOf fp (writeBlock fp numbers old)) told spare room two) ∙ ap (λ (r : SymbolicReading). flatOf (r .block)) read ∙ flat-from,
-    )
+    number-back : readNumber fp (writeBlock fp numbers old) (length told) (length spare) ≡ 0
+    number-back = sym (number-read (readingOf fp (writeBlock fp numbers old)) told spare room two) ∙ ap (λ (r : SymbolicReading). numberTold (r .answer)) read
+
+    list-back : readNumbers fp (writeBlock fp numbers old) told (length spare) ≡ numbers
+    list-back = sym (numbers-read (readingOf fp (writeBlock fp numbers old)) told spare room two) ∙ ap (λ (r : SymbolicReading). flatOf (r .block)) read ∙ flat-from
 
     -- with no spare bit set
-    pub spare-back : readSpare fp (writeBlock fp numbers old) (length told) spare ≡ spareCount (blockFrom numbers) ∷ 0 ∷ []
+    spare-back : readSpare fp (writeBlock fp numbers old) (length told) spare ≡ spareCount (blockFrom numbers) ∷ 0 ∷ []
     spare-back =
         sym (spare-read (readingOf fp (writeBlock fp numbers old)) told spare room two)
         ∙ ap (λ (r : SymbolicReading). spareNumbers (r .spare)) read
         ∙ ap₂ (λ (n : ℕ) (set : Bool). n ∷ pick set 1 0 ∷ []) (count-is (blockOf fp (blockFrom numbers)) (blockFrom numbers)) (written-clear fp (blockFrom numbers) (from-sized numbers) acceptable)
+
+-- ---- the whole
+
+pub one-order : OneOrder
+one-order = record {
+  from-flat = from-flat;
+  flat-from = flat-from;
+  number-back = λ fp numbers old told spare t. number-back numbers (t .numbers-107) fp old told spare (t .bytes-16) (t .told-107) (t .spare-2) (t .taken);
+  list-back = λ fp numbers old told spare t. list-back numbers (t .numbers-107) fp old told spare (t .bytes-16) (t .told-107) (t .spare-2) (t .taken);
+  spare-back = λ fp numbers old told spare t. spare-back numbers (t .numbers-107) fp old told spare (t .bytes-16) (t .told-107) (t .spare-2) (t .taken);
+}

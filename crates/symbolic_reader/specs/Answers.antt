@@ -11,7 +11,6 @@ use Rattle.laws.specs.Reasons.{when, firstOf}
 use Rattle.block_fault.specs.Faults.{faultOf}
 use Rattle.block_answer.specs.declared.Answer.{Answer}
 use Rattle.block_answer.specs.declared.Answer.the-variants.{Refused, Faulty, Done}
-use Rattle.block_answer.specs.Told.{answerFor}
 use Rattle.symbolic_block.specs.declared.SymbolicBlock.{SymbolicBlock}
 use Rattle.symbolic_block.specs.Reading.{zeroBlock, readBlock}
 use Rattle.symbolic_reader.specs.declared.SymbolicReading.{SymbolicReading}
@@ -35,7 +34,7 @@ done B s = doneWith s (spareOf B s)
 
 -- of 128 bits: "else tells the block's fault, with a sheet of zeros in both events", else the symbolic block
 unfoldable pub readingIn : ℕ → ℕ → SymbolicReading
-unfolding answerFor readBlock zeroBlock
+unfolding readBlock zeroBlock
 readingIn fp B = pick (eqb (faultOf true fp B) 0) (done B (readBlock fp B)) (nothing (Faulty (faultOf true fp B)))
 
 -- what the reader answers for the bytes s

@@ -20,7 +20,8 @@ ghost use Rattle.image_layout.specs.Faulty.{tallyOf};
 ghost use Rattle.image_layout.specs.Call.{toldOf};
 ghost use Rattle.volume_layout.specs.inner.Rows.{volumePicture};
 ghost use Rattle.volume_layout.specs.Numbers.{volumeNumbersIn};
-ghost use Rattle.volume_layout.specs.Call.{checkedOf, volumeAnswer, volumeOut, volumeTold, volumeAnswerIn, volumeOutIn, volumeToldIn};
+ghost use Rattle.volume_layout.specs.Call.{volumeAnswer, volumeOut, volumeTold, volumeAnswerIn, volumeOutIn, volumeToldIn};
+ghost use Rattle.volume_layout.specs.inner.Checked.{checkedOf};
 ghost use Rattle.volume_layout.specs.inner.Parts.{SoundGrid, volumeByRows, PartFits, PlacedRows};
 
 // ---- kinds 0 and 2: 16-bit numbers

@@ -19,7 +19,8 @@ use Rattle.image_layout.specs.Call.{toldOf, toldDecoded}
 use Rattle.volume_layout.specs.declared.VolumeGrid.{VolumeGrid}
 use Rattle.volume_layout.specs.declared.CheckedVolume.the-variants.{Rejected, Accepted}
 use Rattle.volume_layout.specs.Numbers.{volumeNumbersIn}
-use Rattle.volume_layout.specs.Call.{blocksOf, volumeRefusal, volumeGrid, checkedOf, volumeTallyIn, volumeAnswerIn, volumeOutIn, volumeToldIn}
+use Rattle.volume_layout.specs.Call.{blocksOf, volumeRefusal, volumeTallyIn, volumeAnswerIn, volumeOutIn, volumeToldIn}
+use Rattle.volume_layout.specs.inner.Checked.{volumeGrid, checkedOf}
 use Rattle.volume_layout.proofs.Sizes.{was-rejected, was-accepted}
 
 module _ (reading : Reading) (fp : ℕ) (kind : Kind) (w h d : ℕ) (s : List ℕ) where

@@ -30,7 +30,7 @@ use Rattle.image_layout.proofs.Independence.{same-bytes}
 use Rattle.volume_layout.specs.Rows.{layerRow, blockIndexIn}
 use Rattle.volume_layout.specs.Numbers.{blockIndex, texelsIn, volumeNumberAtIn, volumeNumbersIn}
 use Rattle.volume_layout.specs.Call.{blocksOf, volumeRefusal, volumeOutIn}
-use Rattle.volume_layout.specs.OwnBlock.{OwnBlock}
+use Rattle.volume_layout.specs.OwnBlock.{OwnBlock, OwnBlockEverywhere}
 use Rattle.image_size.proofs.Laws.{across-covers}
 use Rattle.volume_layout.proofs.Sizes.{accept}
 use Rattle.volume_layout.proofs.Blocks.{row-within}
@@ -103,5 +103,10 @@ module _ (reading : Reading) (fp : ℕ) (kind : Kind) (w h d x y z c : ℕ) (hx 
       (same-bytes s t i (whole fp kind w h d x y z c hx hy hz hc s old zs) (whole fp kind w h d x y z c hx hy hz hc t new zt) same)
       ∙ sym (volume-texel t new block zt size)
 
-  pub own-block : OwnBlock reading fp kind w h d x y z c
-  own-block = record { index-in = index-in fp kind w h d x y z c hx hy hz hc; volume-texel = volume-texel; same-texel = same-texel }
+  whole-block : OwnBlock reading fp kind w h d x y z c
+  whole-block = record { index-in = index-in fp kind w h d x y z c hx hy hz hc; volume-texel = volume-texel; same-texel = same-texel }
+
+-- ---- the whole
+
+pub own-block : OwnBlockEverywhere
+own-block = whole-block

@@ -5,3 +5,4 @@ pub mod Parts
 pub mod Calls
 pub mod Independence
 pub mod Samples
+pub mod OneLayer

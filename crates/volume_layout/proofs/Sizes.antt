@@ -2,8 +2,8 @@
 -- Assumes nothing.
 use mathlib.Core.Path.{_≡_, refl, sym, _∙_, subst}
 use mathlib.Core.Bool.{Bool, true, false, true≢false}
-use Prim.Native.Nat.{ℕ, _+_, _-_, _*_, _/_, _≤_, _<_}
-use native.Mathlib.Nat.{mul-le-mul, div-lt-iff-lt-mul, add-mul}
+use Prim.Native.Nat.{ℕ, _*_, _≤_, _<_}
+use native.Mathlib.Nat.{mul-le-mul}
 use native.Mathlib.Decide.{decLe, decLt, ℕ-discrete}
 use native.Mathlib.Omega.{arith}
 use borrow.Author.Tests.{eq-eqb, ne-eqb, lt-ltb, le-ltb}
@@ -17,8 +17,11 @@ use Rattle.volume_layout.specs.declared.VolumeGrid.{VolumeGrid}
 use Rattle.volume_layout.specs.declared.CheckedVolume.{CheckedVolume}
 use Rattle.volume_layout.specs.declared.CheckedVolume.the-variants.{Rejected, Accepted}
 use Rattle.volume_layout.specs.Numbers.{texelsIn}
-use Rattle.volume_layout.specs.Call.{depthLimit, badDepth, badSizes, blocksOf, volumeRefusal, volumeGrid, checkedOf}
+use Rattle.volume_layout.specs.Call.{depthLimit, badDepth, badSizes, blocksOf, volumeRefusal}
+use Rattle.volume_layout.specs.inner.Checked.{volumeGrid, checkedOf}
+use Rattle.volume_layout.specs.Sizes.{NeverWraps}
 use Rattle.volume_layout.specs.inner.Parts.{SoundGrid}
+use Rattle.image_layout.proofs.Sizes.{across-most}
 
 -- ---- sizes that are not refused
 
@@ -128,14 +131,6 @@ sound fp w h d f e =
       deep-most = omega (arith, across-le d (depthOf fp) r, s .depth-most);
     }
 
--- at most k blocks of n cover a side of at most k * n
-pub across-most : (side n k : ℕ) → 0 < n → side ≤ k * n → blocksAcross side n ≤ k
-unfolding blocksAcross
-across-most side n k p l =
-    let e : (k + 1) * n ≡ k * n + 1 * n = add-mul k 1 n in
-    let m : (side + n - 1) / n < k + 1 = div-lt-iff-lt-mul p .1 (omega arith) in
-    omega arith
-
 pub three : (a b c k m n : ℕ) → a ≤ k → b ≤ m → c ≤ n → a * b * c ≤ k * m * n
 three a b c k m n p q r = mul-le-mul (mul-le-mul p q) r
 
@@ -150,14 +145,11 @@ products g s = record {
   blocks = three (g .deep) (g .down) (g .across) 2048 16384 16384 (s .deep-most) (s .down-most) (s .across-most);
 }
 
--- 2^35 blocks, 2^39 texels, and so 2^39 bytes of blocks and 2^41 numbers
-pub record Counts (fp w h d : ℕ) : Type 0 where
-  pub blocks : blocksOf fp w h d ≤ 34359738368
-  pub texels : texelsIn w h d ≤ 549755813888
+-- ---- no count wraps
 
-pub counts : (fp w h d : ℕ) → fp < 24 → badSizes w h d ≡ false → Counts fp w h d
-unfolding blocksOf texelsIn
-counts fp w h d f e =
+blocks-most : (fp w h d : ℕ) → fp < 24 → badSizes w h d ≡ false → blocksOf fp w h d ≤ 34359738368
+unfolding blocksOf
+blocks-most fp w h d f e =
     let s = sized w h d e in
     let b = bounds fp f in
     let x = s .width-most in
@@ -165,29 +157,39 @@ counts fp w h d f e =
     let z = s .depth-most in
     let u = b .width-least in
     let v = b .height-least in
-    record {
-      blocks = elim (decLt fp 14) [
-        | yes p ↦
-            let m = flat-bounds fp p in
-            let i = m .width-least in
-            let j = m .height-least in
-            let t = flat-depth fp p in
-            let r = three (blocksAcross d (depthOf fp)) (blocksAcross h (heightOf fp)) (blocksAcross w (widthOf fp)) 2048 4096 4096 (across-most d (depthOf fp) 2048 (omega arith) (omega arith))
-            (across-most h (heightOf fp) 4096 (omega arith) (omega arith)) (across-most w (widthOf fp) 4096 (omega arith) (omega arith)) in
-            omega arith
-        | no p ↦
-            let t = volume-depth fp (omega arith) f in
-            let r = three (blocksAcross d (depthOf fp)) (blocksAcross h (heightOf fp)) (blocksAcross w (widthOf fp)) 683 5462 5462 (across-most d (depthOf fp) 683 (omega arith) (omega arith))
-            (across-most h (heightOf fp) 5462 (omega arith) (omega arith)) (across-most w (widthOf fp) 5462 (omega arith) (omega arith)) in
-            omega arith
-      ];
-      texels = let r = three d h w 2048 16384 16384 z y x in omega arith;
-    }
+    elim (decLt fp 14) [
+      | yes p ↦
+          let m = flat-bounds fp p in
+          let i = m .width-least in
+          let j = m .height-least in
+          let t = flat-depth fp p in
+          let r = three (blocksAcross d (depthOf fp)) (blocksAcross h (heightOf fp)) (blocksAcross w (widthOf fp)) 2048 4096 4096 (across-most d (depthOf fp) 2048 (omega arith) (omega arith))
+          (across-most h (heightOf fp) 4096 (omega arith) (omega arith)) (across-most w (widthOf fp) 4096 (omega arith) (omega arith)) in
+          omega arith
+      | no p ↦
+          let t = volume-depth fp (omega arith) f in
+          let r = three (blocksAcross d (depthOf fp)) (blocksAcross h (heightOf fp)) (blocksAcross w (widthOf fp)) 683 5462 5462 (across-most d (depthOf fp) 683 (omega arith) (omega arith))
+          (across-most h (heightOf fp) 5462 (omega arith) (omega arith)) (across-most w (widthOf fp) 5462 (omega arith) (omega arith)) in
+          omega arith
+    ]
 
--- both are reached: 16,384 x 16,384 x 2,048 at 4x4
-pub reached : (blocksOf 0 16384 16384 2048 ≡ 34359738368) × (texelsIn 16384 16384 2048 ≡ 549755813888)
-unfolding blocksOf texelsIn blocksAcross widthOf heightOf depthOf footprints
-reached = (refl, refl)
+texels-most : (w h d : ℕ) → badSizes w h d ≡ false → texelsIn w h d ≤ 549755813888
+unfolding texelsIn
+texels-most w h d e =
+    let s = sized w h d e in
+    let r = three d h w 2048 16384 16384 (s .depth-most) (s .height-most) (s .width-most) in
+    omega arith
+
+blocks-there : blocksOf 0 16384 16384 2048 ≡ 34359738368
+unfolding blocksOf blocksAcross widthOf heightOf depthOf footprints
+blocks-there = refl
+
+texels-there : texelsIn 16384 16384 2048 ≡ 549755813888
+unfolding texelsIn
+texels-there = refl
+
+pub never-wraps : NeverWraps
+never-wraps = record { blocks = blocks-most; texels = texels-most; blocks-reached = blocks-there; texels-reached = texels-there }
 
 -- the counts of a layout are the volume's
 module _ (fp w h d : ℕ) {g : VolumeGrid} (e : g ≡ volumeGrid fp w h d) where

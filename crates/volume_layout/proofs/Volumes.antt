@@ -2,7 +2,7 @@
 -- Assumes nothing.
 use mathlib.Core.Path.{_≡_, sym, ap, ap₂, _∙_}
 use Prim.Native.Nat.{ℕ, _+_, _*_, _/_, _%_, _≤_, _<_}
-use native.Mathlib.Nat.{div-add-mod', mod-lt, div-lt-iff-lt-mul, div-eq-of-lt, mod-eq-of-lt, zero-div, zero-mul, zero-add}
+use native.Mathlib.Nat.{div-add-mod', mod-lt, div-lt-iff-lt-mul}
 use native.Mathlib.Omega.{arith}
 use Rattle.image_size.specs.Sides.{blocksAcross}
 use Rattle.image_size.proofs.Laws.{across-covers}
@@ -19,11 +19,6 @@ pub block-at : (g : VolumeGrid) (x y z : ℕ) → y < g .height
     → blockIn (volumePicture g) x (layerRow (g .height) y z) ≡ blockIndexIn (g .across) (g .down) (g .columns) (g .rows) (g .layers) x y z
 unfolding blockIn volumeRow blockIndexIn
 block-at g x y z l = rw (quotient z (g .height) y l, remainder z (g .height) y l)
-
--- of one layer it is a flat picture's
-pub one-layer : (h ny bh bd q : ℕ) → q < h → volumeRow h ny bh bd q ≡ q / bh
-unfolding volumeRow
-one-layer h ny bh bd q l = rw (div-eq-of-lt l, mod-eq-of-lt l, zero-div bd, zero-mul ny, zero-add (q / bh))
 
 -- every row of a volume lies in one of its rows of blocks
 pub row-lt : (h d bh bd q : ℕ) → 0 < h → 0 < bh → 0 < bd → q < d * h → volumeRow h (blocksAcross h bh) bh bd q < blocksAcross d bd * blocksAcross h bh

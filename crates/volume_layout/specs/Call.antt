@@ -1,5 +1,5 @@
--- 02, h: what a volume picture call refuses, answers and leaves in the result buffer: "in these refusal 1 is a footprint above 23", "Refusal 3 also holds for a depth of 0 or above 2,048".
--- Flat footprints are taken too: their blocks are one layer thick.
+-- 02, h: what a volume picture call refuses, answers and leaves in the result buffer: "in these refusal 1 is a footprint above 23", "Refusal 3 also
+-- holds for a depth of 0 or above 2,048". Flat footprints are taken too: their blocks are one layer thick.
 -- Assumes nothing.
 use Prim.Native.Nat.{ℕ, _*_}
 use mathlib.Core.Bool.{Bool, not}
@@ -19,9 +19,6 @@ use Rattle.image_layout.specs.declared.ImageAnswer.the-variants.{Refused, Decod
 use Rattle.image_layout.specs.Numbers.{faultAtIn}
 use Rattle.image_layout.specs.Faulty.{tallyOf}
 use Rattle.image_layout.specs.Call.{Told, toldDecoded}
-use Rattle.volume_layout.specs.declared.VolumeGrid.{VolumeGrid}
-use Rattle.volume_layout.specs.declared.CheckedVolume.{CheckedVolume}
-use Rattle.volume_layout.specs.declared.CheckedVolume.the-variants.{Rejected, Accepted}
 use Rattle.volume_layout.specs.Numbers.{texelsIn, volumeNumbersIn}
 
 -- "a depth of 0 or above 2,048"
@@ -48,27 +45,6 @@ volumeRefusal fp w h d bytes places =
     ∷ when (not (eqb bytes (16 * blocksOf fp w h d))) 4
     ∷ when (not (eqb places (4 * texelsIn w h d))) 5
     ∷ [])
-
--- a volume's layout
-unfoldable pub volumeGrid : ℕ → ℕ → ℕ → ℕ → VolumeGrid
-volumeGrid fp w h d = record {
-  footprint = fp;
-  width = w;
-  height = h;
-  depth = d;
-  columns = widthOf fp;
-  rows = heightOf fp;
-  layers = depthOf fp;
-  across = blocksAcross w (widthOf fp);
-  down = blocksAcross h (heightOf fp);
-  deep = blocksAcross d (depthOf fp);
-}
-
--- the first stage of the call: the refusal, or the volume's layout
-unfoldable pub checkedOf : ℕ → ℕ → ℕ → ℕ → ℕ → ℕ → CheckedVolume
-checkedOf fp w h d bytes places =
-    let e = volumeRefusal fp w h d bytes places in
-    pick (eqb e 0) (Accepted (volumeGrid fp w h d)) (Rejected e)
 
 -- ---- the answer and the buffer, in a reading (02, b); the names without one are the ordinary reading's
 

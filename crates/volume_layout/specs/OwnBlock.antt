@@ -1,5 +1,5 @@
 -- Demand 2's last sentence, of volumes: "a texel depends on its own block's sixteen bytes, the footprint, the kind and its place, on nothing else".
--- Theorem: proofs/Independence.antt, `own-block`.
+-- Theorem: proofs/Independence.antt, `own-block` (`OwnBlockEverywhere`).
 -- Assumes nothing.
 use mathlib.Core.Path.{_≡_}
 use Prim.Native.Nat.{ℕ, _+_, _*_, _%_, _<_}
@@ -15,7 +15,7 @@ use Rattle.volume_layout.specs.Rows.{layerRow}
 use Rattle.volume_layout.specs.Numbers.{blockIndex}
 use Rattle.volume_layout.specs.Call.{blocksOf, volumeRefusal, volumeOutIn}
 
--- at every place of every volume that a call takes: x < w, y < h, z < d, c < 4
+-- channel c of the texel at x, y, z of a volume that a call takes
 pub record OwnBlock (reading : Reading) (fp : ℕ) (kind : Kind) (w h d x y z c : ℕ) : Type 0 where
   -- the texel's block is one of the volume's
   pub index-in : fp < 24 → blockIndex fp w h x y z < blocksOf fp w h d
@@ -28,3 +28,8 @@ pub record OwnBlock (reading : Reading) (fp : ℕ) (kind : Kind) (w h d x y z c 
   pub same-texel : (s t old new : List ℕ) → volumeRefusal fp w h d (length s) (length old) ≡ 0 → volumeRefusal fp w h d (length t) (length new) ≡ 0
       → ((k : ℕ) → k < 16 → getD s (16 * blockIndex fp w h x y z + k) 0 ≡ getD t (16 * blockIndex fp w h x y z + k) 0)
       → getD (volumeOutIn reading fp kind w h d s old) (place w x (layerRow h y z) c) 0 ≡ getD (volumeOutIn reading fp kind w h d t new) (place w x (layerRow h y z) c) 0
+
+-- at every place of every volume
+abbrev pub OwnBlockEverywhere : Type 0
+OwnBlockEverywhere =
+    (reading : Reading) (fp : ℕ) (kind : Kind) (w h d x y z c : ℕ) → x < w → y < h → z < d → c < 4 → OwnBlock reading fp kind w h d x y z c

@@ -2,7 +2,8 @@
 ghost use mathlib.Core.Path.{_≡_};
 ghost use mathlib.Core.Bool.{false};
 ghost use Prim.Native.Nat.{_*_, _≤_, _<_};
-ghost use Rattle.volume_layout.specs.Call.{badDepth, badSizes, volumeGrid, checkedOf, volumeBlocks, volumePlaces};
+ghost use Rattle.volume_layout.specs.Call.{badDepth, badSizes, volumeBlocks, volumePlaces};
+ghost use Rattle.volume_layout.specs.inner.Checked.{volumeGrid, checkedOf};
 
 // The layout of a volume: its footprint, its sides in texels, a block's sides in texels, and how many blocks lie across, down and deep.
 pub struct VolumeGrid {

@@ -6,7 +6,8 @@ use borrow.Author.Tests.{ne-eqb}
 use Rattle.image_numbers.specs.Calls.{refusalOr5}
 use Rattle.volume_layout.specs.declared.VolumeGrid.{VolumeGrid}
 use Rattle.volume_layout.specs.declared.CheckedVolume.the-variants.{Rejected, Accepted}
-use Rattle.volume_layout.specs.Call.{volumeRefusal, checkedOf}
+use Rattle.volume_layout.specs.Call.{volumeRefusal}
+use Rattle.volume_layout.specs.inner.Checked.{checkedOf}
 use Rattle.volume_layout.proofs.Sizes.{was-rejected, was-accepted}
 
 module _ (fp w h d bytes places : ℕ) where

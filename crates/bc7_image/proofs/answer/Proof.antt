@@ -3,7 +3,7 @@ use denote.Ref.{now}
 use lib.ListN.{length}
 use borrow.Author.Needs.{needs}
 use Rattle.image_layout.specs.declared.CheckedImage.the-variants.{Accepted}
-use Rattle.image_layout.specs.Call.{checkedOf}
+use Rattle.image_layout.specs.inner.Checked.{checkedOf}
 use Rattle.image_layout.proofs.Calls.{Passed, accepted}
 use Rattle.bc7_image.proofs.Calls.{refused, decoded, grid-0}
 use Rattle.bc7_image.proofs.answer.Statement.{statement}

@@ -1,6 +1,6 @@
 use native.Mathlib.Omega.{arith}
 use borrow.Author.Needs.{needs}
-use Rattle.image_layout.specs.Geometry.{imageGrid}
+use Rattle.image_layout.specs.inner.Checked.{imageGrid}
 use Rattle.image_layout.proofs.Calls.{sound}
 use Rattle.image_layout.proofs.grid_of.Statement.{statement}
 use Rattle.image_layout.proofs.grid_of.Tie as tie

@@ -1,4 +1,4 @@
--- A flat picture by rows: h rows of blocks down, each of as many rows of texels as a block has.
+-- A flat picture by rows: each row of blocks has as many rows of texels as a block has.
 -- Assumes nothing.
 use Prim.Native.Nat.{_/_}
 use Rattle.picture_regions.specs.inner.Regions.{Picture}

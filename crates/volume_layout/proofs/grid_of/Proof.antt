@@ -1,6 +1,6 @@
 use native.Mathlib.Omega.{arith}
 use borrow.Author.Needs.{needs}
-use Rattle.volume_layout.specs.Call.{volumeGrid}
+use Rattle.volume_layout.specs.inner.Checked.{volumeGrid}
 use Rattle.volume_layout.proofs.Sizes.{sound}
 use Rattle.volume_layout.specs.inner.Parts.{SoundGrid}
 use Rattle.volume_layout.proofs.grid_of.Statement.{statement}
