@@ -11,10 +11,7 @@ use Rattle.block_fault.specs.Bits.{modeAt, isVoid, isReserved, headerAt}
 use Rattle.footprint.specs.Footprint.{isVolume}
 use Rattle.void_extent.specs.Layout.{badVoidExtent, hdrVoidExtent}
 use Rattle.block_fault.specs.Faults.{voidReasons, modeReasons, faultOf}
-
--- what makes a block HDR: bit 9 of a void extent, or a mode
-unfoldable pub hdrBlock : ℕ → ℕ → Bool
-hdrBlock fp B = pick (isVoid (modeAt fp B)) (hdrVoidExtent B) (someHdr (headerAt fp B))
+use Rattle.block_fault.specs.Told.{hdrBlock}
 
 void-both : (bad h : Bool) → _≡_ {A = ℕ} (pick bad 12 0) 0 → _≡_ {A = ℕ} (pick bad 12 (pick h 13 0)) (pick h 13 0)
 void-both true h e = absurd (omega arith)
