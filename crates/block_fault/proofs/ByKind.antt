@@ -1,10 +1,10 @@
 -- A block without fault where HDR is taken has at most 13 or 20 where it is not: exactly where it is HDR.
 -- Assumes nothing.
 use mathlib.Core.Path.{_≡_, refl}
-use mathlib.Core.Bool.{Bool, true, false, not}
+use mathlib.Core.Bool.{Bool, true, false}
 use Prim.Native.Nat.{ℕ}
 use native.Mathlib.Omega.{arith}
-use Rattle.laws.specs.Choice.{pick, both}
+use Rattle.laws.specs.Choice.{pick}
 use Rattle.laws.specs.Reasons.{firstOf}
 use Rattle.block_header.specs.Reasons.{gridTooLarge, tooManyWeights, weightBitsOutside, fourWithTwoPlanes, tooManyEndpoints, tooFewEndpointBits, someHdr, hdrRefused}
 use Rattle.block_fault.specs.Bits.{modeAt, isVoid, isReserved, headerAt}

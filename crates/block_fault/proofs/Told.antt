@@ -2,13 +2,12 @@
 -- Assumes nothing.
 use mathlib.Core.Path.{_≡_, refl}
 use mathlib.Core.Logic.{_↔_}
-use mathlib.Core.Bool.{Bool, true, false, not}
-use mathlib.Core.List.{List}
+use mathlib.Core.Bool.{Bool, true, false}
 use Prim.Native.Nat.{ℕ, _<_}
 use native.Mathlib.Omega.{arith}
 use lib.Dec.{T, eqb}
-use Rattle.laws.specs.Choice.{pick, both}
-use Rattle.laws.specs.Reasons.{Reason, firstOf, reasonAt}
+use Rattle.laws.specs.Choice.{pick}
+use Rattle.laws.specs.Reasons.{firstOf, reasonAt}
 use Rattle.laws.proofs.Reasons as reasons
 use Rattle.laws.proofs.Reasons.{numbered, none-first, first-none, none-at, at-none}
 use Rattle.footprint.specs.Footprint.{isVolume}
@@ -36,9 +35,10 @@ module _ (hdr : Bool) (fp B : ℕ) where
     go false = tt
 
   none-told : (faultOf hdr fp B ≡ 0) ↔ ((i : ℕ) → reasonAt (faultReasons hdr fp B) i .holds ≡ false)
-  none-told =
-      (λ e. none-at (faultReasons hdr fp B) (first-none (faultReasons hdr fp B) all-numbered (rw is-first at e)),
-      λ h. rw is-first (none-first (faultReasons hdr fp B) (at-none (faultReasons hdr fp B) (λ i l. h i))))
+  none-told = (
+    λ e. none-at (faultReasons hdr fp B) (first-none (faultReasons hdr fp B) all-numbered (rw is-first at e)),
+    λ h. rw is-first (none-first (faultReasons hdr fp B) (at-none (faultReasons hdr fp B) (λ i l. h i))),
+  )
 
   first-told : (i : ℕ) → reasonAt (faultReasons hdr fp B) i .holds ≡ true → ((j : ℕ) → j < i → reasonAt (faultReasons hdr fp B) j .holds ≡ false)
       → faultOf hdr fp B ≡ reasonAt (faultReasons hdr fp B) i .told

@@ -2,7 +2,7 @@
 -- Assumes nothing.
 use mathlib.Core.Path.{_≡_, refl, sym, ap, _∙_, subst}
 use mathlib.Core.Bool.{Bool, true, false}
-use mathlib.Core.List.{List, [], _∷_}
+use mathlib.Core.List.{List}
 use Prim.Native.Nat.{ℕ, zero, suc, _+_, _-_, _*_, _/_, _%_, _^_, _≤_, _<_, min}
 use native.Mathlib.Nat.{not-suc-le-zero}
 use native.Mathlib.Decide.{decLt}
@@ -18,7 +18,7 @@ use Rattle.laws.proofs.Filling.{getD-tab}
 use Rattle.encoding.specs.declared.Encoding.{Encoding}
 use Rattle.encoding.specs.declared.Encoding.the-variants.{Bits, Trits, Quints}
 use Rattle.encoding.specs.Encoding.{radix, codeBits, sequenceBits}
-use Rattle.quantization.specs.Ranges.{encodings, bitCounts, encodingAt, bitsAt, mostAt, ReachPrinted, rangeBits, largestTo, endpointRange, Largest, LargestChosen}
+use Rattle.quantization.specs.Ranges.{encodings, bitCounts, encodingAt, bitsAt, mostAt, ReachPrinted, rangeBits, largestTo, endpointRange, LargestChosen}
 use Rattle.quantization.specs.inner.CodeBits.{codesOf}
 
 -- two functions whose tables of n values are the same, which antt computes, agree below n

@@ -42,8 +42,8 @@ unfolding blockNumbers tab shownChannel channel errorTexel
 block-order = record {
   size = λ fp kind B. length-tab (λ k. shownOf kind (blockChannel fp kind B k)) (4 * texelsOf fp);
   number-at = λ fp kind B x y z c hx hy hz hc.
-    getD-tab (λ k. shownOf kind (blockChannel fp kind B k)) (4 * texelsOf fp) (4 * ((z * heightOf fp + y) * widthOf fp + x) + c) 0 (inside fp x y z c hx hy hz hc)
-    ∙ number-at fp kind B x y z c hx hy hc;
+      getD-tab (λ k. shownOf kind (blockChannel fp kind B k)) (4 * texelsOf fp) (4 * ((z * heightOf fp + y) * widthOf fp + x) + c) 0 (inside fp x y z c hx hy hz hc)
+      ∙ number-at fp kind B x y z c hx hy hc;
   magenta-words = refl;
   magenta-bytes = refl;
   error-halves = refl;

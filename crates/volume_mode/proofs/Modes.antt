@@ -6,7 +6,7 @@ use Prim.Native.Nat.{ℕ, zero, suc, _+_, _-_, _*_, _%_, _≤_, _<_}
 use native.Mathlib.Nat.{mod-lt}
 use native.Mathlib.Omega.{arith}
 use lib.Dec.{T, leb, ltb, eqb, leb→le, ltb→lt, eqb→eq}
-use borrow.Author.Tests.{lt-ltb, le-ltb, ltb-true, ltb-false}
+use borrow.Author.Tests.{lt-ltb, le-ltb}
 use Rattle.laws.specs.Choice.{pick, both, either, all}
 use Rattle.laws.proofs.Computed.{both-left, both-right, each}
 use Rattle.block_mode.specs.declared.WeightGrid.{WeightGrid}
@@ -198,6 +198,13 @@ any-limits false m g e = flat.any-limits m g e
 pub no-mode : (volume : Bool) (g : WeightGrid) → blockModeOf g ≡ NoMode → (m : ℕ) → m < 2048 → blockModeIn volume m ≡ Grid g → ⊥
 no-mode volume g n m h e = let f = mode-found volume m h g e in never (f .mode) (sym n ∙ f .is)
 
+-- and where no mode is this grid, none are found
+not-found : (g : WeightGrid) → ((m : ℕ) → m < 2048 → blockModeIn (isDeep g) m ≡ Grid g → ⊥) → blockModeOf g ≡ NoMode
+not-found g h = go (blockModeOf g) refl where
+  go : (x : FoundMode) → blockModeOf g ≡ x → x ≡ NoMode
+  go NoMode e = refl
+  go (Mode m) e = let f = found-mode g m e in absurd (h m (f .0) (f .1))
+
 -- ---- grids with two modes
 
 -- the axis of six weights, and the mode that is not written: that axis in bits 6..5, bits 8..7 set
@@ -271,11 +278,11 @@ module _ (g : WeightGrid) (double : isDouble g ≡ true) where
       let r : g .range < 6 = ltb→lt (g .range) 6 (both-left (ltb (g .range) 6) (eqb (g .planes) 1) low) in
       let p : g .planes ≡ 1 = eqb→eq (g .planes) 1 (both-right (ltb (g .range) 6) (eqb (g .planes) 1) low) in
       by r p (isTurn (g .width) (g .height) (g .depth)) refl (isTurn (g .height) (g .width) (g .depth)) refl (both-right (isLow g) turns parts) where
-    by : g .range < 6 → g .planes ≡ 1 → (a : Bool) → isTurn (g .width) (g .height) (g .depth) ≡ a → (b : Bool) → isTurn (g .height) (g .width) (g .depth) ≡ b
-        → T (either a (either b (isTurn (g .depth) (g .width) (g .height)))) → T (paired (volumeBits g) g)
-    by r p true e b f t = let k = is-turn _ _ _ (subst (λ (b : Bool). T b) (sym e) tt) in turned g 6 2 2 wide (k .0) (k .1 .0) (k .1 .1) r p
-    by r p false e true f t = let k = is-turn _ _ _ (subst (λ (b : Bool). T b) (sym f) tt) in turned g 2 6 2 high (k .1 .0) (k .0) (k .1 .1) r p
-    by r p false e false f t = let k = is-turn _ _ _ t in turned g 2 2 6 deep (k .1 .0) (k .1 .1) (k .0) r p
+        by : g .range < 6 → g .planes ≡ 1 → (a : Bool) → isTurn (g .width) (g .height) (g .depth) ≡ a → (b : Bool) → isTurn (g .height) (g .width) (g .depth) ≡ b
+            → T (either a (either b (isTurn (g .depth) (g .width) (g .height)))) → T (paired (volumeBits g) g)
+        by r p true e b f t = let k = is-turn _ _ _ (subst (λ (b : Bool). T b) (sym e) tt) in turned g 6 2 2 wide (k .0) (k .1 .0) (k .1 .1) r p
+        by r p false e true f t = let k = is-turn _ _ _ (subst (λ (b : Bool). T b) (sym f) tt) in turned g 2 6 2 high (k .1 .0) (k .0) (k .1 .1) r p
+        by r p false e false f t = let k = is-turn _ _ _ t in turned g 2 2 6 deep (k .1 .0) (k .1 .1) (k .0) r p
 
   two-of : (x : FoundMode) → volumeBits g ≡ x → T (paired x g) → TwoModes g
   unfolding paired oneOfTwo isMode blockModeIn blockModeOf
@@ -298,13 +305,13 @@ module _ (g : WeightGrid) (double : isDouble g ≡ true) where
         smaller-is = first;
         larger-is = second;
         no-other = λ k h q other.
-          let u : T (either (not (isDouble g)) (either (isMode (volumeBits g) k) (eqb k m))) = rw q at (each (λ m. oneOfTwo (volumeMode m) m) 2048 test-two k h) in
-          let v : T (either (isMode (volumeBits g) k) (eqb k m)) = either-right (not (isDouble g)) (either (isMode (volumeBits g) k) (eqb k m)) u (ap not double) in
-          eqb→eq k m (either-right (isMode (volumeBits g) k) (eqb k m) v (ap (λ (x : FoundMode). isMode x k) e ∙ not-found k (eqb n k) refl other));
+            let u : T (either (not (isDouble g)) (either (isMode (volumeBits g) k) (eqb k m))) = rw q at (each (λ m. oneOfTwo (volumeMode m) m) 2048 test-two k h) in
+            let v : T (either (isMode (volumeBits g) k) (eqb k m)) = either-right (not (isDouble g)) (either (isMode (volumeBits g) k) (eqb k m)) u (ap not double) in
+            eqb→eq k m (either-right (isMode (volumeBits g) k) (eqb k m) v (ap (λ (x : FoundMode). isMode x k) e ∙ apart k (eqb n k) refl other));
       } where
-    not-found : (k : ℕ) → (b : Bool) → eqb n k ≡ b → (k ≡ n → ⊥) → eqb n k ≡ false
-    not-found k true q other = absurd (other (sym (eqb→eq n k (subst (λ (b : Bool). T b) (sym q) tt))))
-    not-found k false q other = q
+        apart : (k : ℕ) → (b : Bool) → eqb n k ≡ b → (k ≡ n → ⊥) → eqb n k ≡ false
+        apart k true q other = absurd (other (sym (eqb→eq n k (subst (λ (b : Bool). T b) (sym q) tt))))
+        apart k false q other = q
 
   two-modes : TwoModes g
   two-modes = two-of (volumeBits g) refl pairing
@@ -319,4 +326,5 @@ least = record {
   only-mode = λ volume m h g e n. let f = mode-found volume m h g e in f .is ∙ ap Mode (f .only n);
   two-modes = two-modes;
   no-mode = no-mode;
+  not-found = not-found;
 }

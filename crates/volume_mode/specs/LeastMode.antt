@@ -35,5 +35,7 @@ pub record LeastMode : Type 0 where
   pub only-mode : (volume : Bool) (m : ℕ) → m < 2048 → (g : WeightGrid) → blockModeIn volume m ≡ Grid g → both volume (isDouble g) ≡ false → blockModeOf g ≡ Mode m
   -- where it is one of those, there are two
   pub two-modes : (g : WeightGrid) → isDouble g ≡ true → TwoModes g
-  -- where none are found, no mode is this grid
+  -- where none are found, no mode is this grid,
   pub no-mode : (volume : Bool) (g : WeightGrid) → blockModeOf g ≡ NoMode → (m : ℕ) → m < 2048 → blockModeIn volume m ≡ Grid g → ⊥
+  -- and where no mode is this grid, none are found
+  pub not-found : (g : WeightGrid) → ((m : ℕ) → m < 2048 → blockModeIn (isDeep g) m ≡ Grid g → ⊥) → blockModeOf g ≡ NoMode
