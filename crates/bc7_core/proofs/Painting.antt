@@ -11,8 +11,8 @@ use lib.Dec.{eqb}
 use lib.ListN.{length, getD, set}
 use lib.Seq.{getD-set-same, getD-set-other}
 use Rattle.laws.specs.Choice.{pick}
-use Rattle.laws.specs.Table.{tab, putFour}
-use Rattle.laws.specs.inner.Filled.{Filled}
+use Rattle.laws.specs.Table.{tab}
+use Rattle.laws.specs.inner.Filled.{Filled, putFour}
 use Rattle.laws.proofs.Filling.{filled-four, filled-all, length-four, tab-ext}
 use Rattle.bc7_layout.specs.Modes.{subsets, secondaryBits}
 use Rattle.bc7_layout.specs.Partitions.{subsetOf}

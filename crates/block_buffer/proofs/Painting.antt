@@ -8,7 +8,7 @@ use native.Mathlib.Decide.{decLt}
 use native.Mathlib.Omega.{arith}
 use lib.Arith.{digits-div, digits-mod}
 use lib.ListN.{length, getD}
-use Rattle.laws.specs.Table.{putFour}
+use Rattle.laws.specs.inner.Filled.{putFour}
 use Rattle.laws.proofs.Filling.{Replacing, replacing-start, replacing-four, replacing-done, replaced-ext}
 use Rattle.interpolation.specs.declared.Texel.{Texel}
 use Rattle.block_buffer.specs.inner.Painted.{fourOf, texelNumber, painted}

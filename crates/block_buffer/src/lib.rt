@@ -3,7 +3,7 @@ use interpolation::Texel;
 ghost use mathlib.Core.Path.{_≡_};
 ghost use Prim.Native.Nat.{ℕ, _+_, _*_, _≤_};
 ghost use lib.ListN.{length};
-ghost use Rattle.laws.specs.Table.{putFour};
+ghost use Rattle.laws.specs.inner.Filled.{putFour};
 ghost use Rattle.block_buffer.specs.inner.Painted.{painted};
 
 // Where the numbers of the texel in column x of row y begin, in rows of `width` texels.

@@ -1,20 +1,17 @@
 -- A block without fault where HDR is taken has at most 13 or 20 where it is not: exactly where it is HDR.
 -- Assumes nothing.
 use mathlib.Core.Path.{_≡_, refl}
-use mathlib.Core.Bool.{Bool, true, false, not}
+use mathlib.Core.Bool.{Bool, true, false}
 use Prim.Native.Nat.{ℕ}
 use native.Mathlib.Omega.{arith}
-use Rattle.laws.specs.Choice.{pick, both}
+use Rattle.laws.specs.Choice.{pick}
 use Rattle.laws.specs.Reasons.{firstOf}
 use Rattle.block_header.specs.Reasons.{gridTooLarge, tooManyWeights, weightBitsOutside, fourWithTwoPlanes, tooManyEndpoints, tooFewEndpointBits, someHdr, hdrRefused}
 use Rattle.block_fault.specs.Bits.{modeAt, isVoid, isReserved, headerAt}
 use Rattle.footprint.specs.Footprint.{isVolume}
 use Rattle.void_extent.specs.Layout.{badVoidExtent, hdrVoidExtent}
 use Rattle.block_fault.specs.Faults.{voidReasons, modeReasons, faultOf}
-
--- what makes a block HDR: bit 9 of a void extent, or a mode
-unfoldable pub hdrBlock : ℕ → ℕ → Bool
-hdrBlock fp B = pick (isVoid (modeAt fp B)) (hdrVoidExtent B) (someHdr (headerAt fp B))
+use Rattle.block_fault.specs.Told.{hdrBlock}
 
 void-both : (bad h : Bool) → _≡_ {A = ℕ} (pick bad 12 0) 0 → _≡_ {A = ℕ} (pick bad 12 (pick h 13 0)) (pick h 13 0)
 void-both true h e = absurd (omega arith)

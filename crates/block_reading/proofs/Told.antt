@@ -11,21 +11,12 @@ use Rattle.laws.specs.Choice.{pick, both}
 use Rattle.laws.specs.Reasons.{Reason, when, firstOf}
 use Rattle.laws.proofs.Computed.{both-left, both-right}
 use Rattle.laws.proofs.Reasons.{numbered, none-first, first-none, none-at, at-none, first-told}
-use Rattle.block_fault.specs.Bits.{modeAt, isVoid}
-use Rattle.block_fault.specs.Faults.{voidReasons, modeReasons, faultOf}
+use Rattle.block_fault.specs.Told.{faultReasons}
+use Rattle.block_fault.proofs.Told.{is-first, all-numbered}
 use Rattle.block_reading.specs.declared.Reading.{Reading}
 use Rattle.block_reading.specs.declared.Reading.the-variants.{Ordinary, Strict}
 use Rattle.block_reading.specs.Faults.{isCanonical, strictFault, faultIn}
-use Rattle.block_reading.specs.Told.{reasonsOf, reasonsIn, FaultTold}
-
--- the first of one of two lists
-first-pick : (b : Bool) (xs ys : List Reason) → firstOf (pick b xs ys) ≡ pick b (firstOf xs) (firstOf ys)
-first-pick true xs ys = refl
-first-pick false xs ys = refl
-
-numbered-pick : (b : Bool) (xs ys : List Reason) → T (numbered xs) → T (numbered ys) → T (numbered (pick b xs ys))
-numbered-pick true xs ys p q = p
-numbered-pick false xs ys p q = q
+use Rattle.block_reading.specs.Told.{reasonsIn, FaultTold}
 
 -- one reason more, behind the others
 last-first : (rs : List Reason) → T (numbered rs) → (b : Bool) → firstOf (rs ++ (when (not b) 21 ∷ [])) ≡ pick (eqb (firstOf rs) 0) (pick b 0 21) (firstOf rs)
@@ -48,24 +39,16 @@ numbered-last (r ∷ rs) t b = go (ltb 0 (r .told)) (both-left (ltb 0 (r .told))
 
 -- ---- a block's list
 
-numbered-of : (hdr : Bool) (fp B : ℕ) → T (numbered (reasonsOf hdr fp B))
-unfolding voidReasons modeReasons
-numbered-of hdr fp B = numbered-pick (isVoid (modeAt fp B)) (voidReasons hdr fp B) (modeReasons hdr fp B) tt tt
-
-first-of : (hdr : Bool) (fp B : ℕ) → firstOf (reasonsOf hdr fp B) ≡ faultOf hdr fp B
-unfolding faultOf
-first-of hdr fp B = first-pick (isVoid (modeAt fp B)) (voidReasons hdr fp B) (modeReasons hdr fp B)
-
 numbered-in : (reading : Reading) (hdr : Bool) (fp B : ℕ) → T (numbered (reasonsIn reading hdr fp B))
-numbered-in Ordinary hdr fp B = numbered-of hdr fp B
-numbered-in Strict hdr fp B = numbered-last (reasonsOf hdr fp B) (numbered-of hdr fp B) (not (isCanonical fp B))
+numbered-in Ordinary hdr fp B = all-numbered hdr fp B
+numbered-in Strict hdr fp B = numbered-last (faultReasons hdr fp B) (all-numbered hdr fp B) (not (isCanonical fp B))
 
 first-in : (reading : Reading) (hdr : Bool) (fp B : ℕ) → firstOf (reasonsIn reading hdr fp B) ≡ faultIn reading hdr fp B
 unfolding strictFault
-first-in Ordinary hdr fp B = first-of hdr fp B
+first-in Ordinary hdr fp B = sym (is-first hdr fp B)
 first-in Strict hdr fp B =
-    last-first (reasonsOf hdr fp B) (numbered-of hdr fp B) (isCanonical fp B)
-    ∙ ap (λ (n : ℕ). pick (eqb n 0) (pick (isCanonical fp B) 0 21) n) (first-of hdr fp B)
+    last-first (faultReasons hdr fp B) (all-numbered hdr fp B) (isCanonical fp B)
+    ∙ ap (λ (n : ℕ). pick (eqb n 0) (pick (isCanonical fp B) 0 21) n) (sym (is-first hdr fp B))
 
 pub fault-told : FaultTold
 fault-told = record {

@@ -6,22 +6,16 @@ use mathlib.Core.Logic.{_↔_}
 use mathlib.Core.Bool.{Bool, true, false, not}
 use mathlib.Core.List.{List, [], _∷_, _++_}
 use Prim.Native.Nat.{ℕ, _<_}
-use Rattle.laws.specs.Choice.{pick}
 use Rattle.laws.specs.Reasons.{Reason, when, reasonAt}
-use Rattle.block_fault.specs.Bits.{modeAt, isVoid}
-use Rattle.block_fault.specs.Faults.{voidReasons, modeReasons}
+use Rattle.block_fault.specs.Told.{faultReasons}
 use Rattle.block_reading.specs.declared.Reading.{Reading}
 use Rattle.block_reading.specs.declared.Reading.the-variants.{Ordinary, Strict}
 use Rattle.block_reading.specs.Faults.{isCanonical, faultIn}
 
--- 01's list of a block: "12 and 13 for solid blocks, 14 to 20 for the others", these behind 11
-abbrev pub reasonsOf : Bool → ℕ → ℕ → List Reason
-reasonsOf hdr fp B = pick (isVoid (modeAt fp B)) (voidReasons hdr fp B) (modeReasons hdr fp B)
-
 -- a reading's list: the strict one has 21 behind 01's
 abbrev pub reasonsIn : Reading → Bool → ℕ → ℕ → List Reason
-reasonsIn Ordinary hdr fp B = reasonsOf hdr fp B
-reasonsIn Strict hdr fp B = reasonsOf hdr fp B ++ (when (not (isCanonical fp B)) 21 ∷ [])
+reasonsIn Ordinary hdr fp B = faultReasons hdr fp B
+reasonsIn Strict hdr fp B = faultReasons hdr fp B ++ (when (not (isCanonical fp B)) 21 ∷ [])
 
 pub record FaultTold : Type 0 where
   -- there is none exactly when no row holds

@@ -9,9 +9,9 @@ use lib.IntN.{ℤ, pos, negsuc, _-ℤ_}
 use borrow.Author.Tests.{lt-ltb, ltb-true, ltb-false}
 use Rattle.laws.specs.Choice.{pick}
 use Rattle.endpoint_arithmetic.specs.Signed.{baseOf, offsetOf, clamped}
-use Rattle.endpoint_arithmetic.specs.inner.Bounds.{Within}
+use Rattle.endpoint_arithmetic.specs.Bounds.{Within, LeftWithin}
 
--- 01: "transfers give an offset from -32 to 31"
+-- 01: "Transfers give an offset from -32 to 31"
 pub offset-within : (a : ℕ) → Within 32 31 (offsetOf a)
 unfolding offsetOf
 offset-within a = go (a / 2 % 64) (omega arith) (ltb (a / 2 % 64) 32) refl where
@@ -27,3 +27,6 @@ pub clamped-le : (z : ℤ) → clamped z ≤ 255
 unfolding clamped
 clamped-le (pos n) = omega arith
 clamped-le (negsuc n) = omega arith
+
+pub left-within : LeftWithin
+left-within = record { offset = offset-within; base = base-le; clamp = clamped-le }

@@ -12,7 +12,7 @@ use mir.Syntax.{Width, w8, w32}
 use mir.Val.{SFits, hbits, toZ, ofZ}
 use mir.ValLaws.{toZ-ofZ}
 use Rattle.endpoint_arithmetic.specs.Signed.{clamped}
-use Rattle.endpoint_arithmetic.specs.inner.Bounds.{Within, Near}
+use Rattle.endpoint_arithmetic.specs.Bounds.{Within, Near}
 
 fits′ : (lo hi m : ℕ) (z : ℤ) → Near lo hi z → lo ≤ m → hi < m → mag z < m
 fits′ lo hi m (pos n) h l u = omega arith

@@ -1,3 +1,3 @@
 pub mod Signed
 pub mod Pair
-pub mod inner
+pub mod Bounds

@@ -4,7 +4,7 @@ ghost use Prim.Native.Nat.{_*_, _/_, _<_};
 ghost use lib.IntN.{pos, _+ℤ_};
 ghost use lib.Signed.{ltZ};
 ghost use Rattle.endpoint_arithmetic.specs.Signed.{bitTransfer, raised, contracted, clamped, plainEnd, blueEnd};
-ghost use Rattle.endpoint_arithmetic.specs.inner.Bounds.{Within};
+ghost use Rattle.endpoint_arithmetic.specs.Bounds.{Within};
 ghost use Rattle.endpoint_arithmetic.specs.Pair.{
   zeroPair,
   luminancePair,

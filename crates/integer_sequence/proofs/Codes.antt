@@ -15,7 +15,7 @@ use Rattle.encoding.specs.declared.Encoding.the-variants.{Bits, Trits, Quints}
 use Rattle.laws.specs.Choice.{both, all}
 use Rattle.laws.proofs.Computed.{both-left, both-right, each}
 use Rattle.encoding.specs.Encoding.{groupSize, radix, codeBits}
-use Rattle.integer_sequence.specs.Codes.{digit}
+use Rattle.integer_sequence.specs.Codes.{digit, DigitsInRange}
 use Rattle.integer_sequence.specs.Writing.{codeOf, begins}
 
 -- p holds of all the lists of n digits below r
@@ -98,7 +98,7 @@ quints : T (all (in-range Quints) 128)
 unfolding in-range
 quints = tt
 
-pub digit-lt : (κ : Encoding) (t k : ℕ) → t < 2 ^ codeBits κ (groupSize κ) → k < groupSize κ → digit κ t k < radix κ
+pub digit-lt : DigitsInRange
 unfolding digit in-range
 digit-lt Bits t k h l = omega arith
 digit-lt Trits t k h l = ltb→lt (digit Trits t k) 3 (each (λ k. ltb (digit Trits t k) 3) 5 (each (in-range Trits) 256 trits t h) k l)

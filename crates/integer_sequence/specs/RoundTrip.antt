@@ -1,4 +1,4 @@
--- What was packed is read back: "These packed numbers are the ones we trust least" has its theorem, over every range and every list of numbers.
+-- What was packed is read back. 01, "How strict each statement must be": "Packing facts are shown once over the digit count and bit width."
 -- Assumes nothing.
 use mathlib.Core.Path.{_≡_}
 use mathlib.Core.List.{List}

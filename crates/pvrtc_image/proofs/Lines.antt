@@ -12,7 +12,7 @@ use lib.Pow.{pow-pos}
 use lib.ListN.{length, getD}
 use borrow.Author.Tests.{lt-ltb, le-ltb}
 use Rattle.laws.specs.Choice.{pick, both}
-use Rattle.laws.specs.Table.{putFour}
+use Rattle.laws.specs.inner.Filled.{putFour}
 use Rattle.laws.proofs.Filling.{filled-four, length-four}
 use Rattle.bits.specs.Field.{field}
 use Rattle.pvrtc_texel.specs.Word.{colourA, colourB, modulationWeight, punched}

@@ -13,7 +13,7 @@ use Rattle.laws.specs.Table.{tab}
 use Rattle.laws.proofs.Computed.{both-left, both-right, each}
 use Rattle.quantization.specs.declared.Rule.{Rule}
 use Rattle.quantization.specs.Ranges.{mostAt}
-use Rattle.quantization.specs.Unquantise.{isEndpoint, isWeight, unquantEndpoint, unquantWeight}
+use Rattle.quantization.specs.Unquantise.{isEndpoint, isWeight, unquantEndpoint, unquantWeight, LevelsWithin}
 use Rattle.quantization.specs.inner.Products.{byRule, Right}
 use Rattle.quantization.specs.inner.Words.{byWords, RightWords}
 use Rattle.quantization.proofs.Ranges.{same-below, most-le, weight-most-le}
@@ -51,6 +51,9 @@ weight-le k v = go (isWeight k v) refl where
       leb→le (unquantWeight k v) 64 (each (λ v. leb (unquantWeight k v) 64) 256
       (each (λ k. all (λ v. leb (unquantWeight k v) 64) 256) 12 weight-test k (omega arith)) v (omega (arith, most-le k)))
   go false e = rw e (omega arith)
+
+pub levels-within : LevelsWithin
+levels-within = record { endpoints = endpoint-le; weights = weight-le }
 
 -- ---- a rule is right where it gives the table of the range's levels, which antt computes
 

@@ -2,7 +2,7 @@
 -- Assumes nothing.
 use mathlib.Core.Path.{_≡_, refl, sym, ap, _∙_, subst}
 use mathlib.Core.Bool.{Bool, true, false}
-use mathlib.Core.List.{List, [], _∷_}
+use mathlib.Core.List.{List}
 use Prim.Native.Nat.{ℕ, zero, suc, _+_, _-_, _*_, _/_, _%_, _^_, _≤_, _<_, min}
 use native.Mathlib.Nat.{not-suc-le-zero}
 use native.Mathlib.Decide.{decLt}
@@ -18,7 +18,7 @@ use Rattle.laws.proofs.Filling.{getD-tab}
 use Rattle.encoding.specs.declared.Encoding.{Encoding}
 use Rattle.encoding.specs.declared.Encoding.the-variants.{Bits, Trits, Quints}
 use Rattle.encoding.specs.Encoding.{radix, codeBits, sequenceBits}
-use Rattle.quantization.specs.Ranges.{encodings, bitCounts, encodingAt, bitsAt, mostAt, rangeBits, largestTo, endpointRange, Largest}
+use Rattle.quantization.specs.Ranges.{encodings, bitCounts, encodingAt, bitsAt, mostAt, ReachPrinted, rangeBits, largestTo, endpointRange, LargestChosen}
 use Rattle.quantization.specs.inner.CodeBits.{codesOf}
 
 -- two functions whose tables of n values are the same, which antt computes, agree below n
@@ -26,8 +26,7 @@ pub same-below : {A : Type 0} (f g : ℕ → A) (n : ℕ) (d : A) → tab f n �
 same-below {A} f g n d e k h = sym (getD-tab f n k d h) ∙ ap (λ (l : List A). getD l k d) e ∙ getD-tab g n k d h
 
 -- the ranges reach what 01 prints
-pub printed : tab mostAt 21
-    ≡ 1 ∷ 2 ∷ 3 ∷ 4 ∷ 5 ∷ 7 ∷ 9 ∷ 11 ∷ 15 ∷ 19 ∷ 23 ∷ 31 ∷ 39 ∷ 47 ∷ 63 ∷ 79 ∷ 95 ∷ 127 ∷ 159 ∷ 191 ∷ 255 ∷ []
+pub printed : ReachPrinted
 unfolding tab mostAt encodingAt bitsAt
 printed = refl
 
@@ -200,7 +199,7 @@ pub smallest-bits : (n : ℕ) → rangeBits 4 n ≡ (13 * n + 4) / 5
 unfolding rangeBits encodingAt bitsAt sequenceBits
 smallest-bits n = omega arith
 
-pub endpoint-range-largest : (n left : ℕ) → (13 * n + 4) / 5 ≤ left → Largest n left (endpointRange n left)
+pub endpoint-range-largest : LargestChosen
 unfolding endpointRange
 endpoint-range-largest n left h =
     let r = largest-to n left 16 (omega (arith, smallest-bits n)) in

@@ -1,11 +1,13 @@
 -- The quantisation ranges, and the choice of the endpoint range.
 -- 01, "Bits of a block" (weight ranges) and "Packed numbers" (endpoint ranges).
 -- Assumes nothing.
-use Prim.Native.Nat.{ℕ, zero, suc, _+_, _-_, _*_, _^_, _≤_, _<_}
+use Prim.Native.Nat.{ℕ, zero, suc, _+_, _-_, _*_, _/_, _^_, _≤_, _<_}
+use mathlib.Core.Path.{_≡_}
 use mathlib.Core.List.{List, [], _∷_}
 use lib.Dec.{leb}
 use lib.ListN.{getD}
 use Rattle.laws.specs.Choice.{pick}
+use Rattle.laws.specs.Table.{tab}
 use Rattle.encoding.specs.declared.Encoding.{Encoding}
 use Rattle.encoding.specs.declared.Encoding.the-variants.{Bits, Trits, Quints}
 use Rattle.encoding.specs.Encoding.{radix, sequenceBits}
@@ -34,6 +36,12 @@ bitsAt k = getD bitCounts k 0
 unfoldable pub mostAt : ℕ → ℕ
 mostAt k = radix (encodingAt k) * 2 ^ bitsAt k - 1
 
+-- the twenty-one reach what 01 prints. Theorem: proofs/Ranges.antt, `printed`.
+abbrev pub ReachPrinted : Type 0
+ReachPrinted =
+    tab mostAt 21
+    ≡ 1 ∷ 2 ∷ 3 ∷ 4 ∷ 5 ∷ 7 ∷ 9 ∷ 11 ∷ 15 ∷ 19 ∷ 23 ∷ 31 ∷ 39 ∷ 47 ∷ 63 ∷ 79 ∷ 95 ∷ 127 ∷ 159 ∷ 191 ∷ 255 ∷ []
+
 -- the bits that n numbers of the range take
 unfoldable pub rangeBits : ℕ → ℕ → ℕ
 rangeBits k n = sequenceBits (encodingAt k) (bitsAt k) n
@@ -49,9 +57,14 @@ unfoldable pub endpointRange : ℕ → ℕ → ℕ
 unfolding largestTo
 endpointRange n left = largestTo n left 16
 
--- What this comes to, without the search (theorem: proofs/Ranges.antt, `endpoint-range-largest`).
--- r is the largest of the endpoint ranges of which n numbers take at most the bits left: it fits, and no larger one does
+-- What this comes to, without the search: r is the largest of the endpoint ranges of which n numbers take at most the bits left. It fits, and no
+-- larger one does
 pub record Largest (n left r : ℕ) : Type 0 where
   pub within : (4 ≤ r) × (r ≤ 20)
   pub fits : rangeBits r n ≤ left
   pub above : (k : ℕ) → r < k → k ≤ 20 → left < rangeBits k n
+
+-- it is chosen where 01's fault 19 does not hold, "endpoint bits below ceil(13C/5), C the endpoint numbers". Theorem: proofs/Ranges.antt,
+-- `endpoint-range-largest`.
+abbrev pub LargestChosen : Type 0
+LargestChosen = (n left : ℕ) → (13 * n + 4) / 5 ≤ left → Largest n left (endpointRange n left)

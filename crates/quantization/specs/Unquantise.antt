@@ -1,6 +1,6 @@
 -- 000, "Endpoint Unquantization" and "Weight Unquantization": from a stored number to its level. 01 says widen.
 -- Assumes nothing.
-use Prim.Native.Nat.{ℕ, zero, suc, _+_, _-_, _*_, _/_, _%_, _^_}
+use Prim.Native.Nat.{ℕ, zero, suc, _+_, _-_, _*_, _/_, _%_, _^_, _≤_}
 use mathlib.Core.Bool.{Bool}
 use mathlib.Core.List.{List, [], _∷_}
 use lib.Bits.{bitAnd, bitOr, bitXor}
@@ -140,3 +140,8 @@ isWeight k v = both (leb k 11) (leb v (mostAt k))
 unfoldable pub unquantWeight : ℕ → ℕ → ℕ
 unfolding weightLevel mostAt encodingAt bitsAt
 unquantWeight k v = pick (isWeight k v) (expanded (weightLevel (encodingAt k) (bitsAt k) v)) 0
+
+-- 01: "Each stored endpoint widens into 0..255, each weight into 0..64". Theorem: proofs/Levels.antt, `levels-within`.
+pub record LevelsWithin : Type 0 where
+  pub endpoints : (k v : ℕ) → unquantEndpoint k v ≤ 255
+  pub weights : (k v : ℕ) → unquantWeight k v ≤ 64

@@ -26,7 +26,8 @@ use Rattle.block_mode.specs.declared.BlockMode.the-variants.{Grid}
 use Rattle.volume_mode.specs.Either.{blockModeIn}
 use Rattle.void_extent.specs.Layout.{colourAt, extentAt, hdrVoidExtent}
 use Rattle.block_fault.specs.Faults.{faultOf}
-use Rattle.block_fault.proofs.ByKind.{fault-ldr, hdrBlock}
+use Rattle.block_fault.proofs.ByKind.{fault-ldr}
+use Rattle.block_fault.specs.Told.{hdrBlock}
 use Rattle.texel.specs.Meaning.{shownChannel}
 use Rattle.texel.specs.BlockTexel.{blockTexel, blockNumberAt}
 use Rattle.symbolic_block.specs.declared.SymbolicBlock.{SymbolicBlock}

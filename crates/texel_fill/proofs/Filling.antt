@@ -6,7 +6,7 @@ use Prim.Native.Nat.{ℕ, _+_, _-_, _*_, _%_, _≤_, _<_}
 use native.Mathlib.Decide.{decLt}
 use native.Mathlib.Omega.{arith}
 use lib.ListN.{length, length-set, getD, set}
-use Rattle.laws.specs.Table.{putFour}
+use Rattle.laws.specs.inner.Filled.{putFour}
 use Rattle.laws.proofs.Filling.{getD-tab, length-four}
 use Rattle.interpolation.specs.declared.Texel.{Texel}
 use Rattle.block_buffer.specs.inner.Painted.{fourOf}

@@ -3,7 +3,7 @@ use interpolation::Texel;
 ghost use mathlib.Core.Path.{_≡_};
 ghost use Prim.Native.Nat.{_+_, _*_, _/_, _%_, _≤_};
 ghost use lib.ListN.{length};
-ghost use Rattle.laws.specs.Table.{putFour};
+ghost use Rattle.laws.specs.inner.Filled.{putFour};
 ghost use Rattle.interpolation.specs.declared.Kind.the-variants.{Unorm16, Srgb8};
 ghost use Rattle.interpolation.specs.Expansion.{shownOf};
 ghost use Rattle.picture_regions.specs.inner.Regions.{Pasted};

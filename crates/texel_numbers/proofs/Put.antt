@@ -6,7 +6,7 @@ use Prim.Native.Nat.{ℕ}
 use native.Mathlib.Omega.{arith}
 use lib.ListN.{length, set}
 use borrow.Author.Tests.{eq-eqb, ne-eqb}
-use Rattle.laws.specs.Table.{putFour}
+use Rattle.laws.specs.inner.Filled.{putFour}
 use Rattle.image_texel.specs.declared.Asked.{Asked}
 use Rattle.texel_numbers.specs.Calls.{texelTold, texelOut}
 

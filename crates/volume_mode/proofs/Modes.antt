@@ -2,11 +2,11 @@
 -- Assumes nothing.
 use mathlib.Core.Path.{_≡_, refl, subst, sym, ap, _∙_}
 use mathlib.Core.Bool.{Bool, true, false, not}
-use Prim.Native.Nat.{ℕ, zero, suc, _+_, _-_, _%_, _≤_, _<_}
+use Prim.Native.Nat.{ℕ, zero, suc, _+_, _-_, _*_, _%_, _≤_, _<_}
 use native.Mathlib.Nat.{mod-lt}
 use native.Mathlib.Omega.{arith}
 use lib.Dec.{T, leb, ltb, eqb, leb→le, ltb→lt, eqb→eq}
-use borrow.Author.Tests.{lt-ltb, le-ltb, ltb-true, ltb-false}
+use borrow.Author.Tests.{lt-ltb, le-ltb}
 use Rattle.laws.specs.Choice.{pick, both, either, all}
 use Rattle.laws.proofs.Computed.{both-left, both-right, each}
 use Rattle.block_mode.specs.declared.WeightGrid.{WeightGrid}
@@ -15,14 +15,14 @@ use Rattle.block_mode.specs.declared.BlockMode.the-variants.{VoidExtent, Reserv
 use Rattle.block_mode.specs.declared.FoundMode.{FoundMode}
 use Rattle.block_mode.specs.declared.FoundMode.the-variants.{Mode, NoMode}
 use Rattle.block_mode.specs.Mode2D.{blockMode}
-use Rattle.block_mode.specs.Back2D.{Limits, flatModeOf}
+use Rattle.block_mode.specs.Back2D.{Limits, R21, flatModeOf}
 use Rattle.block_mode.proofs.Modes as flat
 use Rattle.block_mode.proofs.Modes.{isMode, isGrid, is-grid, same-grid, under, never}
 use Rattle.volume_mode.specs.Mode3D.{volumeMode}
-use Rattle.volume_mode.specs.Back3D.{inVolume, volumeBits, isDouble}
+use Rattle.volume_mode.specs.Back3D.{inVolume, volumeBits, isLow, isTurn, isDouble}
 use Rattle.volume_mode.specs.inner.Edges.{Edges}
 use Rattle.volume_mode.specs.Either.{blockModeIn, isDeep, blockModeOf}
-use Rattle.volume_mode.specs.LeastMode.{LeastMode}
+use Rattle.volume_mode.specs.LeastMode.{TwoModes, LeastMode}
 use Rattle.volume_mode.proofs.Limits.{edges, edge-limits}
 
 -- ---- tests
@@ -198,6 +198,124 @@ any-limits false m g e = flat.any-limits m g e
 pub no-mode : (volume : Bool) (g : WeightGrid) → blockModeOf g ≡ NoMode → (m : ℕ) → m < 2048 → blockModeIn volume m ≡ Grid g → ⊥
 no-mode volume g n m h e = let f = mode-found volume m h g e in never (f .mode) (sym n ∙ f .is)
 
+-- and where no mode is this grid, none are found
+not-found : (g : WeightGrid) → ((m : ℕ) → m < 2048 → blockModeIn (isDeep g) m ≡ Grid g → ⊥) → blockModeOf g ≡ NoMode
+not-found g h = go (blockModeOf g) refl where
+  go : (x : FoundMode) → blockModeOf g ≡ x → x ≡ NoMode
+  go NoMode e = refl
+  go (Mode m) e = let f = found-mode g m e in absurd (h m (f .0) (f .1))
+
+-- ---- grids with two modes
+
+-- the axis of six weights, and the mode that is not written: that axis in bits 6..5, bits 8..7 set
+unfoldable axisOf : WeightGrid → ℕ
+axisOf g = pick (eqb (g .width) 6) 0 (pick (eqb (g .height) 6) 1 2)
+
+unfoldable otherOf : WeightGrid → ℕ
+unfolding axisOf
+otherOf g = 4 * R21 g + 16 * (g .range % 2) + 384 + 32 * axisOf g
+
+-- the answer is a mode below the other, and both are read as the grid
+paired : FoundMode → WeightGrid → Bool
+paired (Mode n) g = both (ltb n (otherOf g)) (both (ltb (otherOf g) 2048) (both (isGrid (volumeMode n) g) (isGrid (volumeMode (otherOf g)) g)))
+paired NoMode g = false
+
+test-paired : (a b c : ℕ) → Bool
+test-paired a b c = all (λ r. paired (volumeBits (grid a b c r 1)) (grid a b c r 1)) 6
+
+wide : T (test-paired 6 2 2)
+unfolding test-paired paired otherOf isGrid volumeMode volumeBits
+wide = tt
+
+high : T (test-paired 2 6 2)
+unfolding test-paired paired otherOf isGrid volumeMode volumeBits
+high = tt
+
+deep : T (test-paired 2 2 6)
+unfolding test-paired paired otherOf isGrid volumeMode volumeBits
+deep = tt
+
+-- a mode that is a grid with two is one of them
+oneOfTwo : BlockMode → ℕ → Bool
+oneOfTwo VoidExtent m = true
+oneOfTwo Reserved m = true
+oneOfTwo (Grid g) m = either (not (isDouble g)) (either (isMode (volumeBits g) m) (eqb m (otherOf g)))
+
+test-two : T (all (λ m. oneOfTwo (volumeMode m) m) 2048)
+unfolding oneOfTwo otherOf isMode volumeMode volumeBits isDouble
+test-two = tt
+
+either-right : (a b : Bool) → T (either a b) → a ≡ false → T b
+either-right a b t e = rw e at t
+
+-- "6x2x2 and its turns", as facts
+is-turn : (a b c : ℕ) → T (isTurn a b c) → (a ≡ 6) × ((b ≡ 2) × (c ≡ 2))
+is-turn a b c t =
+    let u = both-right (eqb a 6) (both (eqb b 2) (eqb c 2)) t in
+    (eqb→eq a 6 (both-left (eqb a 6) (both (eqb b 2) (eqb c 2)) t), (eqb→eq b 2 (both-left (eqb b 2) (eqb c 2) u), eqb→eq c 2 (both-right (eqb b 2) (eqb c 2) u)))
+
+turned : (g : WeightGrid) (a b c : ℕ) → T (test-paired a b c) → g .width ≡ a → g .height ≡ b → g .depth ≡ c → g .range < 6 → g .planes ≡ 1
+    → T (paired (volumeBits g) g)
+unfolding test-paired
+turned g a b c t w h d r p =
+    subst (λ (k : WeightGrid). T (paired (volumeBits k) k)) (same-grid (grid a b c (g .range) 1) g (sym w) (sym h) (sym d) refl (sym p))
+    (each (λ r. paired (volumeBits (grid a b c r 1)) (grid a b c r 1)) 6 t (g .range) r)
+
+module _ (g : WeightGrid) (double : isDouble g ≡ true) where
+  turns : Bool
+  turns = either (isTurn (g .width) (g .height) (g .depth)) (either (isTurn (g .height) (g .width) (g .depth)) (isTurn (g .depth) (g .width) (g .height)))
+
+  parts : T (both (isLow g) turns)
+  unfolding turns isDouble
+  parts = subst (λ (b : Bool). T b) (sym double) tt
+
+  low : T (isLow g)
+  low = both-left (isLow g) turns parts
+
+  pairing : T (paired (volumeBits g) g)
+  unfolding turns
+  pairing =
+      let r : g .range < 6 = ltb→lt (g .range) 6 (both-left (ltb (g .range) 6) (eqb (g .planes) 1) low) in
+      let p : g .planes ≡ 1 = eqb→eq (g .planes) 1 (both-right (ltb (g .range) 6) (eqb (g .planes) 1) low) in
+      by r p (isTurn (g .width) (g .height) (g .depth)) refl (isTurn (g .height) (g .width) (g .depth)) refl (both-right (isLow g) turns parts) where
+        by : g .range < 6 → g .planes ≡ 1 → (a : Bool) → isTurn (g .width) (g .height) (g .depth) ≡ a → (b : Bool) → isTurn (g .height) (g .width) (g .depth) ≡ b
+            → T (either a (either b (isTurn (g .depth) (g .width) (g .height)))) → T (paired (volumeBits g) g)
+        by r p true e b f t = let k = is-turn _ _ _ (subst (λ (b : Bool). T b) (sym e) tt) in turned g 6 2 2 wide (k .0) (k .1 .0) (k .1 .1) r p
+        by r p false e true f t = let k = is-turn _ _ _ (subst (λ (b : Bool). T b) (sym f) tt) in turned g 2 6 2 high (k .1 .0) (k .0) (k .1 .1) r p
+        by r p false e false f t = let k = is-turn _ _ _ t in turned g 2 2 6 deep (k .1 .0) (k .1 .1) (k .0) r p
+
+  two-of : (x : FoundMode) → volumeBits g ≡ x → T (paired x g) → TwoModes g
+  unfolding paired oneOfTwo isMode blockModeIn blockModeOf
+  two-of NoMode e t = absurd t
+  two-of (Mode n) e t =
+      let m = otherOf g in
+      let t1 = both-right (ltb n m) (both (ltb m 2048) (both (isGrid (volumeMode n) g) (isGrid (volumeMode m) g))) t in
+      let t2 = both-right (ltb m 2048) (both (isGrid (volumeMode n) g) (isGrid (volumeMode m) g)) t1 in
+      let lt : n < m = ltb→lt n m (both-left (ltb n m) (both (ltb m 2048) (both (isGrid (volumeMode n) g) (isGrid (volumeMode m) g))) t) in
+      let w : m < 2048 = ltb→lt m 2048 (both-left (ltb m 2048) (both (isGrid (volumeMode n) g) (isGrid (volumeMode m) g)) t1) in
+      let first : volumeMode n ≡ Grid g = is-grid (volumeMode n) g (both-left (isGrid (volumeMode n) g) (isGrid (volumeMode m) g) t2) in
+      let second : volumeMode m ≡ Grid g = is-grid (volumeMode m) g (both-right (isGrid (volumeMode n) g) (isGrid (volumeMode m) g) t2) in
+      let deeper : isDeep g ≡ true = mode-deep true m w g second in
+      record {
+        smaller = n;
+        larger = m;
+        found = rw deeper e;
+        order = lt;
+        within = w;
+        smaller-is = first;
+        larger-is = second;
+        no-other = λ k h q other.
+            let u : T (either (not (isDouble g)) (either (isMode (volumeBits g) k) (eqb k m))) = rw q at (each (λ m. oneOfTwo (volumeMode m) m) 2048 test-two k h) in
+            let v : T (either (isMode (volumeBits g) k) (eqb k m)) = either-right (not (isDouble g)) (either (isMode (volumeBits g) k) (eqb k m)) u (ap not double) in
+            eqb→eq k m (either-right (isMode (volumeBits g) k) (eqb k m) v (ap (λ (x : FoundMode). isMode x k) e ∙ apart k (eqb n k) refl other));
+      } where
+        apart : (k : ℕ) → (b : Bool) → eqb n k ≡ b → (k ≡ n → ⊥) → eqb n k ≡ false
+        apart k true q other = absurd (other (sym (eqb→eq n k (subst (λ (b : Bool). T b) (sym q) tt))))
+        apart k false q other = q
+
+  two-modes : TwoModes g
+  two-modes = two-of (volumeBits g) refl pairing
+
 -- ---- the whole
 
 pub least : LeastMode
@@ -206,5 +324,7 @@ least = record {
   found-mode = found-mode;
   least-mode = least-mode;
   only-mode = λ volume m h g e n. let f = mode-found volume m h g e in f .is ∙ ap Mode (f .only n);
+  two-modes = two-modes;
   no-mode = no-mode;
+  not-found = not-found;
 }

@@ -3,7 +3,7 @@
 -- Theorem: proofs/Modes.antt, `least`.
 -- Assumes nothing.
 use mathlib.Core.Path.{_≡_}
-use mathlib.Core.Bool.{Bool, false}
+use mathlib.Core.Bool.{Bool, true, false}
 use Prim.Native.Nat.{ℕ, _≤_, _<_}
 use Rattle.laws.specs.Choice.{both}
 use Rattle.block_mode.specs.declared.WeightGrid.{WeightGrid}
@@ -11,6 +11,18 @@ use Rattle.block_mode.specs.declared.BlockMode.the-variants.{Grid}
 use Rattle.block_mode.specs.declared.FoundMode.the-variants.{Mode, NoMode}
 use Rattle.volume_mode.specs.Back3D.{isDouble}
 use Rattle.volume_mode.specs.Either.{blockModeIn, isDeep, blockModeOf}
+
+-- a volume's grid has two modes, which the reader takes both: the bits that are found for it, and one larger
+pub record TwoModes (g : WeightGrid) : Type 0 where
+  pub smaller : ℕ
+  pub larger : ℕ
+  pub found : blockModeOf g ≡ Mode smaller
+  pub order : smaller < larger
+  pub within : larger < 2048
+  pub smaller-is : blockModeIn true smaller ≡ Grid g
+  pub larger-is : blockModeIn true larger ≡ Grid g
+  -- and no third
+  pub no-other : (m : ℕ) → m < 2048 → blockModeIn true m ≡ Grid g → (m ≡ smaller → ⊥) → m ≡ larger
 
 pub record LeastMode : Type 0 where
   -- a volume's mode is a grid of two layers or more, a flat block's one of one layer
@@ -21,5 +33,9 @@ pub record LeastMode : Type 0 where
   pub least-mode : (g : WeightGrid) (n : ℕ) → blockModeOf g ≡ Mode n → (m : ℕ) → m < 2048 → blockModeIn (isDeep g) m ≡ Grid g → n ≤ m
   -- where the grid is none of those with two, there is no other
   pub only-mode : (volume : Bool) (m : ℕ) → m < 2048 → (g : WeightGrid) → blockModeIn volume m ≡ Grid g → both volume (isDouble g) ≡ false → blockModeOf g ≡ Mode m
-  -- where none are found, no mode is this grid
+  -- where it is one of those, there are two
+  pub two-modes : (g : WeightGrid) → isDouble g ≡ true → TwoModes g
+  -- where none are found, no mode is this grid,
   pub no-mode : (volume : Bool) (g : WeightGrid) → blockModeOf g ≡ NoMode → (m : ℕ) → m < 2048 → blockModeIn volume m ≡ Grid g → ⊥
+  -- and where no mode is this grid, none are found
+  pub not-found : (g : WeightGrid) → ((m : ℕ) → m < 2048 → blockModeIn (isDeep g) m ≡ Grid g → ⊥) → blockModeOf g ≡ NoMode

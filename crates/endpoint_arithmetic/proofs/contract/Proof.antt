@@ -1,7 +1,7 @@
 -- `endpoint_arithmetic::contract` meets its contract.
 use Rattle.endpoint_arithmetic.proofs.Machine.{within-add, within-half, within-fits, sum-read}
 use Rattle.endpoint_arithmetic.specs.Signed.{contracted}
-use Rattle.endpoint_arithmetic.specs.inner.Bounds.{Within}
+use Rattle.endpoint_arithmetic.specs.Bounds.{Within}
 use mir.ValLaws.{toZ-ofZ}
 use mir.Val.{SFits}
 use mir.Syntax.{w32}

@@ -1,6 +1,6 @@
 -- `endpoint_arithmetic::falls` meets its contract.
 use Rattle.endpoint_arithmetic.proofs.Machine.{within-add, fits-within, within-fits, widened}
-use Rattle.endpoint_arithmetic.specs.inner.Bounds.{Within}
+use Rattle.endpoint_arithmetic.specs.Bounds.{Within}
 use mir.ValLaws.{toZ-ofZ}
 use mir.Val.{SFits}
 use mir.Syntax.{w8, w32}

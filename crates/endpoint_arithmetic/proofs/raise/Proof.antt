@@ -1,7 +1,7 @@
 -- `endpoint_arithmetic::raise` meets its contract.
 use Rattle.endpoint_arithmetic.proofs.Machine.{within-fits, fits-within, within-add, within-pos, widened}
 use Rattle.endpoint_arithmetic.specs.Signed.{raised}
-use Rattle.endpoint_arithmetic.specs.inner.Bounds.{Within}
+use Rattle.endpoint_arithmetic.specs.Bounds.{Within}
 use mir.ValLaws.{toZ-ofZ, toZ-pos}
 use mir.Val.{SFits}
 use mir.Syntax.{w8, w32}
