@@ -28,10 +28,10 @@ extern "C" {
 
 /* ---- Version, constants, and what the numbers mean. */
 
-#define STALLBROOK_VERSION "0.7.2"
+#define STALLBROOK_VERSION "0.7.3"
 #define STALLBROOK_VERSION_MAJOR 0
 #define STALLBROOK_VERSION_MINOR 7
-#define STALLBROOK_VERSION_PATCH 2
+#define STALLBROOK_VERSION_PATCH 3
 
 /* STALLBROOK_VERSION of the library that is linked or loaded. */
 const char *stallbrook_version(void);

@@ -1,3 +1,3 @@
 """The package's version, which the library's has to fit."""
 
-VERSION = "0.7.2"
+VERSION = "0.7.3"

@@ -134,7 +134,8 @@ fn paint(
     }
 }
 
-// The same of a block of one partition and one plane, as most blocks of a photograph are: no partition is asked, and no second weight.
+// The same of a block of one partition and one plane, as most blocks of a photograph are: no partition is asked, and no second weight, and two
+// points beside each other are weighed by one product.
 fn paint_single(
     kind: Kind,
     g: WeightGrid,

@@ -112,7 +112,3 @@ samples =
     ∷ sample (map (blockNumberAt 0 Float16 (solid 0xFF) 0 0 0) (0 ∷ 1 ∷ 2 ∷ 3 ∷ [])) (0x7C00 ∷ 0x7E01 ∷ 0xFFFF ∷ 0 ∷ [])
     ∷ sample (map (blockNumberAt 0 Float16 (solid 0xFD) 0 0 0) (0 ∷ 1 ∷ 2 ∷ 3 ∷ [])) (0x37C0 ∷ 0x37E0 ∷ 0x3C00 ∷ 0 ∷ [])
     ∷ []
-
--- "proved against the definitions by a single statement": every entry of a table computes to what is wanted. Theorem: proofs/Hold.antt, `samples-hold`.
-abbrev pub Hold : List Sample → Type 0
-Hold table = map (λ (s : Sample). s .computed) table ≡ map (λ (s : Sample). s .wanted) table
