@@ -4,7 +4,8 @@ use mathlib.Core.Path.{_≡_}
 use Prim.Native.Nat.{ℕ, _*_, _^_, _<_}
 use Rattle.pvrtc_order.specs.Order.{wordPlace, columnOf, rowOf}
 
--- "Prove that the word order reaches every word exactly once": an image of 2 ^ a columns and 2 ^ b rows of words: each word has a place among as many, and each place is that of one word and of no other
+-- "Prove that the word order reaches every word exactly once": in an image of 2 ^ a columns and 2 ^ b rows of words each word has a place among as
+-- many, and each place is that of one word and of no other
 pub record Once (a b : ℕ) : Type 0 where
   pub inside : (X Y : ℕ) → X < 2 ^ a → Y < 2 ^ b → wordPlace a b X Y < 2 ^ a * 2 ^ b
   pub column : (n : ℕ) → n < 2 ^ a * 2 ^ b → columnOf a b n < 2 ^ a
