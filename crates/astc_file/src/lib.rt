@@ -1,4 +1,6 @@
 // .astc files (02, a): a whole file to the texels of its image, in each kind.
+#![tactic(auto)]
+
 ghost use Rattle.std.specs.Prelude.{◌≡◌, length};
 ghost use Rattle.interpolation.specs.declared.Kind.TheVariants.{Unorm16, Srgb8, Float16};
 ghost use Rattle.one_block.specs.Calls.{Words};

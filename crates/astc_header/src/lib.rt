@@ -1,11 +1,13 @@
 // The header of .astc files (02, a): read from a whole file, and written.
+#![tactic(auto)]
+
 ghost use Rattle.std.specs.Prelude.{◌≡◌, ◌+◌, ◌^◌, ◌≤◌, ◌<◌, length};
 ghost use Rattle.laws.specs.Choice.{both};
 ghost use Rattle.astc_header.specs.Header.{same_four, has_start, footprint_for, size_at, header_in, known_shape, header_refusal, header_answer, file_blocks, told_of, header_told, written_header};
 ghost use Rattle.astc_header.specs.inner.Parts.{form_refusal, header_bytes_with};
 
 // What a header says: the footprint of the blocks, and the image's sides.
-#[derive(Drop)]
+#[derive(Clone, Copy)]
 pub struct FileHeader {
     pub footprint: u8,
     pub width: u32,
@@ -13,14 +15,14 @@ pub struct FileHeader {
 }
 
 // The answer of the reader: refused by its number, or what the header says.
-#[derive(Drop)]
+#[derive(Clone, Copy)]
 pub enum HeaderAnswer {
     Refused(u8),
     Accepted(FileHeader),
 }
 
 // What the writer answers: the refusal, 0 for none, and the header's bytes.
-#[derive(Drop)]
+#[derive(Clone, Copy)]
 pub struct WrittenHeader {
     pub refusal: u8,
     pub bytes: [u8; 16],

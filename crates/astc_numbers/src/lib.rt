@@ -1,4 +1,6 @@
 // The header of .astc files over lent lists: three numbers, or sixteen bytes.
+#![tactic(auto)]
+
 ghost use Rattle.std.specs.Prelude.{◌≡◌, [], ◌∷◌, length};
 ghost use Rattle.astc_header.specs.Header.{told_of};
 ghost use Rattle.astc_numbers.specs.Numbers.{then_five, header_numbers, read_number, read_numbers, write_number, write_bytes};

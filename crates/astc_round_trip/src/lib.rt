@@ -1,4 +1,6 @@
 // A header that is read and written again, by the calls as they stand (02, a).
+#![tactic(auto)]
+
 ghost use Rattle.std.specs.Prelude.{◌≡◌};
 ghost use Rattle.astc_round_trip.specs.Rewritten.{rewritten};
 

@@ -1,4 +1,6 @@
 // The one-block call, and the reader and the writer of BC7 sheets.
+#![tactic(auto)]
+
 ghost use Rattle.std.specs.Prelude.{◌≡◌, length};
 ghost use Rattle.bits.specs.Block.{block_number};
 ghost use Rattle.block_answer.specs.Told.{number_told};
@@ -11,14 +13,14 @@ use bits::PhysicalBlock;
 use block_answer::Answer;
 
 // What the reader of sheets answers, with the sheet.
-#[derive(Drop)]
+#[derive(Clone, Copy)]
 pub struct Bc7Reading {
     pub answer: Answer,
     pub block: Bc7Block,
 }
 
 // What the writer answers, with the block.
-#[derive(Drop)]
+#[derive(Clone, Copy)]
 pub struct Bc7Writing {
     pub answer: Answer,
     pub bytes: [u8; 16],

@@ -1,5 +1,7 @@
 // A BC7 block read into its sixty fields and written from them. In between they are sixty bytes in the block's order: the mode's mark is the
 // first.
+#![tactic(auto)]
+
 ghost use Rattle.std.specs.Prelude.{◌≡◌, false, ◌+◌, ◌^◌, ◌≤◌, ◌<◌, ltb, get_or};
 ghost use Rattle.laws.specs.Choice.{both, all};
 ghost use Rattle.laws.specs.Table.{tab};

@@ -1,5 +1,7 @@
 // One BC7 block to sixteen texels of four bytes in a lent buffer: its settings and ends once, and the four channels of a texel mixed by one sum of
 // products.
+#![tactic(auto)]
+
 ghost use Rattle.std.specs.Prelude.{◌≡◌, [], ◌+◌, ◌-◌, ◌%◌, ◌^◌, ◌≤◌, ◌<◌, eqb, length};
 ghost use Rattle.laws.specs.Choice.{pick};
 ghost use Rattle.laws.specs.Table.{tab};
@@ -18,7 +20,7 @@ use bc7_ends::Bc7Frame;
 use bits::PhysicalBlock;
 
 // A set of indices: the number of its first field, the bits of an index that is no anchor, and the bits that are still to be read.
-#[derive(Drop)]
+#[derive(Clone, Copy)]
 struct IndexSet {
     first: usize,
     bits: u32,

@@ -1,4 +1,6 @@
 // A BC7 block's settings, read once for each block, and its ends, expanded once and laid by lanes, so that one product mixes four channels.
+#![tactic(auto)]
+
 ghost use Rattle.std.specs.Prelude.{◌≡◌, true, [], ◌*◌, ◌/◌, ◌%◌, ◌^◌, ◌≤◌, ◌<◌, eqb};
 ghost use Rattle.laws.specs.Choice.{either};
 ghost use Rattle.laws.specs.inner.Filled.{Filled};
@@ -14,7 +16,7 @@ use bits::PhysicalBlock;
 
 // What a block's mode and partition fix: the mode's row and the partition's plan, where endpoints, P bits and indices begin, and the bits that one
 // colour of all ends takes.
-#[derive(Drop)]
+#[derive(Clone, Copy)]
 pub struct Bc7Frame {
     pub mode: u8,
     pub row: Mode,

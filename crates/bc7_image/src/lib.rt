@@ -1,4 +1,6 @@
 // The picture call of BC7: blocks in raster order to the texels of a whole picture.
+#![tactic(auto)]
+
 ghost use Rattle.std.specs.Prelude.{◌≡◌, ◌+◌, ◌*◌, ◌≤◌, ◌<◌, length, get_or};
 ghost use Rattle.laws.specs.Table.{tab};
 ghost use Rattle.image_layout.specs.Faulty.{tally_of};

@@ -1,4 +1,6 @@
 // The layout of BC7 blocks: the eight modes, the partitions, and the bits of each of a block's sixty fields.
+#![tactic(auto)]
+
 ghost use Rattle.std.specs.Prelude.{◌≡◌, ◌+◌, ◌-◌, ◌*◌, ◌/◌, ◌%◌, ◌^◌, ◌≤◌, ◌<◌};
 ghost use Rattle.bits.specs.Field.{field};
 ghost use Rattle.bits.specs.Block.{block_number};
@@ -10,7 +12,7 @@ use bits::PhysicalBlock;
 
 // 004, Table 13.3: subsets, and the bits of partition, rotation, index selection, colours, alpha, P bits for each end and shared, and of both sets
 // of indices.
-#[derive(Drop)]
+#[derive(Clone, Copy)]
 pub struct Mode {
     pub subsets: u8,
     pub partition: u8,

@@ -1,4 +1,6 @@
 // BC7 sheets as lists of sixty numbers: mode, partition, rotation, index selection, 18 endpoints, 6 P bits, 16 primary and 16 secondary indices.
+#![tactic(auto)]
+
 ghost use Rattle.std.specs.Prelude.{◌≡◌, eqb, length};
 ghost use Rattle.laws.specs.Choice.{pick};
 ghost use Rattle.laws.specs.Table.{tab};

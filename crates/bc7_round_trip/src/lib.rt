@@ -1,4 +1,6 @@
 // A BC7 sheet written, read back and shown, and a block read and written anew: demand 3 of what the calls return.
+#![tactic(auto)]
+
 ghost use Rattle.std.specs.Prelude.{◌≡◌, length};
 ghost use Rattle.bc7_calls.specs.Calls.{decode_out};
 ghost use Rattle.bc7_round_trip.specs.Demand.{round_trip_of, Demanded, rewriting_of, Sound, Rewritten};
@@ -8,7 +10,7 @@ use bc7_calls::{Bc7Reading, Bc7Writing};
 use block_answer::Answer;
 
 // What the writer, the reader and the one-block call answered.
-#[derive(Drop)]
+#[derive(Clone, Copy)]
 pub struct RoundTrip {
     pub writing: Bc7Writing,
     pub reading: Bc7Reading,
@@ -32,7 +34,7 @@ pub fn round_trip(s: Bc7Block, out: &mut [u8]) -> RoundTrip
 }
 
 // What the reader and the writer answered.
-#[derive(Drop)]
+#[derive(Clone, Copy)]
 pub struct Rewriting {
     pub reading: Bc7Reading,
     pub writing: Bc7Writing,

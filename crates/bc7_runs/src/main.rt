@@ -1,5 +1,7 @@
 // Runs of the BC7 calls: each block of the input, sixteen bytes, is shown, read as a sheet and written again; then pictures, and sheets that are refused. The
 // texels of the stored output are Pillow's, the sheets those of the second reader.
+#![tactic(auto)]
+
 ghost use Rattle.std.specs.Prelude.{◌<◌};
 
 use image_layout::{ImageAnswer, Tally};

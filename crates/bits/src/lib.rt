@@ -1,10 +1,12 @@
 // The sixteen bytes of a block as one number of 128 bits: fields of it, its reverse, and the bytes again.
+#![tactic(auto)]
+
 ghost use Rattle.std.specs.Prelude.{◌≡◌, ◌+◌, ◌*◌, ◌/◌, ◌%◌, ◌^◌, ◌≤◌, ◌<◌, min, length};
 ghost use Rattle.bits.specs.Field.{field, reverse};
 ghost use Rattle.bits.specs.Block.{number_of, bytes_of, block_number};
 
 // The 128 bits of a block (Arm: physical block), low and high half.
-#[derive(Drop)]
+#[derive(Clone, Copy)]
 pub struct PhysicalBlock {
     pub lo: u64,
     pub hi: u64,

@@ -1,9 +1,11 @@
 // What a call of one block answers, and when it refuses.
+#![tactic(auto)]
+
 ghost use Rattle.std.specs.Prelude.{◌≡◌};
 ghost use Rattle.block_answer.specs.Told.{block_refusal, number_told, answer_for};
 
 // What a call comes to: refused or faulty, with 01's number, or done.
-#[derive(Drop)]
+#[derive(Clone, Copy)]
 pub enum Answer {
     Refused(u8),
     Faulty(u8),

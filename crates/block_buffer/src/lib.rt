@@ -1,4 +1,6 @@
 // The lent buffer of a block's numbers, 16 bits each: room for the 216 texels of the largest block, of which a block fills the first.
+#![tactic(auto)]
+
 ghost use Rattle.std.specs.Prelude.{◌≡◌, ℕ, ◌+◌, ◌*◌, ◌≤◌, length};
 ghost use Rattle.laws.specs.inner.Filled.{put_four};
 ghost use Rattle.block_buffer.specs.inner.Painted.{painted};

@@ -1,4 +1,6 @@
 // One block to texels of 16 bits in a lent buffer: its settings are read once, its numbers unquantised once.
+#![tactic(auto)]
+
 ghost use Rattle.std.specs.Prelude.{◌≡◌, ℕ, ◌*◌, ◌/◌, ◌%◌, ◌≤◌, ◌<◌, eqb, length, false, not, List};
 ghost use Rattle.laws.specs.Choice.{pick, both};
 ghost use Rattle.bits.specs.Block.{block_number};
@@ -26,7 +28,7 @@ use partition::Seeds;
 use volume_paint::VolumeFrame;
 
 // A footprint's sides and the scale factors of a weight grid along them, once for each block.
-#[derive(Drop)]
+#[derive(Clone, Copy)]
 struct FlatFrame {
     width: u8,
     height: u8,
@@ -293,14 +295,14 @@ fn paint_coded(
 }
 
 // A block that shows one texel everywhere: a void extent, or one with a fault, whose number is told (0 for none).
-#[derive(Drop)]
+#[derive(Clone, Copy)]
 pub struct UniformBlock {
     pub texel: Texel,
     pub fault: u8,
 }
 
 // What a block is decoded to: one texel for all places, or the numbers in the buffer.
-#[derive(Drop)]
+#[derive(Clone, Copy)]
 pub enum Decoded {
     Uniform(UniformBlock),
     Buffered,

@@ -1,4 +1,6 @@
 // What a block's bits say: its fault, or its settings, read once.
+#![tactic(auto)]
+
 ghost use Rattle.std.specs.Prelude.{◌≡◌, ◌+◌, ◌*◌, ◌≤◌, ◌<◌, not, eqb, ltb};
 ghost use Rattle.laws.specs.Choice.{pick, both};
 ghost use Rattle.laws.specs.Table.{padded};
@@ -19,7 +21,7 @@ use block_header::{BlockHeader, Stage};
 use block_mode::{BlockMode, WeightGrid};
 
 // What a block is: coded, of one colour (01: solid), or with a fault, 01's number of it.
-#[derive(Drop)]
+#[derive(Clone, Copy)]
 pub enum Verdict {
     Coded,
     VoidExtent,
@@ -27,7 +29,7 @@ pub enum Verdict {
 }
 
 // The settings of a coded block without fault, how many endpoint numbers it has and their quantisation range; all 0 for any other.
-#[derive(Drop)]
+#[derive(Clone, Copy)]
 pub struct Settings {
     pub verdict: Verdict,
     pub header: BlockHeader,

@@ -1,4 +1,6 @@
 // What a block's settings are besides its packed numbers, and the counts and reasons that follow from them.
+#![tactic(auto)]
+
 ghost use Rattle.std.specs.Prelude.{◌≡◌, ◌≤◌, min, eqb};
 ghost use Rattle.laws.specs.Choice.{pick, either};
 ghost use Rattle.color_endpoint.specs.Table.{number_count};
@@ -9,7 +11,7 @@ ghost use Rattle.block_header.specs.Counts.{weight_count, weight_bits, component
 use block_mode::WeightGrid;
 
 // The settings of a block that is no void extent: 01's fields of a mode sheet, without its numbers.
-#[derive(Drop)]
+#[derive(Clone, Copy)]
 pub struct BlockHeader {
     pub grid: WeightGrid,
     pub component: u8,
@@ -20,7 +22,7 @@ pub struct BlockHeader {
 }
 
 // What a stage of reading a block comes to: it passes, or stops with 01's number.
-#[derive(Drop)]
+#[derive(Clone, Copy)]
 pub enum Stage {
     Passed,
     Stopped(u8),

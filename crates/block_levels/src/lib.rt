@@ -1,5 +1,7 @@
 // The numbers of a block as its texels are made of them: of a coded block, unquantised once, the points of its weight grid, both planes' levels in one,
 // and the lines of its endpoint pairs; of a void extent its colours.
+#![tactic(auto)]
+
 ghost use Rattle.std.specs.Prelude.{◌≡◌, ◌*◌, ◌≤◌, ◌<◌, ltb, get_or, not};
 ghost use Rattle.laws.specs.Choice.{pick, both};
 ghost use Rattle.interpolation.specs.Expansion.{takes_hdr};

@@ -1,4 +1,6 @@
 // The sixteen bytes of a block stored in a lent list.
+#![tactic(auto)]
+
 ghost use Rattle.std.specs.Prelude.{◌+◌, ◌≤◌, length};
 ghost use Rattle.block_store.specs.inner.Places.{Put};
 

@@ -1,4 +1,6 @@
 // Bytes put into a list that the caller lends.
+#![tactic(auto)]
+
 ghost use Rattle.std.specs.Prelude.{◌≡◌, length};
 
 // Sixteen bytes into a list of sixteen.

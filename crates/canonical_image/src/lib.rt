@@ -1,4 +1,6 @@
 // Blocks rewritten in their canonical form: one block, and all blocks of an image (01: picture), in a lent buffer or in place.
+#![tactic(auto)]
+
 ghost use Rattle.std.specs.Prelude.{◌≡◌, ◌*◌, ◌≤◌, length};
 ghost use Rattle.interpolation.specs.declared.Kind.TheVariants.{Float16};
 ghost use Rattle.image_layout.specs.Numbers.{fault_at};

@@ -1,4 +1,6 @@
 // The best grey caption (02, n): two grey ends and sixteen wanted greys to the block that shows them best.
+#![tactic(auto)]
+
 ghost use Rattle.std.specs.Prelude.{◌≡◌, List, ℕ, ◌+◌, ◌-◌, ◌*◌, ◌/◌, ◌≤◌, ltb, length, get_or};
 ghost use Rattle.laws.specs.Choice.{pick};
 ghost use Rattle.laws.specs.Table.{tab, padded};
@@ -12,7 +14,7 @@ use encoding::Stored;
 use symbolic_block::SymbolicBlock;
 
 // A weight, and the squared difference that it leaves.
-#[derive(Drop)]
+#[derive(Clone, Copy)]
 pub struct Choice {
     pub weight: u8,
     pub square: u32,

@@ -1,4 +1,6 @@
 // A whole image (01: picture) of best grey captions (02, n): wanted greys to blocks in raster order.
+#![tactic(auto)]
+
 ghost use Rattle.std.specs.Prelude.{◌≡◌, ◌+◌, ◌*◌, ◌/◌, ◌%◌, ◌≤◌, ◌<◌, length};
 ghost use Rattle.laws.specs.Table.{tab};
 ghost use Rattle.image_size.specs.Sides.{blocks_across, blocks_of};

@@ -1,6 +1,8 @@
 // Runs of the best grey captions. The input is 24 records of two ends and sixteen wanted greys, then two ends and the 30 wanted greys of an image of 6
 // by 5. For each record its block and the greys that the one-block call shows, for the image its blocks; then calls that are refused. The stored
 // output is made of what Arm's astcenc shows.
+#![tactic(auto)]
+
 use libc::{STDIN_FILENO, STDOUT_FILENO};
 
 fn number(n: u8) {

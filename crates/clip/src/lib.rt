@@ -1,10 +1,12 @@
 // Clips (02, j): the state of a reader that is fed pieces of any size, and what a feed answers. Definitions and theorems; the code of the
 // reader is `clip_reader`'s.
+#![tactic(auto)]
+
 use clip_frame::Frame;
 
 // What the reader waits for: the version byte, the ten bytes before a frame's blocks, the blocks, or, after a refusal or the end, which told
 // this number, nothing.
-#[derive(Drop)]
+#[derive(Clone, Copy)]
 pub enum Phase {
     Version,
     Header,
@@ -14,7 +16,7 @@ pub enum Phase {
 
 // The state of a reader: how many bytes of a header or a block it has, and these bytes; the frame's index modulo 2^32, the index of the
 // block that is collected and of the frame's last one, and what the frame last begun says of itself.
-#[derive(Drop)]
+#[derive(Clone, Copy)]
 pub struct Clip {
     pub phase: Phase,
     pub have: u8,
@@ -26,7 +28,7 @@ pub struct Clip {
 }
 
 // What a byte, or a feed, brings: nothing, a block with its frame's index and its own, or a number told.
-#[derive(Drop)]
+#[derive(Clone, Copy)]
 pub enum Event {
     Nothing,
     Block(u32, u32),
@@ -34,7 +36,7 @@ pub enum Event {
 }
 
 // What one byte does. The sixteen bytes are those of the block that is handed out, else 0.
-#[derive(Drop)]
+#[derive(Clone, Copy)]
 pub struct Step {
     pub clip: Clip,
     pub event: Event,
@@ -42,7 +44,7 @@ pub struct Step {
 }
 
 // What a feed does, and how many bytes it took.
-#[derive(Drop)]
+#[derive(Clone, Copy)]
 pub struct Fed {
     pub clip: Clip,
     pub taken: usize,
@@ -51,7 +53,7 @@ pub struct Fed {
 }
 
 // The end: the number told, and the state from then on.
-#[derive(Drop)]
+#[derive(Clone, Copy)]
 pub struct Finished {
     pub clip: Clip,
     pub number: u8,

@@ -1,10 +1,12 @@
 // A frame of a clip (02, j): what its ten bytes say, and the refusals of its reader and its writer.
+#![tactic(auto)]
+
 ghost use Rattle.std.specs.Prelude.{◌≡◌, ◌<◌};
 ghost use Rattle.clip_frame.specs.Frame.{length_in, frame_in, frame_refusal, write_refusal};
 ghost use Rattle.clip_frame.specs.inner.Frame.{own_refusal};
 
 // What a frame says of itself.
-#[derive(Drop)]
+#[derive(Clone, Copy)]
 pub struct Frame {
     pub footprint: u8,
     pub kind: u8,

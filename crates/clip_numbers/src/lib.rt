@@ -1,4 +1,6 @@
 // The reader of clips over lent lists of numbers: its state is a list of 26, whose every content is taken.
+#![tactic(auto)]
+
 ghost use Rattle.std.specs.Prelude.{◌≡◌, ◌%◌, ◌<◌, ◌≤◌, true, ◌∷◌, length, slice_index};
 ghost use Rattle.clip.specs.declared.Event.TheVariants.{Nothing, Block};
 ghost use Rattle.clip.specs.Step.{past};

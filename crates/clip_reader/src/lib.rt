@@ -1,4 +1,6 @@
 // The reader of clips (02, j): it is fed pieces of any size and hands out each block as its sixteenth byte arrives.
+#![tactic(auto)]
+
 ghost use Rattle.std.specs.Prelude.{◌≡◌, ◌<◌, ◌≤◌, length, take, ◌==◌, slice_set};
 ghost use Rattle.laws.specs.Choice.{pick};
 ghost use Rattle.image_size.specs.Sides.{size_refusal};

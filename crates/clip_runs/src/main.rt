@@ -4,6 +4,8 @@
 // A clip is fed in pieces of 1, 7, 16 and 400 bytes, with an empty piece before each feed. Each time, for each block a line "block FRAME INDEX at
 // BYTES-SO-FAR of FOOTPRINT KIND WIDTH HEIGHT" and its sixteen bytes, for a refusal "told N at BYTES-SO-FAR", and last "end N" with what an empty
 // piece tells after it. Of a frame that is written "refused N", or "frame" and its bytes.
+#![tactic(auto)]
+
 ghost use Rattle.std.specs.Prelude.{◌≤◌, ◌<◌, length};
 
 use clip::{Clip, Event};
@@ -94,7 +96,7 @@ fn finish(c: Clip, clip: &[u8]) {
 }
 
 // A reader, and how many bytes of the clip it has taken.
-#[derive(Drop)]
+#[derive(Clone, Copy)]
 struct Place {
     clip: Clip,
     at: usize,

@@ -1,4 +1,6 @@
 // The writer of clips (02, j): a frame at a time, after the caller's version byte.
+#![tactic(auto)]
+
 ghost use Rattle.std.specs.Prelude.{◌≡◌, ◌++◌, ◌+◌, ◌^◌, ◌<◌, length, get_or};
 ghost use Rattle.clip_frame.specs.Frame.{head_bytes, write_refusal, frame_out};
 

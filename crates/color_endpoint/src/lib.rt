@@ -1,4 +1,6 @@
 // The LDR colour endpoint modes, one function each, and the table of endpoint pairs.
+#![tactic(auto)]
+
 ghost use Rattle.std.specs.Prelude.{◌≡◌, ◌<◌, ◌≤◌, min, get_or};
 ghost use Rattle.color_endpoint.specs.Modes.{
   low_luminance,

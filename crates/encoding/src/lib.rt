@@ -1,10 +1,12 @@
 // How a stored number is encoded: b bits, and above them a trit, a quint or nothing. The bits that a sequence takes.
+#![tactic(auto)]
+
 ghost use Rattle.std.specs.Prelude.{◌≡◌};
 ghost use Rattle.laws.specs.Choice.{pick};
 ghost use Rattle.encoding.specs.Encoding.{group_size, radix, code_bits, sequence_bits};
 
 // 000, "Integer Sequence Encoding": the three range forms.
-#[derive(Drop)]
+#[derive(Clone, Copy)]
 pub enum Encoding {
     Bits,
     Trits,
@@ -12,16 +14,16 @@ pub enum Encoding {
 }
 
 // A number as a block stores it, quantised. 01: "Stored numbers and widened numbers are two kinds that must not mix".
-#[derive(Drop)]
+#[derive(Clone, Copy)]
 pub struct Stored(pub u8);
 
 // An unquantised number (01: widened): an endpoint's 0..255 or a weight's 0..64.
-#[derive(Drop)]
+#[derive(Clone, Copy)]
 pub struct Level(pub u8);
 
 // The levels of both planes' weights at a place of the weight grid, in one number: the first plane's in bits 7..0, the second's from bit
 // 16 on. Unquantising makes it, infill blends four of them, and the mix takes it apart; no stored weight stands in it.
-#[derive(Drop)]
+#[derive(Clone, Copy)]
 pub struct LevelPair(pub u32);
 
 // How many numbers share a code.

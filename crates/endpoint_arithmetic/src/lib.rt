@@ -1,4 +1,6 @@
 // Endpoint pairs: bit transfer, blue contraction and clamp, and the forms direct, base+offset and base+scale.
+#![tactic(auto)]
+
 ghost use Rattle.std.specs.Prelude.{◌≡◌, ◌*◌, ◌/◌, ◌<◌, pos, ◌+ℤ◌};
 ghost use Rattle.std.specs.Int.Signed.{lt_z};
 ghost use Rattle.endpoint_arithmetic.specs.Signed.{bit_transfer, raised, contracted, clamped, plain_end, blue_end};
@@ -18,21 +20,21 @@ ghost use Rattle.endpoint_arithmetic.specs.Pair.{
 use encoding::Level;
 
 // 000's e0 and e1, each R, G, B, A.
-#[derive(Drop)]
+#[derive(Clone, Copy)]
 pub struct EndpointPair {
     pub e0: [u8; 4],
     pub e1: [u8; 4],
 }
 
 // What bit_transfer_signed leaves: a base 0..255 and an offset -32..31.
-#[derive(Drop)]
+#[derive(Clone, Copy)]
 pub struct BaseOffset {
     pub base: u8,
     pub offset: i8,
 }
 
 // A channel between the transfer and the clamp; it may be negative.
-#[derive(Drop)]
+#[derive(Clone, Copy)]
 struct Sum(i32);
 
 // 000's bit_transfer_signed.

@@ -1,4 +1,6 @@
 // The faults of an image over lent lists, with the tally of the image calls, in a reading.
+#![tactic(auto)]
+
 ghost use Rattle.std.specs.Prelude.{◌≡◌, length};
 ghost use Rattle.image_numbers.specs.Calls.{refusal_or5};
 ghost use Rattle.image_faults.specs.Faults.{faults_refusal};

@@ -1,4 +1,6 @@
 // Whole .astc files (02, a) over lent lists, with the tally of the image calls.
+#![tactic(auto)]
+
 ghost use Rattle.std.specs.Prelude.{◌≡◌, length};
 ghost use Rattle.interpolation.specs.declared.Kind.TheVariants.{Srgb8};
 ghost use Rattle.one_block.specs.Calls.{Words};

@@ -1,6 +1,8 @@
 // Runs of the calls on .astc files. The input is records of 40 bytes: a length, and a file of so many bytes. Of each file the header is read,
 // what is told is written again, and the picture of 3 by 2 texels is shown in each kind: the number told, the faults, in kind 1 the colours, in
 // kind 2 all half floats. The headers, colours and half floats of the stored output are astcenc's, the numbers those of the second reader.
+#![tactic(auto)]
+
 ghost use Rattle.std.specs.Prelude.{◌≡◌, length};
 
 use image_layout::{ImageAnswer, Tally};

@@ -1,10 +1,12 @@
 // The twenty-four footprints, flat ones and volumes: how many texels a block covers.
+#![tactic(auto)]
+
 ghost use Rattle.std.specs.Prelude.{◌≡◌, ◌≤◌, ◌-◌, ◌*◌, ◌/◌, ◌%◌, ◌^◌, ltb};
 ghost use Rattle.laws.specs.Choice.{pick};
 ghost use Rattle.footprint.specs.Footprint.{sides_of, width_of, height_of, depth_of, texels_of, is_volume, is_small};
 
 // A block's sides in texels.
-#[derive(Drop)]
+#[derive(Clone, Copy)]
 pub struct Footprint {
     pub width: u8,
     pub height: u8,

@@ -1,4 +1,6 @@
 // A texel on the numbers of its pair: of kind 2, and of any kind.
+#![tactic(auto)]
+
 ghost use Rattle.std.specs.Prelude.{◌≡◌, ◌-◌, ◌%◌, ◌≤◌, eqb};
 ghost use Rattle.laws.specs.Choice.{pick};
 ghost use Rattle.encoding.specs.inner.Levels.{first_level, second_level};

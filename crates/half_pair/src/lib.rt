@@ -1,4 +1,6 @@
 // Kind 2: the pairs of all sixteen endpoint modes in 16 bits.
+#![tactic(auto)]
+
 ghost use Rattle.std.specs.Prelude.{◌≡◌, true, false, not, ◌*◌, ◌≤◌, eqb, get_or};
 ghost use Rattle.color_endpoint.specs.Modes.{pair_of};
 ghost use Rattle.color_endpoint.specs.Table.{table_of};
@@ -14,7 +16,7 @@ use endpoint_arithmetic::EndpointPair;
 use hdr_endpoint::{Alphas, HdrPair};
 
 // Two ends in 16 bits, each R, G, B, A, and whether the colours and the alpha are HDR.
-#[derive(Drop)]
+#[derive(Clone, Copy)]
 pub struct HalfPair {
     pub c0: [u16; 4],
     pub c1: [u16; 4],

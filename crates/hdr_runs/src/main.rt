@@ -1,5 +1,7 @@
 // Runs of the half floats, of the HDR endpoint modes and of kind 2's pairs: for each a sum over many inputs, which a second reckoning from 000,
 // by other means, gives too (outside/vectors/make_hdr_runs).
+#![tactic(auto)]
+
 use encoding::Level;
 use half_pair::HalfPair;
 use hdr_endpoint::{Alphas, HdrPair};

@@ -1,4 +1,6 @@
 // The image calls: blocks in raster order to the texels of a whole image (01: picture), in each kind, in the ordinary reading and in the strict one.
+#![tactic(auto)]
+
 ghost use Rattle.std.specs.Prelude.{◌≡◌, ◌*◌, ◌<◌, length};
 ghost use Rattle.interpolation.specs.declared.Kind.TheVariants.{Unorm16, Srgb8, Float16};
 ghost use Rattle.interpolation.specs.Expansion.{shown_of};

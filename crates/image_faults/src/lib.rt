@@ -1,4 +1,6 @@
 // The faults of an image (01: picture), block by block: settings are read, no texel is painted.
+#![tactic(auto)]
+
 ghost use Rattle.std.specs.Prelude.{◌≡◌, ◌*◌, ◌≤◌, ◌<◌, length};
 ghost use Rattle.laws.specs.Table.{tab};
 ghost use Rattle.bits.specs.Block.{block_number};

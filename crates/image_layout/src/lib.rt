@@ -1,11 +1,13 @@
 // Images (01: pictures) of blocks in raster order: types, definitions and laws, and the refusals of an image call.
+#![tactic(auto)]
+
 ghost use Rattle.std.specs.Prelude.{◌≡◌, false, ◌^◌, ◌≤◌, ◌<◌};
 ghost use Rattle.image_layout.specs.inner.Checked.{image_grid, checked_of};
 ghost use Rattle.image_size.specs.Sides.{bad_side};
 ghost use Rattle.image_layout.specs.inner.Noted.{noted};
 
 // The layout of an image: its footprint, its sides in texels, a block's sides in texels, and how many blocks lie across and down.
-#[derive(Drop)]
+#[derive(Clone, Copy)]
 pub struct ImageGrid {
     pub footprint: u8,
     pub width: usize,
@@ -17,7 +19,7 @@ pub struct ImageGrid {
 }
 
 // The part of an image that a block covers, cropped at the image's edge: the place of its first texel, and its sides.
-#[derive(Drop)]
+#[derive(Clone, Copy)]
 pub struct Part {
     pub x: usize,
     pub y: usize,
@@ -26,7 +28,7 @@ pub struct Part {
 }
 
 // A row of such a part: n numbers from place `from` of the block, for place `at` of the image.
-#[derive(Drop)]
+#[derive(Clone, Copy)]
 pub struct Run {
     pub from: usize,
     pub at: usize,
@@ -34,7 +36,7 @@ pub struct Run {
 }
 
 // How many blocks have a fault, and the raster index and fault of the first one (both 0 where there is none).
-#[derive(Drop)]
+#[derive(Clone, Copy)]
 pub struct Tally {
     pub count: u64,
     pub first: u64,
@@ -42,14 +44,14 @@ pub struct Tally {
 }
 
 // The answer of an image call: refused by 01's number, or decoded, with the faults of its blocks.
-#[derive(Drop)]
+#[derive(Clone, Copy)]
 pub enum ImageAnswer {
     Refused(u8),
     Decoded(Tally),
 }
 
 // The first stage of an image call: its refusal, or the image's layout.
-#[derive(Drop)]
+#[derive(Clone, Copy)]
 pub enum CheckedImage {
     Rejected(u8),
     Accepted(ImageGrid),

@@ -1,5 +1,7 @@
 // The parts of an image that its blocks cover, and a block of its bytes: for every format whose blocks are of sixteen bytes. The copying of a
 // block's numbers, for flat pictures and volumes.
+#![tactic(auto)]
+
 ghost use Rattle.std.specs.Prelude.{◌≡◌, ◌+◌, ◌*◌, ◌≤◌, ◌<◌, length};
 ghost use Rattle.bits.specs.Block.{block_number};
 ghost use Rattle.image_layout.specs.Numbers.{block_at};

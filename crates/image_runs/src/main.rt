@@ -1,5 +1,7 @@
 // Runs of the image calls: the sides and footprints of 01's samples, each refusal, images with faulty blocks and with HDR ones. For each a line
 // "refused N", or "faulty COUNT first INDEX fault N" and the first texel.
+#![tactic(auto)]
+
 use image_layout::{ImageAnswer, Tally};
 use libc::STDOUT_FILENO;
 

@@ -1,4 +1,6 @@
 // The sides of an image (01: picture): which are refused, and how many blocks cover them.
+#![tactic(auto)]
+
 ghost use Rattle.std.specs.Prelude.{◌≡◌, ◌/◌, ◌%◌, ◌≤◌, ◌<◌};
 ghost use Rattle.image_size.specs.Sides.{bad_side, blocks_across, blocks_of, size_refusal};
 
@@ -45,7 +47,7 @@ fn quotient(n: u32, side: u8) -> u32
 }
 
 // Where a texel of an image's side lies: the number of its block along that side, and its place in it.
-#[derive(Drop)]
+#[derive(Clone, Copy)]
 pub struct InBlock {
     pub block: u32,
     pub texel: u8,

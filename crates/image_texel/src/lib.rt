@@ -1,4 +1,6 @@
 // One texel of an image (02, f), asked with plain numbers and the lent blocks: a view (crate `view`) is taken apart for it.
+#![tactic(auto)]
+
 ghost use Rattle.std.specs.Prelude.{◌≡◌, ◌<◌, length};
 ghost use Rattle.image_texel.specs.Making.{view_refusal, view_sides};
 ghost use Rattle.image_texel.specs.Asking.{asked_in, asked_at, refused_asking};
@@ -7,7 +9,7 @@ ghost use Rattle.image_texel.specs.inner.Fits.{shown_texel, Fits};
 use interpolation::{Kind, Texel};
 
 // The sides that a view is made with, and the refusal of making it, 0 for none.
-#[derive(Drop)]
+#[derive(Clone, Copy)]
 pub struct Sides {
     pub width: u32,
     pub height: u32,
@@ -15,7 +17,7 @@ pub struct Sides {
 }
 
 // The answer: 44 or 0, the fault of the texel's block, 0 for none, and the texel's four numbers as its kind shows them.
-#[derive(Drop)]
+#[derive(Clone, Copy)]
 pub struct Asked {
     pub refusal: u8,
     pub fault: u8,

@@ -1,4 +1,6 @@
 // Packed numbers (000: integer sequence encoding) read from a block. Crate sequence_writer writes them.
+#![tactic(auto)]
+
 pub mod reading;
 pub mod tables;
 

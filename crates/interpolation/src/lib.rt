@@ -1,4 +1,6 @@
 // Endpoints mixed by weights into a texel of 16-bit numbers.
+#![tactic(auto)]
+
 ghost use Rattle.std.specs.Prelude.{◌≡◌, ◌*◌, ◌/◌, ◌==◌};
 ghost use Rattle.endpoint_arithmetic.specs.declared.EndpointPair.{EndpointPair};
 ghost use Rattle.encoding.specs.inner.Levels.{first_level, second_level};
@@ -14,7 +16,7 @@ use std::num::{wrapping_add_u16, wrapping_sub_u16};
 
 // What a texel's numbers are: 01's kind 0, 16-bit numbers, and kind 1, sRGB bytes before the sRGB curve; 02's kind 2, half floats as
 // patterns of 16 bits (000's decode_float16).
-#[derive(Drop)]
+#[derive(Clone, Copy)]
 pub enum Kind {
     Unorm16,
     Srgb8,
@@ -33,14 +35,14 @@ pub fn takes_hdr(kind: Kind) -> bool
 }
 
 // An endpoint pair in 16 bits, each R, G, B, A. Only definitions speak of it (`texel_of`): the code mixes on lines.
-#[derive(Drop)]
+#[derive(Clone, Copy)]
 pub struct ExpandedPair {
     pub c0: [u16; 4],
     pub c1: [u16; 4],
 }
 
 // Four 16-bit numbers; what a kind shows of each is `shown_of`.
-#[derive(Drop)]
+#[derive(Clone, Copy)]
 pub struct Texel {
     pub r: u16,
     pub g: u16,

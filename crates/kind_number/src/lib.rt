@@ -1,4 +1,6 @@
 // The kinds by their numbers.
+#![tactic(auto)]
+
 ghost use Rattle.std.specs.Prelude.{◌≡◌};
 ghost use Rattle.kind_number.specs.Kinds.{kind_of};
 

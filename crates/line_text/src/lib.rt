@@ -1,4 +1,6 @@
 // Lines of decimal numbers (01, "The program"), into a lent buffer.
+#![tactic(auto)]
+
 ghost use Rattle.std.specs.Prelude.{◌≡◌, [], ◌∷◌, ◌++◌, ◌+◌, ◌*◌, ◌/◌, ◌%◌, ◌≤◌, ◌<◌, length, get_or};
 ghost use Rattle.interpolation.specs.Expansion.{shown_of};
 ghost use Rattle.line_text.specs.Lines.{decimal_digit, decimal, spaced, texel_line};

@@ -1,5 +1,7 @@
 // One texel of a block (02, f), its picture not unpacked: the settings are read once, then the weights around the texel's place, its
 // partition, and that partition's endpoint numbers.
+#![tactic(auto)]
+
 ghost use Rattle.std.specs.Prelude.{◌≡◌, false, ◌≤◌, ◌<◌, eqb};
 ghost use Rattle.laws.specs.Choice.{pick};
 ghost use Rattle.bits.specs.Block.{block_number};
@@ -16,7 +18,7 @@ use block_fault::{Settings, Verdict};
 use interpolation::{Kind, Texel};
 
 // A block's fault, 0 for none, and one of its texels, in 16 bits.
-#[derive(Drop)]
+#[derive(Clone, Copy)]
 pub struct OneTexel {
     pub fault: u8,
     pub texel: Texel,

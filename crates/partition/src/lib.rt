@@ -1,4 +1,6 @@
 // Which partition a texel belongs to: the seeds are made once for a block, the pattern is asked at each texel.
+#![tactic(auto)]
+
 ghost use Rattle.std.specs.Prelude.{◌≡◌, ℕ, ◌+◌, ◌*◌, ◌%◌, ◌<◌, ◌≤◌, max, Bool, ◌==◌};
 ghost use Rattle.laws.specs.Choice.{pick};
 ghost use Rattle.laws.specs.Table.{tab};
@@ -10,7 +12,7 @@ ghost use Rattle.partition.specs.inner.Layers.{lane_at_layer, layer_from, layer_
 use std::num::{wrapping_add_u32, wrapping_sub_u32};
 
 // One of the four sums that are compared: x and y count so many times, over an offset.
-#[derive(Drop)]
+#[derive(Clone, Copy)]
 pub struct Lane {
     pub x: u16,
     pub y: u16,
@@ -18,7 +20,7 @@ pub struct Lane {
 }
 
 // What the pattern of a block is made of. An absent partition's lane is all 0.
-#[derive(Drop)]
+#[derive(Clone, Copy)]
 pub struct Seeds {
     pub a: Lane,
     pub b: Lane,
@@ -26,7 +28,7 @@ pub struct Seeds {
     pub d: Lane,
 }
 
-#[derive(Drop)]
+#[derive(Clone, Copy)]
 struct ShiftPair {
     one: u32,
     two: u32,

@@ -1,4 +1,6 @@
 // One texel by its partition: of a block's packed endpoint numbers only that partition's are read, and its pair alone is made.
+#![tactic(auto)]
+
 ghost use Rattle.std.specs.Prelude.{◌≡◌, [], ◌∷◌, ◌+◌, ◌*◌, ◌/◌, ◌%◌, ◌^◌, ◌≤◌, ◌<◌, min};
 ghost use Rattle.laws.specs.Table.{padded};
 ghost use Rattle.bits.specs.Block.{block_number};

@@ -4,6 +4,8 @@
 // the bottom one becomes the next top one. The first and the last row, which lie about both edges, are kept, so that each word is unpacked once.
 // For a row of texels the window's samples are interpolated downwards first, once for each word, into a line, and then across, once for each
 // texel.
+#![tactic(auto)]
+
 ghost use Rattle.std.specs.Prelude.{◌≡◌, ℕ, ◌+◌, ◌*◌, ◌/◌, ◌%◌, ◌^◌, ◌≤◌, ◌<◌, ltb, length};
 ghost use Rattle.laws.specs.Choice.{pick};
 ghost use Rattle.laws.specs.Table.{tab};

@@ -1,4 +1,6 @@
 // Where the words of a PVRTC1 image lie: the reflected Morton order.
+#![tactic(auto)]
+
 ghost use Rattle.std.specs.Prelude.{◌≡◌, ◌+◌, ◌^◌, ◌≤◌, ◌<◌};
 ghost use Rattle.pvrtc_order.specs.Order.{word_place};
 

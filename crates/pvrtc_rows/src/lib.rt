@@ -2,6 +2,8 @@
 //
 // A kept row has three numbers for each word: colour A, colour B and the word itself. It begins with the last word and ends with the first,
 // so that neighbours lie side by side at the edges too.
+#![tactic(auto)]
+
 ghost use Rattle.std.specs.Prelude.{◌≡◌, ◌+◌, ◌-◌, ◌*◌, ◌/◌, ◌^◌, ◌≤◌, ◌<◌, length, get_or};
 ghost use Rattle.laws.specs.inner.Filled.{Filled};
 ghost use Rattle.pvrtc_texel.specs.Word.{colour_a, colour_b};

@@ -1,6 +1,8 @@
 // Runs of the PVRTC1 image call. Each record of standard input is width, height, how many bytes of words and how many result bytes are lent
 // (16 bits each), and 128 bytes of words. For each a line "refused N" and whether the buffer is as it was, or all bytes of the texels. Before
 // them, 002's word place, and images with the longest sides.
+#![tactic(auto)]
+
 ghost use Rattle.std.specs.Prelude.{◌≤◌, length};
 
 use libc::{STDIN_FILENO, STDOUT_FILENO};

@@ -1,4 +1,6 @@
 // PVRTC1, 4 bits per pixel: what an image of words shows (specs/), and the refusals of an image call.
+#![tactic(auto)]
+
 ghost use Rattle.std.specs.Prelude.{◌≡◌, ◌*◌, ◌≤◌};
 ghost use Rattle.pvrtc_texel.specs.Image.{side_bits, bad_pvrtc_side, words_in, image_refusal};
 

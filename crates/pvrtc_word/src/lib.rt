@@ -1,4 +1,6 @@
 // A word of PVRTC1, 4 bits per pixel: its colours, four channels in one number each, and a texel from such numbers and its modulation.
+#![tactic(auto)]
+
 ghost use Rattle.std.specs.Prelude.{◌≡◌, ℕ, ◌+◌, ◌*◌, ◌≤◌, ◌<◌, eqb};
 ghost use Rattle.pvrtc_texel.specs.Word.{three_to_five, four_to_five, colour_a, colour_b, punch_through, modulation_at, code_weight, modulation_weight, punched};
 ghost use Rattle.pvrtc_texel.specs.Texel.{unorm8, modulated};
@@ -6,7 +8,7 @@ ghost use Rattle.pvrtc_word.specs.inner.Lanes.{lanes, lanes_of, lane, byte_of, r
 ghost use Rattle.laws.specs.Choice.{pick, both};
 
 // The four channels of a texel.
-#[derive(Drop)]
+#[derive(Clone, Copy)]
 pub struct Rgba {
     pub r: u8,
     pub g: u8,

@@ -1,4 +1,6 @@
 // Quantisation ranges, the choice of the endpoint range, and unquantising.
+#![tactic(auto)]
+
 ghost use Rattle.std.specs.Prelude.{◌≡◌, ℕ, ◌+◌, ◌-◌, ◌≤◌, ◌<◌, min, eqb, get_or};
 ghost use Rattle.laws.specs.Choice.{pick};
 ghost use Rattle.laws.specs.Table.{tab};
@@ -126,7 +128,7 @@ pub fn endpoint_range(count: u32, left: u32) -> u8
 // How the numbers of an endpoint range are unquantised, by products: the largest number; 256 / 2^bits, which takes off the digit
 // (0: none); the bits of B in place; C; 128 times the factor that copies the bits to their places in B; and A where a is 1.
 // A number with no digit is B / 4. A caller that unquantises many numbers of one range takes the rule once.
-#[derive(Drop)]
+#[derive(Clone, Copy)]
 pub struct Rule(u8, u16, u8, u8, u16, u16);
 
 // The rule of an endpoint range.

@@ -1,6 +1,8 @@
 // Runs of the reader. Each record of standard input is a footprint and a block. For each a line "refused N" or "fault N", or the
 // symbolic block's fields in 01's order, its HDR mark, the grid's depth and the last two extents, "spare", how many bits are spare and 1
 // where any is set, then "block" and the sixteen bytes that are written for it, and whether they show the same texels in kind 2.
+#![tactic(auto)]
+
 use block_answer::Answer;
 use encoding::Stored;
 use libc::{STDIN_FILENO, STDOUT_FILENO};

@@ -1,4 +1,6 @@
 // A symbolic block (01: sheet) written, read back and shown: demand 3 of what the calls return.
+#![tactic(auto)]
+
 ghost use Rattle.std.specs.Prelude.{◌≡◌, length};
 ghost use Rattle.interpolation.specs.declared.Kind.TheVariants.{Srgb8};
 ghost use Rattle.one_block.specs.Calls.{block_answer, block_out};
@@ -10,7 +12,7 @@ use symbolic_calls::Writing;
 use symbolic_reader::SymbolicReading;
 
 // What the writer, the reader and the one-block call answered.
-#[derive(Drop)]
+#[derive(Clone, Copy)]
 pub struct RoundTrip {
     pub writing: Writing,
     pub reading: SymbolicReading,
@@ -63,7 +65,7 @@ pub fn round_trip_srgb8(fp: u8, s: SymbolicBlock, out: &mut [u8]) -> RoundTrip
 }
 
 // What the reader, the writer and the one-block calls of both blocks answered.
-#[derive(Drop)]
+#[derive(Clone, Copy)]
 pub struct Rewriting {
     pub reading: SymbolicReading,
     pub writing: Writing,

@@ -1,1 +1,3 @@
 // Definitions and a theorem only: see specs/ and proofs/.
+#![tactic(auto)]
+

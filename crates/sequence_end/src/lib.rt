@@ -1,4 +1,6 @@
 // Packed numbers read from a block (crate integer_sequence), where they ended, and whether the digits that a cut group lacks are 0.
+#![tactic(auto)]
+
 ghost use Rattle.std.specs.Prelude.{◌≡◌, ◌≤◌, ◌<◌};
 ghost use Rattle.bits.specs.Block.{block_number};
 ghost use Rattle.encoding.specs.declared.Encoding.TheVariants.{Trits, Quints};
@@ -9,7 +11,7 @@ use bits::PhysicalBlock;
 use encoding::{Encoding, Stored};
 
 // The numbers, the position after the last bit, counted from the first, and whether the missing digits are zero.
-#[derive(Drop)]
+#[derive(Clone, Copy)]
 pub struct Sequence {
     pub numbers: [Stored; 64],
     pub end: u32,

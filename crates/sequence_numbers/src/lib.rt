@@ -1,4 +1,6 @@
 // Up to eight numbers of a packed sequence that follow each other, from the bits of their own groups alone.
+#![tactic(auto)]
+
 ghost use Rattle.std.specs.Prelude.{◌≡◌, ◌+◌, ◌*◌, ◌/◌, ◌%◌, ◌^◌, ◌≤◌, ◌<◌};
 ghost use Rattle.bits.specs.Block.{block_number};
 ghost use Rattle.encoding.specs.declared.Encoding.TheVariants.{Bits, Trits, Quints};
@@ -11,11 +13,11 @@ use bits::PhysicalBlock;
 use encoding::{Encoding, Stored};
 
 // Eight stored numbers in one, the first in bits 7..0.
-#[derive(Drop)]
+#[derive(Clone, Copy)]
 pub struct StoredEight(u64);
 
 // The numbers from two places on.
-#[derive(Drop)]
+#[derive(Clone, Copy)]
 pub struct StoredRows {
     pub upper: StoredEight,
     pub lower: StoredEight,

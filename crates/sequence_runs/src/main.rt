@@ -1,6 +1,8 @@
 // Runs of the reader of packed sequences. Each record of standard input is a quantisation range, how many numbers, the bit where they
 // begin, and a block. For each a line "end N zero Z numbers ..": the position after the last bit, whether the missing digits are zero, and
 // the numbers, at most 64.
+#![tactic(auto)]
+
 use bits::PhysicalBlock;
 use encoding::Stored;
 use libc::{STDIN_FILENO, STDOUT_FILENO};

@@ -1,4 +1,6 @@
 // Writing packed numbers (000: integer sequence encoding; 01, "Packed numbers") into a block.
+#![tactic(auto)]
+
 ghost use Rattle.std.specs.Prelude.{◌≡◌, ◌≤◌, min, take};
 ghost use Rattle.bits.specs.Block.{block_number};
 ghost use Rattle.encoding.specs.declared.Encoding.TheVariants.{Bits, Trits, Quints};

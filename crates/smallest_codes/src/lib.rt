@@ -1,4 +1,6 @@
 // The smallest code whose present digits are the wanted ones (01, "Packed numbers"), looked up; 256 where there is none.
+#![tactic(auto)]
+
 mod cut;
 pub mod whole;
 

@@ -1,4 +1,6 @@
 // The spare bits of a block (02, g): those between endpoints and weights that no field has.
+#![tactic(auto)]
+
 ghost use Rattle.std.specs.Prelude.{◌≡◌, ◌≤◌, length};
 ghost use Rattle.laws.specs.Choice.{pick};
 ghost use Rattle.bits.specs.Block.{block_number};
@@ -10,7 +12,7 @@ use bits::PhysicalBlock;
 use block_header::BlockHeader;
 
 // How many there are, and whether any is set.
-#[derive(Drop)]
+#[derive(Clone, Copy)]
 pub struct Spare {
     pub count: u8,
     pub set: bool,

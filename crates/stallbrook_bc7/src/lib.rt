@@ -1,4 +1,6 @@
 // The calls exported to C for BC7 (02, l).
+#![tactic(auto)]
+
 ghost use Rattle.std.specs.Prelude.{◌≡◌, length};
 ghost use Rattle.bc7_calls.specs.Calls.{decode_told, decode_out};
 ghost use Rattle.bc7_numbers.specs.Calls.{read_number, read_numbers, write_number, write_block};

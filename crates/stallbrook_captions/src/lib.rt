@@ -1,4 +1,6 @@
 // The calls exported to C for the best grey captions (02, n).
+#![tactic(auto)]
+
 ghost use Rattle.std.specs.Prelude.{◌≡◌, length};
 ghost use Rattle.caption_image.specs.Image.{caption_image_refusal, caption_image_out, caption_block_refusal, caption_block_out};
 

@@ -1,4 +1,6 @@
 // The calls exported to C for the headers of .astc files (02, a) and for clips (02, j).
+#![tactic(auto)]
+
 ghost use Rattle.std.specs.Prelude.{◌≡◌, length};
 ghost use Rattle.astc_numbers.specs.Numbers.{read_number, read_numbers, write_number, write_bytes};
 ghost use Rattle.clip_frame.specs.Frame.{write_refusal, frame_out};

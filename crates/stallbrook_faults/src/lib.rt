@@ -1,4 +1,6 @@
 // The calls exported to C for the faults of an image's blocks, and for sizes.
+#![tactic(auto)]
+
 ghost use Rattle.std.specs.Prelude.{◌≡◌, length};
 ghost use Rattle.block_reading.specs.declared.Reading.TheVariants.{Ordinary};
 ghost use Rattle.fault_numbers.specs.Calls.{faults_number, faults_shown, faults_tally};

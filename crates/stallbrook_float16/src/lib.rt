@@ -1,5 +1,7 @@
 // The calls exported to C that decode a block and a whole .astc file in kind 2: four half floats for each texel, as their 16-bit patterns. A slice crosses as
 // pointer and length.
+#![tactic(auto)]
+
 ghost use Rattle.std.specs.Prelude.{◌≡◌, length};
 ghost use Rattle.interpolation.specs.declared.Kind.TheVariants.{Float16};
 ghost use Rattle.one_block.specs.Calls.{block_told, block_out};

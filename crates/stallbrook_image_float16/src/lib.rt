@@ -1,5 +1,7 @@
 // The call exported to C that decodes an image in kind 2: four half floats for each texel, as their 16-bit patterns. An archive of its own, so that kind and
 // reading are constants in it. A slice crosses as pointer and length.
+#![tactic(auto)]
+
 ghost use Rattle.std.specs.Prelude.{◌≡◌, length};
 ghost use Rattle.interpolation.specs.declared.Kind.TheVariants.{Float16};
 ghost use Rattle.image_numbers.specs.Calls.{image_number, image_shown, tally_shown};

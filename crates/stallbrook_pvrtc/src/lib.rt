@@ -1,4 +1,6 @@
 // The call exported to C for PVRTC1, 4 bits per pixel (02, k).
+#![tactic(auto)]
+
 ghost use Rattle.std.specs.Prelude.{◌≡◌, length};
 ghost use Rattle.pvrtc_texel.specs.Image.{image_refusal, image_out};
 

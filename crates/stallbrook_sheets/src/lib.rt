@@ -1,5 +1,7 @@
 // The calls exported to C for symbolic blocks (01: sheets) as lists of 107 numbers: the fields in the order of 01, "Fields", then the HDR
 // mark (02, i), the grid's depth and the third pair of extents (02, h).
+#![tactic(auto)]
+
 ghost use Rattle.std.specs.Prelude.{◌≡◌, length};
 ghost use Rattle.symbolic_numbers.specs.Calls.{read_number, read_numbers, read_spare, write_number, write_block};
 

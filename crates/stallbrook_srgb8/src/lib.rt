@@ -1,5 +1,7 @@
 // The calls exported to C that decode a block and a whole .astc file in kind 1: four bytes for each texel, before the sRGB curve. A slice crosses as
 // pointer and length.
+#![tactic(auto)]
+
 ghost use Rattle.std.specs.Prelude.{◌≡◌, length};
 ghost use Rattle.interpolation.specs.declared.Kind.TheVariants.{Srgb8};
 ghost use Rattle.one_block.specs.Calls.{block_told, block_out};

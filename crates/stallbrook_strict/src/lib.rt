@@ -1,5 +1,7 @@
 // The calls exported to C of the strict reading (02, b) and of the canonical form. An archive of its own, so that the reading is a constant in it.
 // A slice crosses as pointer and length.
+#![tactic(auto)]
+
 ghost use Rattle.std.specs.Prelude.{◌≡◌, length};
 ghost use Rattle.interpolation.specs.declared.Kind.TheVariants.{Unorm16, Srgb8, Float16};
 ghost use Rattle.block_answer.specs.Told.{number_told};

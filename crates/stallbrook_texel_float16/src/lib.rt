@@ -1,5 +1,7 @@
 // The call exported to C for one texel of an image (02, f) in kind 2: passed on to `texel_numbers`. An archive of its own, so that the
 // kind is a constant in it.
+#![tactic(auto)]
+
 ghost use Rattle.std.specs.Prelude.{◌≡◌, length};
 ghost use Rattle.interpolation.specs.declared.Kind.TheVariants.{Float16};
 ghost use Rattle.image_texel.specs.Asking.{asked_at};

@@ -1,5 +1,7 @@
 // The calls exported to C for a view and for one texel of an image (02, f) in kind 0: passed on to `texel_numbers`. An archive of its own, so that the
 // kind is a constant in it.
+#![tactic(auto)]
+
 ghost use Rattle.std.specs.Prelude.{◌≡◌, length};
 ghost use Rattle.interpolation.specs.declared.Kind.TheVariants.{Unorm16};
 ghost use Rattle.image_texel.specs.Making.{view_refusal};

@@ -1,5 +1,7 @@
 // The call exported to C that decodes a volume picture (02, h) in kind 1: four bytes for each texel, before the sRGB curve. An archive of its own, so that kind and
 // reading are constants in it. A slice crosses as pointer and length.
+#![tactic(auto)]
+
 ghost use Rattle.std.specs.Prelude.{◌≡◌, length};
 ghost use Rattle.interpolation.specs.declared.Kind.TheVariants.{Srgb8};
 ghost use Rattle.volume_numbers.specs.Calls.{volume_number, volume_shown, tally_shown};

@@ -1,5 +1,7 @@
 // The call exported to C that decodes a volume picture (02, h) in kind 0: four 16-bit numbers for each texel. An archive of its own, so that kind and
 // reading are constants in it. A slice crosses as pointer and length.
+#![tactic(auto)]
+
 ghost use Rattle.std.specs.Prelude.{◌≡◌, length};
 ghost use Rattle.interpolation.specs.declared.Kind.TheVariants.{Unorm16};
 ghost use Rattle.volume_numbers.specs.Calls.{volume_number, volume_shown, tally_shown};

@@ -1,4 +1,6 @@
 // The canonical form of a block, its strict fault, and a block decoded in either reading.
+#![tactic(auto)]
+
 ghost use Rattle.std.specs.Prelude.{◌≡◌, true, ◌≤◌, eqb, length};
 ghost use Rattle.bits.specs.Block.{block_number};
 ghost use Rattle.footprint.specs.Footprint.{is_volume};
@@ -43,7 +45,7 @@ fn written(fp: u8, b: PhysicalBlock, s: Settings) -> PhysicalBlock
 }
 
 // The canonical form of a block, and its fault by kind 2's list.
-#[derive(Drop)]
+#[derive(Clone, Copy)]
 pub struct CanonicalBlock {
     pub fault: u8,
     pub block: PhysicalBlock,

@@ -1,4 +1,6 @@
 // The strict reader of symbolic blocks (01: sheets): the ordinary reading, and fault 21.
+#![tactic(auto)]
+
 ghost use Rattle.std.specs.Prelude.{◌≡◌};
 ghost use Rattle.block_answer.specs.Told.{number_told};
 ghost use Rattle.block_reading.specs.declared.Reading.TheVariants.{Strict};

@@ -1,8 +1,10 @@
 // A block's settings and numbers apart from its bits: the field's symbolic block, 01's sheet. Definitions and theorems only.
+#![tactic(auto)]
+
 use encoding::Stored;
 
 // 01, "Fields", in its order. Void-extent blocks (mark 1; 01: solid) use the colours and the extents, all others the rest.
-#[derive(Drop)]
+#[derive(Clone, Copy)]
 pub struct SymbolicBlock {
     // 01: solid mark
     pub mark: u8,

@@ -1,4 +1,6 @@
 // The writer of symbolic blocks (01: sheets): a symbolic block to the sixteen bytes of a block.
+#![tactic(auto)]
+
 ghost use Rattle.std.specs.Prelude.{◌≡◌};
 ghost use Rattle.block_answer.specs.Told.{number_told};
 ghost use Rattle.symbolic_block.specs.Refusals.{refusal_of};
@@ -8,7 +10,7 @@ use block_answer::Answer;
 use symbolic_block::SymbolicBlock;
 
 // The answer, and the block's bytes: zeros unless the answer is Done.
-#[derive(Drop)]
+#[derive(Clone, Copy)]
 pub struct Writing {
     pub answer: Answer,
     pub bytes: [u8; 16],

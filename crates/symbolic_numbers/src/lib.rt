@@ -1,5 +1,7 @@
 // The reader and the writer of symbolic blocks (01: sheets) over one list of 107 numbers: the fields of 01 in its order, then the HDR mark
 // of 02, i, and what 02, h, adds: the grid's depth and the third axis' two extents.
+#![tactic(auto)]
+
 ghost use Rattle.std.specs.Prelude.{◌≡◌, ◌+◌, ◌<◌, min, leb, length, get_or};
 ghost use Rattle.laws.specs.Choice.{pick, both};
 ghost use Rattle.laws.specs.Table.{tab};

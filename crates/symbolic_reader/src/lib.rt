@@ -1,4 +1,6 @@
 // The reader of symbolic blocks (01: sheets): a block's settings and numbers as plain numbers.
+#![tactic(auto)]
+
 ghost use Rattle.std.specs.Prelude.{◌≡◌, ◌+◌, ◌*◌, ◌≤◌, ◌<◌, get_or};
 ghost use Rattle.laws.specs.Table.{tab};
 ghost use Rattle.bits.specs.Field.{field};
@@ -22,7 +24,7 @@ use spare_bits::Spare;
 use symbolic_block::SymbolicBlock;
 
 // The answer, the symbolic block and the spare bits: zeros unless the answer is Done.
-#[derive(Drop)]
+#[derive(Clone, Copy)]
 pub struct SymbolicReading {
     pub answer: Answer,
     pub block: SymbolicBlock,

@@ -1,4 +1,6 @@
 // The first refusal of a symbolic block (01: sheet). 01, "Refusals of a sheet, in order".
+#![tactic(auto)]
+
 ghost use Rattle.std.specs.Prelude.{◌≡◌, [], get_or};
 ghost use Rattle.laws.specs.Choice.{pick, both, either};
 ghost use Rattle.block_header.specs.Reasons.{grid_reasons};

@@ -1,4 +1,6 @@
 // An acceptable symbolic block (01: sheet) packed into the 128 bits of a block, part by part from bit 0 upwards.
+#![tactic(auto)]
+
 ghost use Rattle.std.specs.Prelude.{◌≡◌, ◌-◌, ◌^◌, ◌≤◌, ◌<◌, get_or, take};
 ghost use Rattle.laws.specs.Table.{tab, padded};
 ghost use Rattle.bits.specs.Field.{reverse};

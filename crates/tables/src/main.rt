@@ -1,5 +1,7 @@
 // Writes the tables of 000 as the proved functions compute them: the digits of the trit and quint codes, the unquantised levels of
 // the endpoint and weight ranges, the block modes, and partition patterns, flat and in layers. What it must write was made from 000 by other means.
+#![tactic(auto)]
+
 ghost use Rattle.std.specs.Prelude.{◌≤◌};
 
 use bits::PhysicalBlock;

@@ -1,4 +1,6 @@
 // One texel over a run of a picture: what a row of a block shows that has one colour, or a fault. Four texels at a time.
+#![tactic(auto)]
+
 ghost use Rattle.std.specs.Prelude.{◌≡◌, ◌+◌, ◌*◌, ◌/◌, ◌%◌, ◌≤◌, length};
 ghost use Rattle.laws.specs.inner.Filled.{put_four};
 ghost use Rattle.interpolation.specs.declared.Kind.TheVariants.{Unorm16, Srgb8};

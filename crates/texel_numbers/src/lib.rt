@@ -1,4 +1,6 @@
 // One texel of an image (02, f) into a lent list of four numbers, for callers without structs.
+#![tactic(auto)]
+
 ghost use Rattle.std.specs.Prelude.{◌≡◌, ◌≤◌, length};
 ghost use Rattle.interpolation.specs.declared.Kind.TheVariants.{Srgb8};
 ghost use Rattle.image_texel.specs.Asking.{asked_at};

@@ -1,6 +1,8 @@
 // Texels of blocks as Arm's astcenc shows them: 17 bytes for each block, its footprint and its sixteen bytes. For four texels of each a line
 // "k R G B A r g b a h h h h", for nine texels of a volume's block "x y z" in place of k: the top eleven significant bits of kind 0's numbers,
 // which is what a half float keeps of them, kind 1's bytes, and kind 2's half floats.
+#![tactic(auto)]
+
 use libc::{STDIN_FILENO, STDOUT_FILENO};
 
 fn number(n: u16) {

@@ -1,4 +1,6 @@
 // The weights of one texel: of a block's packed weights only those of the four points around its place on the grid are read.
+#![tactic(auto)]
+
 ghost use Rattle.std.specs.Prelude.{◌≡◌, [], ◌∷◌, ℕ, ◌+◌, ◌-◌, ◌*◌, ◌/◌, ◌%◌, ◌^◌, ◌≤◌, ◌<◌, eqb, get_or};
 ghost use Rattle.laws.specs.Choice.{pick};
 ghost use Rattle.quantization.specs.inner.Words.{RightWords};

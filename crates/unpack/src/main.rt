@@ -1,5 +1,7 @@
 // 01, "The program": reads a footprint, a kind and a block, 18 bytes in all, and writes the block's fault and its texels. What it writes is
 // made by `unpack_text::program_text`.
+#![tactic(auto)]
+
 use libc::{STDIN_FILENO, STDOUT_FILENO};
 
 fn main() {

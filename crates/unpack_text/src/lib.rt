@@ -1,4 +1,6 @@
 // The text that the program `unpack` writes (01, "The program"), into a lent buffer.
+#![tactic(auto)]
+
 ghost use Rattle.std.specs.Prelude.{◌≡◌, ◌≤◌, ◌<◌, eqb, length, get_or};
 ghost use Rattle.laws.specs.Choice.{pick};
 ghost use Rattle.bits.specs.Block.{number_of};

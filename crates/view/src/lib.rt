@@ -1,5 +1,7 @@
 // A view of an image (02, f): it keeps the lent blocks beside footprint and sides. Its functions are thin: each puts the view together or
 // takes it apart around a function of `image_texel` on plain numbers and a slice.
+#![tactic(auto)]
+
 ghost use Rattle.std.specs.Prelude.{◌≡◌};
 ghost use Rattle.image_texel.specs.Asking.{asked_at};
 ghost use Rattle.view.specs.View.{view_with, view_of};
@@ -8,7 +10,7 @@ use image_texel::{Asked, Sides};
 use interpolation::Kind;
 
 // The lent blocks, the footprint and the sides; both sides are 0 in a view that making refused, and `refusal` is 01's number of that.
-#[derive(Drop)]
+#[derive(Clone, Copy)]
 pub struct View<'a> {
     pub blocks: &'a [u8],
     pub footprint: u8,

@@ -1,4 +1,6 @@
 // Void extents (01: solid blocks) of flat footprints and of volumes: where their extents lie, and which are bad.
+#![tactic(auto)]
+
 ghost use Rattle.std.specs.Prelude.{◌≡◌, [], ◌∷◌, ◌≤◌, ◌<◌, get_or, false};
 ghost use Rattle.laws.specs.Choice.{pick, both, either};
 ghost use Rattle.bits.specs.Block.{block_number};

@@ -1,5 +1,7 @@
 // The volume picture calls (02, h): blocks, x fastest, then y, then z, to the texels of a whole volume, in each kind, in the ordinary reading and in
 // the strict one.
+#![tactic(auto)]
+
 ghost use Rattle.std.specs.Prelude.{◌≡◌, ◌*◌, ◌<◌, length};
 ghost use Rattle.interpolation.specs.declared.Kind.TheVariants.{Unorm16, Srgb8, Float16};
 ghost use Rattle.interpolation.specs.Expansion.{shown_of};

@@ -1,4 +1,6 @@
 // The weight of a texel of a volume, from the weights of its grid: simplex infill (02, h).
+#![tactic(auto)]
+
 ghost use Rattle.std.specs.Prelude.{◌≡◌, ◌+◌, ◌*◌, ◌≤◌, ◌<◌};
 ghost use Rattle.encoding.specs.inner.Levels.{first_level, second_level, BytePair};
 ghost use Rattle.volume_infill.specs.Simplex.{simplex_sum};
@@ -7,7 +9,7 @@ ghost use Rattle.volume_infill.specs.inner.Way.{walk_of, route_of, both_four, vo
 use encoding::LevelPair;
 
 // The way from a point of the grid to the far corner of its cube: two steps, and the factors of the four points on it.
-#[derive(Drop)]
+#[derive(Clone, Copy)]
 pub struct Walk {
     pub first: usize,
     pub second: usize,
@@ -18,7 +20,7 @@ pub struct Walk {
 }
 
 // The numbers of the four points that are read, and their factors.
-#[derive(Drop)]
+#[derive(Clone, Copy)]
 pub struct Route {
     pub n0: usize,
     pub n1: usize,

@@ -1,10 +1,12 @@
 // Volume pictures (02, h): where their blocks and texels lie, their numbers, and the refusals of a call: types, definitions and laws.
+#![tactic(auto)]
+
 ghost use Rattle.std.specs.Prelude.{◌≡◌, false, ◌*◌, ◌≤◌, ◌<◌};
 ghost use Rattle.volume_layout.specs.Call.{bad_depth, bad_sizes, volume_blocks, volume_places};
 ghost use Rattle.volume_layout.specs.inner.Checked.{volume_grid, checked_of};
 
 // The layout of a volume: its footprint, its sides in texels, a block's sides in texels, and how many blocks lie across, down and deep.
-#[derive(Drop)]
+#[derive(Clone, Copy)]
 pub struct VolumeGrid {
     pub footprint: u8,
     pub width: usize,
@@ -19,7 +21,7 @@ pub struct VolumeGrid {
 }
 
 // The part of a volume that a block covers, cropped at the volume's edges: the place of its first texel, and its sides.
-#[derive(Drop)]
+#[derive(Clone, Copy)]
 pub struct VolumePart {
     pub x: usize,
     pub y: usize,
@@ -30,7 +32,7 @@ pub struct VolumePart {
 }
 
 // The first stage of a volume picture call: its refusal, or the volume's layout.
-#[derive(Drop)]
+#[derive(Clone, Copy)]
 pub enum CheckedVolume {
     Rejected(u8),
     Accepted(VolumeGrid),

@@ -1,4 +1,6 @@
 // The volume picture calls (02, h) over lent lists: what a call tells, in a tally of three numbers that the caller lends.
+#![tactic(auto)]
+
 ghost use Rattle.std.specs.Prelude.{◌≡◌, length};
 ghost use Rattle.interpolation.specs.declared.Kind.TheVariants.{Srgb8};
 ghost use Rattle.one_block.specs.Calls.{Words};

@@ -1,4 +1,6 @@
 // All texels of a volume's block, from levels, lines and a partition index that are prepared once for each block.
+#![tactic(auto)]
+
 ghost use Rattle.std.specs.Prelude.{◌≡◌, ◌+◌, ◌*◌, ◌≤◌, length};
 ghost use Rattle.volume_infill.specs.inner.Way.{ByteLevels};
 ghost use Rattle.block_buffer.specs.inner.Painted.{painted};
@@ -10,7 +12,7 @@ use encoding::LevelPair;
 use interpolation::Kind;
 
 // A volume's sides and the scale factors of a weight grid along them.
-#[derive(Drop)]
+#[derive(Clone, Copy)]
 pub struct VolumeFrame {
     pub width: u8,
     pub height: u8,

@@ -1,4 +1,6 @@
 // The parts of a volume picture that its blocks cover, and their rows.
+#![tactic(auto)]
+
 ghost use Rattle.std.specs.Prelude.{◌*◌, ◌<◌};
 ghost use Rattle.volume_layout.specs.inner.Parts.{SoundGrid, PartFits, PartOf, RunOf};
 

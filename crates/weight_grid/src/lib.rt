@@ -1,4 +1,6 @@
 // The weight of a texel, from the weights of a grid that may be smaller than the block.
+#![tactic(auto)]
+
 ghost use Rattle.std.specs.Prelude.{◌≡◌, ℕ, ◌+◌, ◌-◌, ◌*◌, ◌%◌, ◌≤◌, ◌<◌, length, get_or};
 ghost use Rattle.weight_grid.specs.Place.{scale_of, grid_place};
 ghost use Rattle.encoding.specs.inner.Levels.{first_level, second_level, BytePair};
@@ -67,7 +69,7 @@ pub fn step(place: u32, points: u8, size: usize) -> usize
 
 // A column of texels on the grid: the points beside it and its way between them, once for all rows of a block. At the last point it stands for its
 // right neighbour.
-#[derive(Drop)]
+#[derive(Clone, Copy)]
 pub struct Column {
     pub at: u8,
     pub next: u8,
@@ -108,7 +110,7 @@ pub fn columns(scale: u16, points: u8, width: u8) -> [Column; 12]
 }
 
 // Two points beside each other on a grid of one plane: the right one's level, and the left one's from bit 11 on. So one product weighs both.
-#[derive(Drop)]
+#[derive(Clone, Copy)]
 pub struct PointPair(pub u32);
 
 fn pair_of(left: LevelPair, right: LevelPair) -> PointPair

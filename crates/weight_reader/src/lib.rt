@@ -1,4 +1,6 @@
 // The weights of a block as the points of its grid: packed numbers read and unquantised at once, so that no stored weight is kept.
+#![tactic(auto)]
+
 ghost use Rattle.std.specs.Prelude.{◌≡◌, ◌*◌, ◌^◌, ◌≤◌};
 ghost use Rattle.laws.specs.Table.{tab};
 ghost use Rattle.bits.specs.Block.{block_number};

@@ -2,6 +2,8 @@
 // first) for a colour, an extent and the partition index, one byte for any other, then the HDR mark of 02, i, and of 02, h, the grid's depth
 // and the last two extents. For each a line
 // "refused N", or "block" and the sixteen bytes.
+#![tactic(auto)]
+
 ghost use Rattle.std.specs.Prelude.{◌<◌};
 
 use block_answer::Answer;

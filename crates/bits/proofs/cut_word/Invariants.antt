@@ -1,0 +1,16 @@
+use mathlib.Core.Path.{◌≡◌, refl, sym, ap, ◌∙◌}
+use Prim.Native.Nat.{ℕ, ◌+◌, ◌-◌, ◌*◌, ◌^◌, ◌≤◌, ◌<◌}
+use native.Mathlib.Nat.{add-zero, lt_of_lt_of_le}
+use native.Mathlib.Omega.{arith}
+use lib.Pow.{pow_mono, shl_lt}
+use borrow.Author.Rules.{rules}
+use Rattle.bits.specs.Field.{field}
+use Rattle.bits.specs.Block.{number_of}
+use Rattle.bits.proofs.Fields.{field_lt, field_none, byte_below}
+use Rattle.bits.proofs.cut_word.Given as goal
+
+abbrev pub invariant-loop-left : goal.invariant-loop-left
+invariant-loop-left l = (l.left ≤ 8) × (l.word ≡ field (number_of l.s) (8 * (l.k + l.left)) (64 - 8 * l.left))
+
+abbrev pub decreases-loop-left : goal.decreases-loop-left
+decreases-loop-left l = l.left

@@ -1,0 +1,19 @@
+use mathlib.Core.Path.{refl}
+use Prim.Native.Nat.{ℕ, ◌-◌, ◌*◌, ◌≤◌}
+use native.Mathlib.Omega.{arith}
+use Rattle.laws.proofs.Filling.{Filling, filling_start, filling_more, filling_done}
+use Rattle.bits.specs.declared.PhysicalBlock.{PhysicalBlock}
+use Rattle.bits.specs.Field.{field}
+use Rattle.bits.specs.Block.{bytes_of, block_number}
+use Rattle.bits.proofs.store.Invariants.{bytes}
+use Rattle.bits.proofs.store.Goals as goal
+
+pub loop-k-init : goal.loop-k-init
+loop-k-init c = (omega arith, filling_start _ 0 16 _ refl)
+
+pub loop-k-preserved : goal.loop-k-preserved
+loop-k-preserved c = (omega arith, filling_more _ 0 16 _ _ _ (omega arith) c.loop-k.invariant.1 c.byte_of.ensures)
+
+pub returns : goal.returns
+unfolding bytes_of
+returns c = filling_done (bytes c.args.b) 0 16 _ _ (omega arith) c.loop-k.invariant.1

@@ -1,0 +1,18 @@
+use mathlib.Core.Path.{refl}
+use Prim.Native.Nat.{ℕ, ◌-◌, ◌*◌, ◌≤◌}
+use native.Mathlib.Omega.{arith}
+use Rattle.laws.proofs.Filling.{Filling, filling_start, filling_more, filling_done}
+use Rattle.bits.specs.declared.PhysicalBlock.{PhysicalBlock}
+use Rattle.bits.specs.Field.{field}
+use Rattle.bits.specs.Block.{bytes_of, block_number}
+use Rattle.bits.proofs.store.Given as goal
+
+-- byte i of the block
+abbrev pub bytes : PhysicalBlock → ℕ → ℕ
+bytes b i = field (block_number b) (8 * i) 8
+
+abbrev pub invariant-loop-k : goal.invariant-loop-k
+invariant-loop-k l = (l.k ≤ 16) × Filling (bytes l.b) 0 16 l.s l.k
+
+abbrev pub decreases-loop-k : goal.decreases-loop-k
+decreases-loop-k l = 16 - l.k

@@ -1,0 +1,7 @@
+use Rattle.footprint.specs.Footprint.{sides_of}
+use borrow.Author.Rules.{rules}
+use Rattle.footprint.proofs.width.Goals as goal
+
+pub returns : goal.returns
+unfolding sides_of
+returns c = rw c.sides_of-f.ensures
