@@ -2,12 +2,8 @@ use native.Mathlib.Omega.{arith}
 use borrow.Author.Rules.{rules}
 use Rattle.image_size.specs.Sides.{blocks_across}
 use Rattle.image_size.proofs.Laws.{across_le}
-use Rattle.image_size.proofs.blocks_across.Statement.{statement}
-use Rattle.image_size.proofs.blocks_across.Tie as tie
+use Rattle.image_size.proofs.blocks_across.Goals as goal
 
-returns : tie.Need-returns
+pub returns : goal.returns
 unfolding blocks_across
 returns c = let s = c.before in (c.quotient.ensures, omega (arith, c.quotient.ensures, across_le s.args.side s.args.n s.requires.0, s.requires.1))
-
-pub blocks_across_spec : {M : Type 1} → statement M
-blocks_across_spec = tie.close (tie.spec (λ c. search rules) (λ c. search rules) (λ c κs. search rules) returns)
