@@ -1,14 +1,23 @@
-use Rattle.std.proofs.Common.{rules, ◌≡◌, length, ℕ, ◌+◌, ◌-◌, ◌*◌, ◌<◌, ◌≤◌, ◌/◌, ◌%◌, Bool, true, false, nat_eq, nat_lt, List, [], ◌∷◌, ◌++◌, slice_index_or, slice_set, bit_and, bit_or, Fits, w8, w32, w64, Bor, MutBor}
+use mathlib.Core.Path.{refl, sym, ◌∙◌}
+use Prim.Native.Nat.{◌-◌, ◌≤◌}
+use native.Mathlib.Omega.{arith}
+use borrow.Author.Rules.{rules}
+use lib.ListN.{length, get_or}
+use Rattle.laws.proofs.Filling.{Filling, filling_start, filling_more, filling_done}
+use Rattle.byte_list.proofs.Tables.{tab_self}
 use Rattle.byte_list.proofs.put_block.Goals as goal
 
--- src/lib.rt:10:5
-pub loop-i-init : goal.loop-i-init
-loop-i-init c = ?
-
--- src/lib.rt:10:5
 pub loop-i-preserved : goal.loop-i-preserved
-loop-i-preserved c = ?
+loop-i-preserved c = (omega arith, filling_more _ 0 16 _ _ _ (omega arith) c.loop-i.invariant.1 refl)
 
--- src/lib.rt:5:1
+pub loop-i-init : goal.loop-i-init
+loop-i-init c = (omega arith, filling_start _ 0 16 _ c.requires)
+
+pub bounds-block-i : goal.bounds-block-i
+bounds-block-i c = omega (arith, c.loop-i.invariant.1.size)
+
+pub shape_of-block : goal.shape_of-block
+shape_of-block c = c.loop-i.invariant.1.size ∙ sym c.requires
+
 pub returns : goal.returns
-returns c = ?
+returns c = filling_done _ 0 16 _ _ (omega arith) c.loop-i.invariant.1 ∙ tab_self _ 16 c.well_formed.0.1.0.1
