@@ -7,8 +7,7 @@ use Rattle.laws.specs.Table.{tab}
 use Rattle.quantization.specs.Ranges.{bits_at}
 use Rattle.quantization.proofs.Ranges.{same_below, bits_capped}
 use borrow.Author.Rules.{rules}
-use Rattle.quantization.proofs.bits_at.Statement.{statement}
-use Rattle.quantization.proofs.bits_at.Tie as tie
+use Rattle.quantization.proofs.bits_at.Goals as goal
 
 -- four bits of the first word, and past it of the second
 abbrev told : ℕ → ℕ → ℕ → ℕ
@@ -17,21 +16,6 @@ told x y k = pick (ltb k 16) (x / 2 ^ (4 * (k % 16)) % 16) (y / 2 ^ (4 * (k % 16
 packed : (x y : ℕ) → tab (told x y) 22 ≡ tab bits_at 22 → (k : ℕ) → told x y (min k 21) ≡ bits_at k
 packed x y e k = same_below (told x y) bits_at 22 0 e (min k 21) (omega arith) ∙ bits_capped k
 
-returns : tie.Need-returns
+pub returns : goal.returns
 unfolding tab bits_at
-returns c = rw (c.chosen.ensures, c.before.place_of.ensures) (packed _ _ refl c.before.before.args.range)
-
-pub bits_at_spec : {M : Type 1} → statement M
-bits_at_spec =
-    tie.close
-    (tie.spec
-    (λ c κs. search rules)
-    (λ c. search rules)
-    (λ c. search rules)
-    (λ c. search rules)
-    (λ c. search rules)
-    (λ c. search rules)
-    (λ c. search rules)
-    (λ c. search rules)
-    (λ c κs. search rules)
-    returns)
+returns c = rw (c.chosen.ensures, c.place_of-place.ensures) (packed _ _ refl c.args.range)

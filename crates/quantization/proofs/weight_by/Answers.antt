@@ -9,8 +9,7 @@ use borrow.Author.Tests.{le-ltb}
 use Rattle.laws.specs.Choice.{pick}
 use Rattle.quantization.specs.inner.Words.{by_words}
 use borrow.Author.Rules.{rules}
-use Rattle.quantization.proofs.weight_by.Statement.{statement}
-use Rattle.quantization.proofs.weight_by.Tie as tie
+use Rattle.quantization.proofs.weight_by.Goals as goal
 
 byte : (ws : List ℕ) (v : ℕ) → pick (ltb v 32) (get_or ws (v / 8 % 4) 0 / 2 ^ (8 * (v % 8)) % 256) 0 ≡ by_words ws v
 unfolding by_words
@@ -20,20 +19,5 @@ byte ws v =
       | no p ↦ rw (le-ltb v 32 (omega arith))
     ]
 
-returns : tie.Need-returns
-returns c = c.chosen.ensures ∙ byte c.before.before.args.words.now c.before.before.args.s.0
-
-pub weight_by_spec : {M : Type 1} → statement M
-weight_by_spec =
-    tie.close
-    (tie.spec
-    (λ c. search rules)
-    (λ c. search rules)
-    (λ c. search rules)
-    (λ c. search rules)
-    (λ c. search rules)
-    (λ c. search rules)
-    (λ c. search rules)
-    (λ c. search rules)
-    (λ c κs. search rules)
-    returns)
+pub returns : goal.returns
+returns c = c.chosen.ensures ∙ byte c.args.words.now c.args.s.0

@@ -9,8 +9,7 @@ use Rattle.encoding.specs.declared.Encoding.TheVariants.{Bits, Trits, Quints}
 use Rattle.quantization.specs.Ranges.{encoding_at}
 use Rattle.quantization.proofs.Ranges.{same_below, encoding_capped}
 use borrow.Author.Rules.{rules}
-use Rattle.quantization.proofs.encoding_at.Statement.{statement}
-use Rattle.quantization.proofs.encoding_at.Tie as tie
+use Rattle.quantization.proofs.encoding_at.Goals as goal
 
 -- the encoding that two bits of w tell
 abbrev told : ℕ → ℕ → Encoding
@@ -19,17 +18,6 @@ told w k = pick (eqb (w / 2 ^ (2 * k) % 4) 0) Bits (pick (eqb (w / 2 ^ (2 * k) %
 packed : (w : ℕ) → tab (told w) 22 ≡ tab encoding_at 22 → (k : ℕ) → told w (min k 21) ≡ encoding_at k
 packed w e k = same_below (told w) encoding_at 22 Bits e (min k 21) (omega arith) ∙ encoding_capped k
 
-returns : tie.Need-returns
+pub returns : goal.returns
 unfolding tab encoding_at
-returns c = rw (c.encoding-told.ensures, c.before.place_of.ensures) (packed _ refl c.before.before.args.range)
-
-pub encoding_at_spec : {M : Type 1} → statement M
-encoding_at_spec =
-    tie.close
-    (tie.spec
-    (λ c κs. search rules)
-    (λ c. search rules)
-    (λ c. search rules)
-    (λ c. search rules)
-    (λ c κs. search rules)
-    returns)
+returns c = rw (c.encoding_told.ensures, c.place_of.ensures) (packed _ refl c.args.range)
