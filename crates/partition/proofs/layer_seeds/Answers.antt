@@ -6,8 +6,7 @@ use Rattle.partition.specs.Select.{sh3, doubled, partition_of}
 use Rattle.partition.specs.inner.Seeds.{seeds_of, select_by}
 use Rattle.partition.specs.inner.Layers.{lane_at_layer, layer_from, layer_of}
 use Rattle.partition.proofs.Layers.{layer_agrees}
-use Rattle.partition.proofs.layer_seeds.Statement.{statement}
-use Rattle.partition.proofs.layer_seeds.Tie as tie
+use Rattle.partition.proofs.layer_seeds.Goals as goal
 
 -- with one partition there is nothing to choose at any layer
 one : (index count : ℕ) (small : Bool) (z : ℕ) → count < 2 → layer_of index count small z ≡ seeds_of index count small
@@ -24,23 +23,8 @@ both : (index count : ℕ) (small : Bool) (z : ℕ) {r : Seeds} → r ≡ layer_
     → (r ≡ layer_of index count small z) × ((x y : ℕ) → select_by r x y ≡ partition_of index count small x y z)
 both index count small z e = (e, λ x y. ap (λ (s : Seeds). select_by s x y) e ∙ layer_agrees index count small x y z)
 
-returns : tie.Need-returns
-returns c = both _ _ _ _ (c.before.partition-seeds.ensures.0 ∙ sym (one _ _ _ _ c.if1.true))
+pub returns-then-count-lt2 : goal.returns-then-count-lt2
+returns-then-count-lt2 c = let it = both _ _ _ _ (c.partition_seeds-s.ensures.value ∙ sym (one _ _ _ _ c.if-count-lt2.true)) in record { value = it.0; by_index = it.1 }
 
-returns-2 : tie.Need-returns-2
-returns-2 c = both _ _ _ _ (parts _ _ _ _ c.layer-from.ensures c.before.before.before.before.before.partition-seeds.ensures.0 c.before.before.hash52.ensures c.before.third-shift.ensures.0 c.before.before.before.doubled-seed.ensures)
-
-pub layer_seeds_spec : {M : Type 1} → statement M
-layer_seeds_spec =
-    tie.close
-    (tie.spec
-    (λ c κs. search rules)
-    returns
-    (λ c. search rules)
-    (λ c. search rules)
-    (λ c. search rules)
-    (λ c κs. search rules)
-    (λ c κs. search rules)
-    (λ c κs. search rules)
-    (λ c κs. search rules)
-    returns-2)
+pub returns : goal.returns
+returns c = let it = both _ _ _ _ (parts _ _ _ _ c.layer_from.ensures c.partition_seeds-s.ensures.value c.hash52.ensures c.third_shift.ensures.0 c.doubled_seed-zz.ensures) in record { value = it.0; by_index = it.1 }
