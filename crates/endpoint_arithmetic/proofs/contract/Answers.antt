@@ -8,18 +8,18 @@ use mir.Syntax.{w32}
 use lib.Signed.{shr_z}
 use lib.IntN.{◌+ℤ◌}
 use native.Mathlib.Omega.{arith}
-use Rattle.endpoint_arithmetic.proofs.contract.Statement.{statement}
-use Rattle.endpoint_arithmetic.proofs.contract.Tie as tie
+use Rattle.endpoint_arithmetic.proofs.contract.Goals as goal
+use Rattle.endpoint_arithmetic.proofs.contract.Goals.{Start}
 
-module _ (s : tie.Start) where
+module _ (s : Start) where
   fx : SFits w32 s.args.x.0
   fx = within_fits w32 s.requires.0 (omega arith) (omega arith)
 
   fb : SFits w32 s.args.blue.0
-  fb = within_fits w32 s.pre.1 (omega arith) (omega arith)
+  fb = within_fits w32 s.requires.1 (omega arith) (omega arith)
 
   near : Within 256 764 (s.args.x.0 +ℤ s.args.blue.0)
-  near = within_add s.pre.0 s.pre.1
+  near = within_add s.requires.0 s.requires.1
 
   fit : SFits w32 (s.args.x.0 +ℤ s.args.blue.0)
   fit = within_fits w32 near (omega arith) (omega arith)
@@ -27,12 +27,9 @@ module _ (s : tie.Start) where
   half : SFits w32 (shr_z (s.args.x.0 +ℤ s.args.blue.0) 2)
   half = within_fits w32 (within_half 128 382 near) (omega arith) (omega arith)
 
-add_t5 : tie.Need-overflow-add-t5
-add_t5 c = let s = c.before.before in rw (to_z-of_z w32 _ (fx s), to_z-of_z w32 _ (fb s)) (fit s)
+pub overflow_add-result : goal.overflow_add-result
+overflow_add-result c = let s = c.before.before in rw (to_z-of_z w32 _ (fx s), to_z-of_z w32 _ (fb s)) (fit s)
 
-returns : tie.Need-returns
+pub returns : goal.returns
 unfolding contracted
 returns c = let s = c.before.before in rw (sum_read _ _ (fx s) (fb s) (fit s), to_z-of_z w32 _ (half s))
-
-pub contract_spec : {M : Type 1} → statement M
-contract_spec = tie.close (tie.spec add_t5 returns)

@@ -5,11 +5,7 @@ use mir.Syntax.{w32}
 use native.Mathlib.Omega.{arith}
 use mathlib.Core.Path.{refl}
 use borrow.Author.Rules.{rules}
-use Rattle.endpoint_arithmetic.proofs.level.Statement.{statement}
-use Rattle.endpoint_arithmetic.proofs.level.Tie as tie
+use Rattle.endpoint_arithmetic.proofs.level.Goals as goal
 
-returns : tie.Need-returns
+pub returns : goal.returns
 returns c = rw (to_z_pos w32 c.args.n (omega arith)) (refl, within_pos (omega arith))
-
-pub level_spec : {M : Type 1} → statement M
-level_spec = tie.close (tie.spec (λ c. search rules) returns)
