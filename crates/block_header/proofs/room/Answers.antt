@@ -1,0 +1,10 @@
+use mathlib.Core.Path.{◌≡◌, refl, sym, ap, ◌∙◌}
+use native.Mathlib.Omega.{arith}
+use borrow.Author.Tests.{eq-eqb, ne_eqb}
+use Rattle.block_header.proofs.room.Goals as goal
+
+pub returns-then-partitions-eq1 : goal.returns-then-partitions-eq1
+returns-then-partitions-eq1 c = rw (eq-eqb _ _ c.if-partitions-eq1.true) (refl, omega arith)
+
+pub returns-else-partitions-eq1 : goal.returns-else-partitions-eq1
+returns-else-partitions-eq1 c = rw (ne_eqb _ _ c.if-partitions-eq1.false) (refl, omega arith)

@@ -1,0 +1,7 @@
+use Rattle.block_header.specs.Counts.{weight_bits}
+use borrow.Author.Rules.{rules}
+use Rattle.block_header.proofs.weight_bits.Goals as goal
+
+pub returns : goal.returns
+unfolding weight_bits
+returns c = rw (c.range_bits.ensures, c.weight_count.ensures.0)
