@@ -1,7 +1,6 @@
 // A BC7 block's settings and numbers apart from its bits: request l's sheet. Definitions and theorems only.
 #![tactic(auto)]
 
-
 // In the block's order. Fields that a mode does not have are unused, and 0.
 #[derive(Clone, Copy)]
 pub struct Bc7Block {
