@@ -1,0 +1,7 @@
+use mathlib.Core.Path.{◌≡◌, refl, sym, ap, ◌∙◌}
+use Rattle.bits.specs.Block.{block_number}
+use Rattle.bc7_codec.proofs.no_bits.Goals as goal
+
+pub returns : goal.returns
+unfolding block_number
+returns c = refl
