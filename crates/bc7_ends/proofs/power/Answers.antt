@@ -4,15 +4,11 @@ use Prim.Native.Nat.{ℕ, ◌*◌, ◌%◌, ◌^◌, ◌<◌}
 use native.Mathlib.Nat.{one-mul, mod-eq_of_lt}
 use lib.Pow.{pow_pos, pow-lt, pow_mono}
 use borrow.Author.Rules.{rules}
-use Rattle.bc7_ends.proofs.power.Statement.{statement}
-use Rattle.bc7_ends.proofs.power.Tie as tie
+use Rattle.bc7_ends.proofs.power.Goals as goal
 
-returns : tie.Need-returns
+pub returns : goal.returns
 returns c =
     let n = c.args.n in
     let h : n < 32 = omega arith in
     let e : 1 * 2 ^ n % 2 ^ 32 ≡ 2 ^ n = rw one-mul (mod-eq_of_lt (pow-lt {j = 32} h)) in
     (e, rw e (pow_pos n), rw e (pow_mono {j = 8} c.requires))
-
-pub power_spec : {M : Type 1} → statement M
-power_spec = tie.close (tie.spec (λ c. search rules) returns)

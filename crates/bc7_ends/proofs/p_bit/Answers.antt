@@ -13,8 +13,7 @@ use Rattle.bc7_layout.specs.Modes.{mode_row, subsets, endpoint_pbits, shared_pbi
 use Rattle.bc7_layout.proofs.Tables.{subsets_most}
 use Rattle.bc7_block.specs.Picture.{has_pbit}
 use Rattle.bc7_ends.proofs.Places.{p_own, p_of_subset}
-use Rattle.bc7_ends.proofs.p_bit.Statement.{statement}
-use Rattle.bc7_ends.proofs.p_bit.Tie as tie
+use Rattle.bc7_ends.proofs.p_bit.Goals as goal
 
 -- one kind of P bits by the row
 own : (m : ℕ) (w : Mode) → w ≡ mode_row m → w.ends ≡ 1 → endpoint_pbits m ≡ 1
@@ -35,21 +34,18 @@ x_most m x h l = let n = subsets_most m h in omega arith
 one_bit : (r s p : ℕ) → r ≡ s → s ≡ p → p < 2 → r ≤ 1
 one_bit r s p a b h = omega arith
 
-add_small_field : tie.Need-overflow-add-small-field
-add_small_field c = let p = c.before.before.before.before.requires in omega (arith, p.0.p_bits_most, x_most _ _ p.0.known p.1)
+pub overflow_add-f : goal.overflow_add-f
+overflow_add-f c = let p = c.requires in omega (arith, p.0.p_bits_most, x_most _ _ p.0.known p.1)
 
-returns : tie.Need-returns
+pub returns-then-row-eq1 : goal.returns-then-row-eq1
+returns-then-row-eq1 c =
+    let p = c.requires in
+    let f = c.small_field.ensures in
+    (c.wide.ensures.0 ∙ p_own _ p.0.known _ _ _ p.1 p.0.p_bits_lem (own _ _ p.0.row c.if-row-eq1.true) f, one_bit _ _ _ c.wide.ensures.0 f (field_lt _ _ 1))
+
+pub returns : goal.returns
 returns c =
-    let p = c.before.before.before.before.before.before.requires in
-    let f = c.before.small-field.ensures in
-    (c.wide.ensures.0 ∙ p_own _ p.0.known _ _ _ p.1 p.0.p_bits_lem (own _ _ p.0.row c.before.before.before.if1.true) f, one_bit _ _ _ c.wide.ensures.0 f (field_lt _ _ 1))
-
-returns-2 : tie.Need-returns-2
-returns-2 c =
-    let p = c.before.before.before.before.before.before.requires in
-    let f = c.before.small-field2.ensures in
-    let n = not_own _ _ p.0.row c.before.before.before.if1.false in
-    (c.wide2.ensures.0 ∙ p_of_subset _ p.0.known _ _ _ p.1 p.0.p_bits_lem n (shared _ _ p.2 n) f, one_bit _ _ _ c.wide2.ensures.0 f (field_lt _ _ 1))
-
-pub p_bit_spec : {M : Type 1} → statement M
-p_bit_spec = tie.close (tie.spec add_small_field (λ c κs. search rules) (λ c κs. search rules) returns (λ c. search rules) (λ c κs. search rules) (λ c κs. search rules) returns-2)
+    let p = c.requires in
+    let f = c.small_field-2.ensures in
+    let n = not_own _ _ p.0.row c.if-row-eq1.false in
+    (c.wide-2.ensures.0 ∙ p_of_subset _ p.0.known _ _ _ p.1 p.0.p_bits_lem n (shared _ _ p.2 n) f, one_bit _ _ _ c.wide-2.ensures.0 f (field_lt _ _ 1))
