@@ -1,0 +1,9 @@
+use Rattle.std.proofs.Common.{rules}
+use Rattle.clip_reader.proofs.finish_number.Reads as reads
+use Rattle.clip_reader.proofs.finish_number.Lts as lts
+use Rattle.clip_reader.proofs.header_end.Reads as header-end-reads
+use Rattle.clip_reader.proofs.finish_number.Goals as goal
+
+-- src/lib.rt:407:1
+pub returns-in-Header : goal.returns-in-Header
+returns-in-Header c = rw c.in-Header.is c.header_end.ensures
