@@ -1,0 +1,8 @@
+-- `half_pair::expanded_hdr` meets its contract.
+use Rattle.half_pair.specs.Pair.{expanded_hdr}
+use borrow.Author.Rules.{rules}
+use Rattle.half_pair.proofs.expanded_hdr.Goals as goal
+
+pub returns : goal.returns
+unfolding expanded_hdr
+returns c = rw (c.hdr_end-c0.ensures, c.hdr_end-c1.ensures)
