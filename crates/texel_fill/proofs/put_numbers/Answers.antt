@@ -1,0 +1,13 @@
+use native.Mathlib.Omega.{arith}
+use lib.ListN.{length-set}
+use borrow.Author.Rules.{rules}
+use Rattle.texel_fill.proofs.put_numbers.Goals as goal
+
+pub bounds-out-i-2 : goal.bounds-out-i-2
+bounds-out-i-2 c = simp length-set (omega arith)
+
+pub bounds-out-i-3 : goal.bounds-out-i-3
+bounds-out-i-3 c = simp length-set (omega arith)
+
+pub bounds-out-i-4 : goal.bounds-out-i-4
+bounds-out-i-4 c = simp length-set (omega arith)
