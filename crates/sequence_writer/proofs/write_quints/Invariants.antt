@@ -1,0 +1,14 @@
+use Prim.Native.Nat.{◌-◌}
+use native.Mathlib.Omega.{arith}
+use borrow.Author.Rules.{rules}
+use Rattle.bits.specs.Block.{block_number}
+use Rattle.encoding.specs.declared.Encoding.TheVariants.{Quints}
+use Rattle.encoding.specs.Encoding.{sequence_bits}
+use Rattle.sequence_writer.proofs.Growing.{Grown, grown_none, grown_near, grown_more, grown_cut, grown_all}
+use Rattle.sequence_writer.proofs.write_quints.Given as goal
+
+abbrev pub invariant-loop-i : goal.invariant-loop-i
+invariant-loop-i l = Grown Quints l.b l.n l.from l.xs (block_number l.initial.out) (block_number l.out) l.at l.i
+
+abbrev pub decreases-loop-i : goal.decreases-loop-i
+decreases-loop-i l = l.n - l.i
