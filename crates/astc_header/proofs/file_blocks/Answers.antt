@@ -8,14 +8,18 @@ use Rattle.astc_header.proofs.file_blocks.Reads as reads
 use Rattle.astc_header.proofs.file_blocks.Lts as lts
 use Rattle.astc_header.proofs.refusal.Reads as refusal-reads
 use Rattle.astc_header.proofs.file_blocks.Goals as goal
-use Rattle.astc_header.proofs.file_blocks.Goals.{Else-refusal-ne0}
+use Rattle.astc_header.proofs.file_blocks.Goals.{After-result-1, Else-refusal-ne0}
 
 -- a file that is not refused
-none : (c : Else-refusal-ne0) → header_refusal c.args.file.now ≡ 0
-none c = sym c.refusal.ensures ∙ c.if-refusal-ne0.false
+none-After-result-1 : (c : After-result-1) → header_refusal c.args.file.now ≡ 0
+none-After-result-1 c = sym c.refusal.ensures ∙ c.if-refusal-ne0.false
+
+-- a file that is not refused
+none-Else-refusal-ne0 : (c : Else-refusal-ne0) → header_refusal c.args.file.now ≡ 0
+none-Else-refusal-ne0 c = sym c.refusal.ensures ∙ c.if-refusal-ne0.false
 
 long : (c : Else-refusal-ne0) → 16 ≤ length c.args.file.now
-long c = (taken _ (none c)).form.long
+long c = (taken _ (none-Else-refusal-ne0 c)).form.long
 
 -- src/lib.rt:157:9
 pub returns-then-refusal-ne0 : goal.returns-then-refusal-ne0
@@ -31,4 +35,4 @@ slice_bounds-result-start c = let k = long c in search rules
 
 -- src/lib.rt:153:1
 pub returns : goal.returns
-returns c = let s = c.args.file.now in part_all s (none c.before) ∙ its_blocks s (none c.before)
+returns c = let s = c.args.file.now in part_all s (none-After-result-1 c) ∙ its_blocks s (none-After-result-1 c)
