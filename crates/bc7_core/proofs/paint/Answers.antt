@@ -30,7 +30,7 @@ returns c = let i = c.loop-i.invariant in all_put _ _ _ _ (omega arith) i.1 i.2
 -- src/lib.rt:220:5
 pub loop-i-preserved : goal.loop-i-preserved
 loop-i-preserved c =
-    let b = c.before.before.before.before.before.before in
+    let b = c in
     let i = b.loop-i.invariant in
     let l : b.loop-i.i < 16 = omega arith in
     let e = c.put.ensures in (

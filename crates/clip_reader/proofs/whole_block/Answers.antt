@@ -4,11 +4,11 @@ use Rattle.clip.specs.declared.Clip.{Clip}
 use Rattle.clip.proofs.Whole.{whole_fed, whole_fed_lem}
 use Rattle.clip_reader.proofs.Feeding.{whole_returned}
 use Rattle.clip_reader.proofs.whole_block.Goals as goal
-use Rattle.clip_reader.proofs.whole_block.Goals.{Start}
+use Rattle.clip_reader.proofs.whole_block.Goals.{After-first_block}
 
-long_enough : (c : Start) → length c.args.c.held ≡ 16
+long_enough : (c : After-first_block) → length c.args.c.held ≡ 16
 long_enough c = simp length-map at c.well_formed.0.1.1.1.1.0.1.0.1
 
 pub returns : goal.returns
-returns c = let o = c.before.before.before in
-    whole_returned o.args.c o.args.piece.now o.requires.0 o.requires.1 (long_enough o) o.requires.2 c.pass.ensures c.First-Block.ensures
+returns c = let o = c in
+    whole_returned o.args.c o.args.piece.now o.requires.0 o.requires.1 (long_enough c) o.requires.2 c.pass.ensures c.First-Block.ensures

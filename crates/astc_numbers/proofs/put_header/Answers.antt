@@ -1,0 +1,9 @@
+use Rattle.byte_list.proofs.Tables.{three}
+use borrow.Author.Rules.{rules}
+use Rattle.astc_numbers.proofs.put_header.Reads as reads
+use Rattle.astc_numbers.proofs.put_header.Lts as lts
+use Rattle.astc_numbers.proofs.put_header.Goals as goal
+
+-- src/lib.rt:43:1
+pub returns : goal.returns
+returns c = three c.args.header.now _ _ _ c.requires
