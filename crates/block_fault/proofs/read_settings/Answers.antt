@@ -1,5 +1,4 @@
 use Rattle.block_mode.specs.declared.WeightGrid.{WeightGrid}
-use Rattle.std.proofs.Common.{⊥}
 use mathlib.Core.Path.{◌≡◌, refl, sym, ap, ◌∙◌}
 use mathlib.Core.List.{[], ◌∷◌}
 use mathlib.Core.Logic.{⊎_elim}

@@ -107,46 +107,46 @@ x-After-p3-1 c = c.loop-x.x
 abbrev x-After-route_at-k : After-route_at-k → ℕ
 x-After-route_at-k c = c.loop-x.x
 
-row_le : (c : After-row_partitions-which) → z-After-row_partitions-which c * (c).args.f.height + y-After-row_partitions-which c < 72
+row_le : (c : After-row_partitions-which) → z-After-row_partitions-which c * c.args.f.height + y-After-row_partitions-which c < 72
 row_le c = let s = c in
-    omega (arith, rows_most _ _ _ _ s.pre.0, row_lt s.args.f.height s.args.f.depth (y-After-row_partitions-which c) (z-After-row_partitions-which c) c.loop-y-test.true c.loop-z-test.true)
+    omega (arith, rows_most _ _ _ _ s.requires.in_volume, row_lt s.args.f.height s.args.f.depth (y-After-row_partitions-which c) (z-After-row_partitions-which c) c.loop-y-test.true c.loop-z-test.true)
 
-on_place-After-grid_place-gs : (c : After-grid_place-gs) → let a = (c).args in
+on_place-After-grid_place-gs : (c : After-grid_place-gs) → let a = c.args in
     WithinGrid a.width a.height a.depth c.grid_place-gs.result c.grid_place-gt.result c.grid_place-gr.result
 on_place-After-grid_place-gs c = let p = c in
     let r = c in
     let l = c in
     on_grid _ _ _ _ c.requires.in_volume (x-After-grid_place-gs c) (y-After-grid_place-gs c) (z-After-grid_place-gs c) p.loop-x-test.true r.loop-y-test.true l.loop-z-test.true c.grid_place-gs.ensures c.grid_place-gt.ensures c.grid_place-gr.ensures
 
-on_place-After-p0-1 : (c : After-p0-1) → let a = (c).args in
+on_place-After-p0-1 : (c : After-p0-1) → let a = c.args in
     WithinGrid a.width a.height a.depth c.grid_place-gs.result c.grid_place-gt.result c.grid_place-gr.result
 on_place-After-p0-1 c = let p = c in
     let r = c in
     let l = c in
     on_grid _ _ _ _ c.requires.in_volume (x-After-p0-1 c) (y-After-p0-1 c) (z-After-p0-1 c) p.loop-x-test.true r.loop-y-test.true l.loop-z-test.true c.grid_place-gs.ensures c.grid_place-gt.ensures c.grid_place-gr.ensures
 
-on_place-After-p1-1 : (c : After-p1-1) → let a = (c).args in
+on_place-After-p1-1 : (c : After-p1-1) → let a = c.args in
     WithinGrid a.width a.height a.depth c.grid_place-gs.result c.grid_place-gt.result c.grid_place-gr.result
 on_place-After-p1-1 c = let p = c in
     let r = c in
     let l = c in
     on_grid _ _ _ _ c.requires.in_volume (x-After-p1-1 c) (y-After-p1-1 c) (z-After-p1-1 c) p.loop-x-test.true r.loop-y-test.true l.loop-z-test.true c.grid_place-gs.ensures c.grid_place-gt.ensures c.grid_place-gr.ensures
 
-on_place-After-p2-1 : (c : After-p2-1) → let a = (c).args in
+on_place-After-p2-1 : (c : After-p2-1) → let a = c.args in
     WithinGrid a.width a.height a.depth c.grid_place-gs.result c.grid_place-gt.result c.grid_place-gr.result
 on_place-After-p2-1 c = let p = c in
     let r = c in
     let l = c in
     on_grid _ _ _ _ c.requires.in_volume (x-After-p2-1 c) (y-After-p2-1 c) (z-After-p2-1 c) p.loop-x-test.true r.loop-y-test.true l.loop-z-test.true c.grid_place-gs.ensures c.grid_place-gt.ensures c.grid_place-gr.ensures
 
-on_place-After-p3-1 : (c : After-p3-1) → let a = (c).args in
+on_place-After-p3-1 : (c : After-p3-1) → let a = c.args in
     WithinGrid a.width a.height a.depth c.grid_place-gs.result c.grid_place-gt.result c.grid_place-gr.result
 on_place-After-p3-1 c = let p = c in
     let r = c in
     let l = c in
     on_grid _ _ _ _ c.requires.in_volume (x-After-p3-1 c) (y-After-p3-1 c) (z-After-p3-1 c) p.loop-x-test.true r.loop-y-test.true l.loop-z-test.true c.grid_place-gs.ensures c.grid_place-gt.ensures c.grid_place-gr.ensures
 
-on_place-After-route_at-k : (c : After-route_at-k) → let a = (c).args in
+on_place-After-route_at-k : (c : After-route_at-k) → let a = c.args in
     WithinGrid a.width a.height a.depth c.grid_place-gs.result c.grid_place-gt.result c.grid_place-gr.result
 on_place-After-route_at-k c = let p = c in
     let r = c in
@@ -170,15 +170,15 @@ facts-After-route_at-k c = routed _ _ _ _ _ _ (on_place-After-route_at-k c) c.ro
 
 -- a row of a block is not wider than the row of partitions
 narrow-After-blend_pairs-both : (c : After-blend_pairs-both) → x-After-blend_pairs-both c < 16
-narrow-After-blend_pairs-both c = omega (arith, c.loop-x-test.true, (c).pre.0.width_most)
+narrow-After-blend_pairs-both c = omega (arith, c.loop-x-test.true, c.requires.in_volume.width_most)
 
 -- a row of a block is not wider than the row of partitions
 narrow-After-put : (c : After-put) → x-After-put c < 16
-narrow-After-put c = omega (arith, c.loop-x-test.true, (c).pre.0.width_most)
+narrow-After-put c = omega (arith, c.loop-x-test.true, c.requires.in_volume.width_most)
 
-shown : (d : After-put) → let p = d in let a = (d).args in
+shown : (d : After-put) → let p = d in let a = d.args in
     d.mix-t.result
-    ≡ by_rows a.f.height (volume_texel a.kind a.width a.height a.depth a.component a.t6 a.lines.now a.index a.partitions a.small a.f) (x-After-put d) p.row_of-q.result
+    ≡ by_rows a.f.height (volume_texel a.kind a.width a.height a.depth a.component a.points a.lines.now a.index a.partitions a.small a.f) (x-After-put d) p.row_of-q.result
 shown d = let b = d in
     let p = d in
     let r = d in
@@ -192,7 +192,7 @@ shown d = let b = d in
 
 -- it lies in the buffer
 fits-After-place : (d : After-place) → let p = d in
-    4 * (p.row_of-q.result * (d).args.f.width + x-After-place d) + 4 ≤ 864
+    4 * (p.row_of-q.result * d.args.f.width + x-After-place d) + 4 ≤ 864
 fits-After-place d = let p = d in
     let r = d in
     let l = d in
@@ -202,7 +202,7 @@ fits-After-place d = let p = d in
 
 -- it lies in the buffer
 fits-After-put : (d : After-put) → let p = d in
-    4 * (p.row_of-q.result * (d).args.f.width + x-After-put d) + 4 ≤ 864
+    4 * (p.row_of-q.result * d.args.f.width + x-After-put d) + 4 ≤ 864
 fits-After-put d = let p = d in
     let r = d in
     let l = d in
@@ -213,13 +213,13 @@ fits-After-put d = let p = d in
 -- the partition that is found has a line
 pub bounds-lines-which : goal.bounds-lines-which
 bounds-lines-which b = let p = b in
-    which_lt b.layer_seeds-seeds.result (b).args.partitions (y-After-blend_pairs-both b) (x-After-blend_pairs-both b) p.row_partitions-which.ensures (narrow-After-blend_pairs-both b)
+    which_lt b.layer_seeds-seeds.result b.args.partitions (y-After-blend_pairs-both b) (x-After-blend_pairs-both b) p.row_partitions-which.ensures (narrow-After-blend_pairs-both b)
 
 pub loop-x-preserved : goal.loop-x-preserved
 loop-x-preserved c = let d = c in
     let p = c in
     let l = p.loop-x in
-    let a = (c).args in (
+    let a = c.args in (
       omega (arith, p.loop-x-test.true),
       λ old e w. rw c.put.ensures (laid_texel a.f.width _ old l.out l.x p.row_of-q.result e p.loop-x-test.true (fits-After-put c) (shown c) d.place.ensures (l.inv.1 old e w)),
     )
@@ -229,7 +229,7 @@ loop-y-preserved c = let l = c.loop-x in
     let q = c.row_of-q in
     let r = c in
     let k = r.loop-y in
-    let f = (c).args.f in
+    let f = c.args.f in
     let n : q.result + 1 ≡ z-After-loop-x c * f.height + (k.y + 1) = omega (arith, q.ensures) in (
       omega (arith, r.loop-y-test.true),
       λ old e w. laid_as _ _ _ _ (row_end f.width l.x q.result (omega (arith, c.loop-x-test.false, l.invariant.0)) ∙ ap (λ (m : ℕ). 4 * (m * f.width)) n)
@@ -289,11 +289,20 @@ offset_bounds-points-n3 c = omega (arith, (facts-After-p2-1 c).n3)
 pub bounds-points-n3 : goal.bounds-points-n3
 bounds-points-n3 c = (facts-After-p2-1 c).n3
 
+pub blend_pairs-both-requires : goal.blend_pairs-both-requires
+blend_pairs-both-requires c = let d = c in let h = c.requires.byte_levels in record { w3_value = (facts-After-p3-1 c).sum; byte_pair = (h _, h _, h _, h _) }
+
 pub offset_bounds-which-x : goal.offset_bounds-which-x
 offset_bounds-which-x c = omega (arith, narrow-After-blend_pairs-both c)
 
 pub bounds-which-x : goal.bounds-which-x
 bounds-which-x c = narrow-After-blend_pairs-both c
+
+pub overflow_cast-line-in-loop-x : goal.overflow_cast-line-in-loop-x
+overflow_cast-line-in-loop-x c = omega (arith, which_line c)
+
+pub offset_bounds-lines-which : goal.offset_bounds-lines-which
+offset_bounds-lines-which c = omega (arith, which_line c)
 
 pub put-requires : goal.put-requires
 put-requires c = rw c.place.ensures (fits-After-place c)
@@ -303,6 +312,9 @@ overflow_add-x c = omega (arith, narrow-After-put c)
 
 pub loop-x-smaller : goal.loop-x-smaller
 loop-x-smaller c = let p = c in omega (arith, p.loop-x-test.true)
+
+pub overflow_add-y : goal.overflow_add-y
+overflow_add-y c = let r = c in omega (arith, r.loop-y-test.true, c.requires.in_volume.height_most)
 
 pub loop-y-smaller : goal.loop-y-smaller
 loop-y-smaller c = let r = c in omega (arith, r.loop-y-test.true)
