@@ -221,7 +221,7 @@ loop-x-preserved c = let d = c in
     let l = p.loop-x in
     let a = c.args in (
       omega (arith, p.loop-x-test.true),
-      λ old e w. rw c.put.ensures (laid_texel a.f.width _ old l.out l.x p.row_of-q.result e p.loop-x-test.true (fits-After-put c) (shown c) d.place.ensures (l.inv.1 old e w)),
+      λ old e w. rw c.put.ensures (laid_texel a.f.width _ old l.out l.x p.row_of-q.result e p.loop-x-test.true (fits-After-put c) (shown c) d.place.ensures (l.invariant.1 old e w)),
     )
 
 pub loop-y-preserved : goal.loop-y-preserved
@@ -297,12 +297,6 @@ offset_bounds-which-x c = omega (arith, narrow-After-blend_pairs-both c)
 
 pub bounds-which-x : goal.bounds-which-x
 bounds-which-x c = narrow-After-blend_pairs-both c
-
-pub overflow_cast-line-in-loop-x : goal.overflow_cast-line-in-loop-x
-overflow_cast-line-in-loop-x c = omega (arith, which_line c)
-
-pub offset_bounds-lines-which : goal.offset_bounds-lines-which
-offset_bounds-lines-which c = omega (arith, which_line c)
 
 pub put-requires : goal.put-requires
 put-requires c = rw c.place.ensures (fits-After-place c)
