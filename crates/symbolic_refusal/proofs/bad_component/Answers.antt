@@ -1,0 +1,7 @@
+use Rattle.symbolic_block.specs.Refusals.{bad_component}
+use borrow.Author.Rules.{rules}
+use Rattle.symbolic_refusal.proofs.bad_component.Goals as goal
+
+pub returns : goal.returns
+unfolding bad_component
+returns c = rw (c.wide.ensures, c.most_by.ensures)
