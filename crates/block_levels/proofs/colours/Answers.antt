@@ -8,8 +8,7 @@ use Rattle.interpolation.specs.declared.Kind.{Kind}
 use Rattle.interpolation.specs.declared.Texel.{Texel}
 use Rattle.texel.specs.Meaning.{solid_number, solid_texel}
 use Rattle.block_levels.specs.inner.Lines.{colours_of}
-use Rattle.block_levels.proofs.colours.Statement.{statement}
-use Rattle.block_levels.proofs.colours.Tie as tie
+use Rattle.block_levels.proofs.colours.Goals as goal
 
 -- the four, each as the kind shows it
 four : (kind : Kind) (colour : ℕ → ℕ) {hdr mark half : Bool} {t : Texel} {r g b a : ℕ} → t ≡ colours_of colour → mark ≡ hdr → half ≡ both (takes_hdr kind) (not mark)
@@ -18,12 +17,7 @@ four : (kind : Kind) (colour : ℕ → ℕ) {hdr mark half : Bool} {t : Texel} {
 unfolding solid_texel colours_of
 four kind colour et em eh er eg eb ea = rw (er, eg, eb, ea, eh, em, et)
 
-returns : tie.Need-returns
+pub returns : goal.returns
 returns c =
     let h = c.before.before.before.before in
-    four _ _ h.before.before.stored-colours.ensures h.before.hdr-void-extent.ensures h.shown-as-half.ensures c.before.before.before.solid-number.ensures c.before.before.solid-number2.ensures c.before.solid-number3.ensures c.solid-number4.ensures
-
-pub colours_spec : {M : Type 1} → statement M
-colours_spec =
-    tie.close
-    (tie.spec (λ c κs. search rules) (λ c κs. search rules) (λ c κs. search rules) (λ c κs. search rules) (λ c κs. search rules) (λ c κs. search rules) (λ c κs. search rules) returns)
+    four _ _ h.stored_colours-t.ensures h.hdr_void_extent.ensures h.shown_as_half-half.ensures c.solid_number-r.ensures c.solid_number-g.ensures c.solid_number-b.ensures c.solid_number-a.ensures
