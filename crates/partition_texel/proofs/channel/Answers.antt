@@ -1,0 +1,6 @@
+use mathlib.Core.Path.{◌≡◌, ◌∙◌}
+use borrow.Author.Rules.{rules}
+use Rattle.partition_texel.proofs.channel.Goals as goal
+
+pub returns : goal.returns
+returns c = c.mixed.ensures ∙ rw (c.expanded.ensures, c.expanded-2.ensures)
