@@ -29,9 +29,9 @@ pub told_refusal : (s : List ℕ) → (header_told s).refusal ≡ header_refusal
 unfolding header_told
 told_refusal s = elim (ℕ_discrete (header_refusal s) 0) [ yes z ↦ rw z | no n ↦ rw (ne_eqb (header_refusal s) 0 n) ]
 
-pub read_number : (s old : List ℕ) → then_five (header_told s).refusal (length old) 3 ≡ read_number s (length old)
+pub read_number_lem : (s old : List ℕ) → then_five (header_told s).refusal (length old) 3 ≡ read_number s (length old)
 unfolding read_number
-read_number s old = ap (λ (e : ℕ). then_five e (length old) 3) (told_refusal s)
+read_number_lem s old = ap (λ (e : ℕ). then_five e (length old) 3) (told_refusal s)
 
 module _ (s old : List ℕ) where
   pub read_kept : (length old ≡ 3 → ⊥) → old ≡ read_numbers s old
@@ -57,6 +57,6 @@ module _ (fp w h : ℕ) (old : List ℕ) where
   unfolding write_bytes
   write_kept n = rw (ne_eqb (length old) 16 n)
 
-  pub write_bytes : length old ≡ 16 → (written_header fp w h).bytes ≡ write_bytes fp w h old
+  pub write_bytes_lem : length old ≡ 16 → (written_header fp w h).bytes ≡ write_bytes fp w h old
   unfolding write_bytes
-  write_bytes e = rw (eq-eqb (length old) 16 e)
+  write_bytes_lem e = rw (eq-eqb (length old) 16 e)

@@ -3,7 +3,7 @@ use mathlib.Core.Path.{◌≡◌, ap, ◌∙◌}
 use lib.ListN.{length}
 use Rattle.astc_header.specs.Header.{HeaderTold}
 use Rattle.astc_numbers.specs.Numbers.{then_five, header_numbers, read_number}
-use Rattle.astc_numbers.proofs.Laws.{read_number, read_kept, read_told}
+use Rattle.astc_numbers.proofs.Laws.{read_number_lem, read_kept, read_told}
 use borrow.Author.Rules.{rules}
 use Rattle.astc_numbers.proofs.read_numbers.Reads as reads
 use Rattle.astc_numbers.proofs.read_numbers.Lts as lts
@@ -20,14 +20,14 @@ number-After-slice_known-2-1 : (c : After-slice_known-2-1) → let a = c.args in
 number-After-slice_known-2-1 c =
     let a = c.args in
     let t = c.refusal_told.ensures ∙ ap (λ (t : HeaderTold). t.refusal) c.read_header-answer.ensures.told in
-    c.then_five-number.ensures ∙ ap (λ (e : ℕ). then_five e (length a.header.now) 3) t ∙ read_number a.file.now a.header.now
+    c.then_five-number.ensures ∙ ap (λ (e : ℕ). then_five e (length a.header.now) 3) t ∙ read_number_lem a.file.now a.header.now
 
 -- the number told
 number-Then-header-ne3 : (c : Then-header-ne3) → let a = c.args in c.then_five-number.result ≡ read_number a.file.now (length a.header.now)
 number-Then-header-ne3 c =
     let a = c.args in
     let t = c.refusal_told.ensures ∙ ap (λ (t : HeaderTold). t.refusal) c.read_header-answer.ensures.told in
-    c.then_five-number.ensures ∙ ap (λ (e : ℕ). then_five e (length a.header.now) 3) t ∙ read_number a.file.now a.header.now
+    c.then_five-number.ensures ∙ ap (λ (e : ℕ). then_five e (length a.header.now) 3) t ∙ read_number_lem a.file.now a.header.now
 
 -- src/lib.rt:60:9
 pub returns-then-header-ne3 : goal.returns-then-header-ne3

@@ -2,7 +2,7 @@ use mathlib.Core.Path.{◌≡◌, ap, ◌∙◌}
 use lib.ListN.{length}
 use Rattle.astc_header.specs.declared.WrittenHeader.{WrittenHeader}
 use Rattle.astc_numbers.specs.Numbers.{then_five, write_number}
-use Rattle.astc_numbers.proofs.Laws.{write_number_lem, write_kept, write_bytes}
+use Rattle.astc_numbers.proofs.Laws.{write_number_lem, write_kept, write_bytes_lem}
 use borrow.Author.Rules.{rules}
 use Rattle.astc_numbers.proofs.write_numbers.Reads as reads
 use Rattle.astc_numbers.proofs.write_numbers.Lts as lts
@@ -33,4 +33,4 @@ returns-then-header-ne16 c = let a = c.args in record { value = number-Then-head
 -- src/lib.rt:67:1
 pub returns : goal.returns
 returns c = let t = c in
-    let a = t.args in record { value = number-After-slice_known-2-1 c; header_after = c.put_block.ensures ∙ ap (λ (w : WrittenHeader). w.bytes) t.write_header-written.ensures ∙ write_bytes a.footprint a.width a.height a.header.now c.if-header-ne16.false }
+    let a = t.args in record { value = number-After-slice_known-2-1 c; header_after = c.put_block.ensures ∙ ap (λ (w : WrittenHeader). w.bytes) t.write_header-written.ensures ∙ write_bytes_lem a.footprint a.width a.height a.header.now c.if-header-ne16.false }

@@ -35,6 +35,6 @@ loop-i-preserved c =
     let l : b.loop-i.i < 16 = omega arith in
     let e = c.put.ensures in (
       omega arith,
-      put_length b.loop-i.i c.sum_at.result b.loop-i.out c.put.new.0 e i.1,
+      put_length b.loop-i.i c.sum_at.result b.loop-i.out c.put.new.out e i.1,
       rw e (put_more _ _ _ _ _ l i.1 c.sum_at.ensures i.2),
     )

@@ -14,7 +14,7 @@ use Rattle.line_text.proofs.put_texel.Goals.{After-slice_known-8-1}
 
 -- the line, part by part
 line : (c : After-slice_known-8-1) → let a = c.args in
-    Puts a.out.now a.at (texel_line a.width (λ i. shown_of a.kind (get_or a.numbers.now i 0)) a.k) c.put_byte.new.0 c.put_byte.result
+    Puts a.out.now a.at (texel_line a.width (λ i. shown_of a.kind (get_or a.numbers.now i 0)) a.k) c.put_byte.new.out c.put_byte.result
 line c =
     let a = c.args in
     puts_as (texel_line_lem a.width (λ i. shown_of a.kind (get_or a.numbers.now i 0)) a.k refl refl c.shown.ensures c.shown-2.ensures c.shown-3.ensures c.shown-4.ensures)

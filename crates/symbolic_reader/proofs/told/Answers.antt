@@ -1,0 +1,5 @@
+use borrow.Author.Rules.{rules}
+use Rattle.symbolic_reader.proofs.told.Goals as goal
+
+pub returns : goal.returns
+returns c = rw (c.zero_block.ensures, c.no_spare.ensures)

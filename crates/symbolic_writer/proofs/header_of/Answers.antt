@@ -1,0 +1,5 @@
+use borrow.Author.Rules.{rules}
+use Rattle.symbolic_writer.proofs.header_of.Goals as goal
+
+pub returns : goal.returns
+returns c = rw c.grid_of-grid.ensures

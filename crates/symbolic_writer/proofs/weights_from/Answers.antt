@@ -1,0 +1,6 @@
+use native.Mathlib.Omega.{arith}
+use borrow.Author.Rules.{rules}
+use Rattle.symbolic_writer.proofs.weights_from.Goals as goal
+
+pub returns : goal.returns
+returns c = (omega (arith, c.bits_left.ensures, c.clipped_weight_bits.ensures.0), omega (arith, c.bits_left.ensures))
