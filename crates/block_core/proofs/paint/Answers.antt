@@ -16,7 +16,7 @@ use Rattle.partition.proofs.Rows.{which_lt}
 use Rattle.block_buffer.proofs.Painting.{Laid, laid_texel, laid_as, laid_none, laid_done, row_end, place_fits}
 use Rattle.block_core.proofs.Painting.{reach_column, on_grid_told, told, room_for}
 use Rattle.block_core.proofs.paint.Goals as goal
-use Rattle.block_core.proofs.paint.Goals.{After-grid_place-gt, After-infill_both-both, After-p00-1, After-p01-1, After-p10-1, After-place, After-put, After-step, After-struct_known-in-loop-x-3-1}
+use Rattle.block_core.proofs.paint.Goals.{After-grid_place-gt, After-infill_both-both, After-p00-1, After-p01-1, After-p10-1, After-place, After-put, After-step, After-struct_known-in-loop-x-3-1, In-loop-x}
 
 down_le-After-grid_place-gt : (c : After-grid_place-gt) → c.grid_place-gt.result ≤ 16 * (c.args.g.height - 1)
 down_le-After-grid_place-gt c = omega (arith, c.grid_place-gt.ensures, c.requires.inside.rows c.loop-y.y c.loop-y-test.true)
@@ -46,6 +46,9 @@ from_le-After-step c =
     let s = c in
     mul-le-mul {n₂ = 11} {m₂ = 12} (omega (arith, down_le-After-step c, s.requires.inside.limits.height_most)) s.requires.inside.limits.width_most
 
+abbrev x_of-After-infill_both-both : After-infill_both-both → ℕ
+x_of-After-infill_both-both t = t.loop-x.x
+
 abbrev x_of-After-p00-1 : After-p00-1 → ℕ
 x_of-After-p00-1 t = t.loop-x.x
 
@@ -64,11 +67,14 @@ x_of-After-put t = t.loop-x.x
 abbrev x_of-After-struct_known-in-loop-x-3-1 : After-struct_known-in-loop-x-3-1 → ℕ
 x_of-After-struct_known-in-loop-x-3-1 t = t.loop-x.x
 
-abbrev y_of-After-infill_both-both : After-infill_both-both → ℕ
-y_of-After-infill_both-both t = t.loop-y.y
+abbrev x_of-In-loop-x : In-loop-x → ℕ
+x_of-In-loop-x t = t.loop-x.x
 
 abbrev y_of-After-put : After-put → ℕ
 y_of-After-put t = t.loop-y.y
+
+abbrev y_of-After-infill_both-both : After-infill_both-both → ℕ
+y_of-After-infill_both-both t = t.loop-y.y
 
 abbrev y_of-After-place : After-place → ℕ
 y_of-After-place t = t.loop-y.y
@@ -87,6 +93,27 @@ column_at-After-put t = get_or t.columns-columns.result (x_of-After-put t) no_co
 
 abbrev column_at-After-struct_known-in-loop-x-3-1 : After-struct_known-in-loop-x-3-1 → Column
 column_at-After-struct_known-in-loop-x-3-1 t = get_or t.columns-columns.result (x_of-After-struct_known-in-loop-x-3-1 t) no_column
+
+narrow-After-infill_both-both : (t : After-infill_both-both) → x_of-After-infill_both-both t < 12
+narrow-After-infill_both-both t = omega (arith, t.loop-x-test.true, t.requires.inside.width_most)
+
+narrow-In-loop-x : (t : In-loop-x) → x_of-In-loop-x t < 12
+narrow-In-loop-x t = omega (arith, t.loop-x-test.true, t.requires.inside.width_most)
+
+narrow-After-put : (t : After-put) → x_of-After-put t < 12
+narrow-After-put t = omega (arith, t.loop-x-test.true, t.requires.inside.width_most)
+
+narrow-After-p00-1 : (t : After-p00-1) → x_of-After-p00-1 t < 12
+narrow-After-p00-1 t = omega (arith, t.loop-x-test.true, t.requires.inside.width_most)
+
+narrow-After-p01-1 : (t : After-p01-1) → x_of-After-p01-1 t < 12
+narrow-After-p01-1 t = omega (arith, t.loop-x-test.true, t.requires.inside.width_most)
+
+narrow-After-p10-1 : (t : After-p10-1) → x_of-After-p10-1 t < 12
+narrow-After-p10-1 t = omega (arith, t.loop-x-test.true, t.requires.inside.width_most)
+
+narrow-After-struct_known-in-loop-x-3-1 : (t : After-struct_known-in-loop-x-3-1) → x_of-After-struct_known-in-loop-x-3-1 t < 12
+narrow-After-struct_known-in-loop-x-3-1 t = omega (arith, t.loop-x-test.true, t.requires.inside.width_most)
 
 column_is-After-p00-1 : (t : After-p00-1) → column_at-After-p00-1 t ≡ grid_column t.args.f.across t.args.g.width (x_of-After-p00-1 t)
 column_is-After-p00-1 t =
@@ -173,6 +200,13 @@ room-After-struct_known-in-loop-x-3-1 t =
     let p = s.requires.inside in
     reach_column s.args.g s.args.f (x_of-After-struct_known-in-loop-x-3-1 t) (column_at-After-struct_known-in-loop-x-3-1 t) (column_is-After-struct_known-in-loop-x-3-1 t) refl (ap (λ (k : ℕ). upper-After-struct_known-in-loop-x-3-1 t + k) t.step.ensures) p.limits p.count (p.columns (x_of-After-struct_known-in-loop-x-3-1 t) t.loop-x-test.true) (down_le-After-struct_known-in-loop-x-3-1 t)
 
+-- the partition that is found has a line
+which_line : (c : After-infill_both-both) → get_or c.row_partitions-which.result (x_of-After-infill_both-both c) 0 < 4
+which_line c =
+    let t = c in
+    let a = c.args in
+    which_lt a.seeds a.partitions (y_of-After-infill_both-both c) _ t.row_partitions-which.ensures (omega (arith, narrow-After-infill_both-both c))
+
 -- the texel at the place
 shown : (d : After-put) → d.mix-t.result
     ≡ prepared_texel d.args.kind d.args.g d.args.component d.args.points d.args.lines.now d.args.seeds d.args.partitions d.args.f (x_of-After-put d) (y_of-After-put d)
@@ -199,7 +233,10 @@ fits-After-put d =
     place_fits s.args.f.width s.args.f.height _ _ (room_for s.args.f.width s.args.f.height s.requires.inside.width_most s.requires.inside.height_most) t.loop-x-test.true d.loop-y-test.true
 
 pub bounds-columns-x : goal.bounds-columns-x
-bounds-columns-x t = omega (arith, t.loop-x-test.true, t.requires.inside.width_most)
+bounds-columns-x c = narrow-In-loop-x c
+
+pub bounds-lines-which : goal.bounds-lines-which
+bounds-lines-which c = which_line c
 
 pub loop-x-preserved : goal.loop-x-preserved
 loop-x-preserved c =
@@ -240,6 +277,9 @@ overflow_add-lower c = let a = c.args in omega (arith, from_le-After-step c, c.s
 pub loop-x-init : goal.loop-x-init
 loop-x-init c = (omega arith, λ old e w. laid_as _ _ _ _ (omega arith) w)
 
+pub offset_bounds-columns-x : goal.offset_bounds-columns-x
+offset_bounds-columns-x c = omega (arith, narrow-In-loop-x c)
+
 pub overflow_add-p00 : goal.overflow_add-p00
 overflow_add-p00 c = omega (arith, room-After-struct_known-in-loop-x-3-1 c)
 
@@ -278,6 +318,18 @@ bounds-points-lower-in-loop-x c = omega (arith, room-After-p10-1 c)
 
 pub infill_both-both-requires : goal.infill_both-both-requires
 infill_both-both-requires c = let h = c.requires.byte_levels in (h _, h _, h _, h _)
+
+pub offset_bounds-which-x : goal.offset_bounds-which-x
+offset_bounds-which-x c = omega (arith, narrow-After-infill_both-both c)
+
+pub bounds-which-x : goal.bounds-which-x
+bounds-which-x c = omega (arith, narrow-After-infill_both-both c)
+
+pub overflow_cast-line-in-loop-x : goal.overflow_cast-line-in-loop-x
+overflow_cast-line-in-loop-x c = omega (arith, which_line c)
+
+pub offset_bounds-lines-which : goal.offset_bounds-lines-which
+offset_bounds-lines-which c = omega (arith, which_line c)
 
 pub put-requires : goal.put-requires
 put-requires c = rw c.place.ensures (fits-After-place c)

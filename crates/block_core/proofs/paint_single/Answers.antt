@@ -15,7 +15,7 @@ use Rattle.block_buffer.proofs.Painting.{Laid, laid_texel, laid_as, laid_none, l
 use Rattle.block_core.proofs.Painting.{room_for}
 use Rattle.block_core.proofs.PairPainting.{pair_reach, pair_room, pair_told}
 use Rattle.block_core.proofs.paint_single.Goals as goal
-use Rattle.block_core.proofs.paint_single.Goals.{After-above-1, After-below-1, After-grid_place-gt, After-place, After-put, After-step, In-loop-x}
+use Rattle.block_core.proofs.paint_single.Goals.{After-above-1, After-below-1, After-below-1-unread, After-below-1-unread-2, After-grid_place-gt, After-place, After-put, After-step, In-loop-x, In-loop-x-unread}
 
 down_le-After-below-1 : (c : After-below-1) → c.grid_place-gt.result ≤ 16 * (c.args.g.height - 1)
 down_le-After-below-1 c = omega (arith, c.grid_place-gt.ensures, c.requires.inside.rows c.loop-y.y c.loop-y-test.true)
@@ -51,6 +51,12 @@ x_of-After-below-1 t = t.loop-x.x
 abbrev x_of-After-above-1 : After-above-1 → ℕ
 x_of-After-above-1 t = t.loop-x.x
 
+abbrev x_of-After-below-1-unread : After-below-1-unread → ℕ
+x_of-After-below-1-unread t = t.loop-x.x
+
+abbrev x_of-After-below-1-unread-2 : After-below-1-unread-2 → ℕ
+x_of-After-below-1-unread-2 t = t.loop-x.x
+
 abbrev x_of-After-place : After-place → ℕ
 x_of-After-place t = t.loop-x.x
 
@@ -60,11 +66,23 @@ x_of-After-put t = t.loop-x.x
 abbrev x_of-In-loop-x : In-loop-x → ℕ
 x_of-In-loop-x t = t.loop-x.x
 
+abbrev x_of-In-loop-x-unread : In-loop-x-unread → ℕ
+x_of-In-loop-x-unread t = t.loop-x.x
+
 abbrev y_of-After-put : After-put → ℕ
 y_of-After-put t = t.loop-y.y
 
 abbrev y_of-After-place : After-place → ℕ
 y_of-After-place t = t.loop-y.y
+
+narrow-After-below-1-unread : (t : After-below-1-unread) → x_of-After-below-1-unread t < 16
+narrow-After-below-1-unread t = omega (arith, t.loop-x-test.true, t.requires.inside.width_most)
+
+narrow-After-below-1-unread-2 : (t : After-below-1-unread-2) → x_of-After-below-1-unread-2 t < 16
+narrow-After-below-1-unread-2 t = omega (arith, t.loop-x-test.true, t.requires.inside.width_most)
+
+narrow-In-loop-x-unread : (t : In-loop-x-unread) → x_of-In-loop-x-unread t < 16
+narrow-In-loop-x-unread t = omega (arith, t.loop-x-test.true, t.requires.inside.width_most)
 
 abbrev from-After-below-1 : After-below-1 → ℕ
 from-After-below-1 t = t.grid_place-gt.result / 16 * t.args.g.width
@@ -130,7 +148,7 @@ fits-After-put d =
     place_fits s.args.f.width s.args.f.height _ _ (room_for s.args.f.width s.args.f.height s.requires.inside.width_most s.requires.inside.height_most) t.loop-x-test.true d.loop-y-test.true
 
 pub bounds-places-i : goal.bounds-places-i
-bounds-places-i t = omega (arith, t.loop-x-test.true, t.requires.inside.width_most)
+bounds-places-i c = narrow-In-loop-x-unread c
 
 pub infill_pairs-weight-requires : goal.infill_pairs-weight-requires
 infill_pairs-weight-requires c =
@@ -185,6 +203,9 @@ overflow_add-next c = let a = c.args in omega (arith, from_le-After-step c, c.st
 pub loop-x-init : goal.loop-x-init
 loop-x-init c = (omega arith, λ points eq one old e w. laid_as _ _ _ _ (omega arith) w)
 
+pub offset_bounds-places-i : goal.offset_bounds-places-i
+offset_bounds-places-i c = omega (arith, narrow-In-loop-x-unread c)
+
 pub overflow_cast-at : goal.overflow_cast-at
 overflow_cast-at c = omega (arith, room-In-loop-x c)
 
@@ -205,6 +226,18 @@ offset_bounds-pairs-next c = omega (arith, room-After-above-1 c)
 
 pub bounds-pairs-next : goal.bounds-pairs-next
 bounds-pairs-next c = omega (arith, room-After-above-1 c)
+
+pub offset_bounds-upper-i : goal.offset_bounds-upper-i
+offset_bounds-upper-i c = omega (arith, narrow-After-below-1-unread c)
+
+pub bounds-upper-i : goal.bounds-upper-i
+bounds-upper-i c = narrow-After-below-1-unread c
+
+pub offset_bounds-lower-i : goal.offset_bounds-lower-i
+offset_bounds-lower-i c = omega (arith, narrow-After-below-1-unread-2 c)
+
+pub bounds-lower-i : goal.bounds-lower-i
+bounds-lower-i c = narrow-After-below-1-unread-2 c
 
 pub put-requires : goal.put-requires
 put-requires c = rw c.place.ensures (fits-After-place c)
