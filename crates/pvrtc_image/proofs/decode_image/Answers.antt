@@ -14,12 +14,3 @@ accepted c = sym c.refusal-refused.ensures ∙ c.if-refused-ne0.false
 
 pub returns-then-refused-ne0 : goal.returns-then-refused-ne0
 returns-then-refused-ne0 c = record { answer = c.refusal-refused.ensures; image = refused _ _ _ _ (λ e. c.if-refused-ne0.true (c.refusal-refused.ensures ∙ e)) }
-
-pub show_rows-requires : goal.show_rows-requires
-show_rows-requires c = let a = c.args in
-    let e = accepted c.before.before.before in let it = rw (c.side_bits.ensures, c.side_bits-2.ensures) (sized a.width a.height a.words.now a.out.now e, room a.width a.height a.words.now a.out.now e) in record { words_sized = it.0; out_len = it.1 }
-
-pub returns : goal.returns
-returns c = let k = c.before.before.before.before.before.before in
-    let a = k.args in
-    let e = accepted k in record { answer = sym e; image = shown a.width a.height a.words.now a.out.now e _ (rw (c.side_bits.ensures, c.side_bits-2.ensures) at c.show_rows.ensures) }

@@ -28,13 +28,6 @@ show_row-requires c = let l = c.loop-y in
     let p = c.requires in
     let h = below c in record { words_sized = p.words_sized; y_bound = (h, l.invariant.room); xb_in_bounds = rw (l.invariant.size ∙ p.out_len) (row_inside _ _ _ h); end_rows = c.start_window.ensures.end_rows; window = l.invariant.window }
 
-pub loop-y-preserved : goal.loop-y-preserved
-loop-y-preserved c =
-    let k = c.before.before.before in
-    let r = c.show_row.ensures in
-    let l = k.loop-y in
-    showing_more _ _ _ _ _ _ _ l.out _ _ _ _ l.y (below k) l.invariant r.window_2 r.line_len r.painted
-
 pub shape_of-out : goal.shape_of-out
 shape_of-out c = c.loop-y.invariant.size
 

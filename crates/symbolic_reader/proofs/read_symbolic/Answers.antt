@@ -1,9 +1,6 @@
 use mathlib.Core.Bool.{true}
 use mathlib.Core.List.{[], ◌∷◌}
-use types.Run.{OneOf, miss}
-use denote.Enum.Declared.{tag_of}
 use Rattle.block_fault.specs.declared.Verdict.{Verdict}
-use Rattle.block_fault.specs.contracts.Verdict.{the_type}
 use mathlib.Core.Path.{◌≡◌, refl, sym, ap, ap₂, ◌∙◌, subst}
 use Prim.Native.Nat.{◌≤◌}
 use lib.ListN.{length}
@@ -103,19 +100,19 @@ carried-After-spare_in-arg-1 r e = rw r.read_settings-s.ensures (coded_numbers t
 coded-After-read-2 : (c : After-read-2) → c.read_settings-s.result.verdict ≡ verdict.Coded
 coded-After-read-2 c =
     coded_verdict _ (sym c.stage_in-sound.ensures ∙ c.in-Passed-sound.is)
-    (λ q. miss (0 ∷ 2 ∷ []) 1 tt (subst (λ (w : Verdict). OneOf (0 ∷ 2 ∷ []) (tag_of the_type w)) q c.in_default-v.in_default-v-own.keys2))
+    c.in_default-v.not-VoidExtent
 
 -- coded: neither a fault nor a void extent
 coded-After-mode_block-arg-1 : (c : After-mode_block-arg-1) → c.read_settings-s.result.verdict ≡ verdict.Coded
 coded-After-mode_block-arg-1 c =
     coded_verdict _ (sym c.stage_in-sound.ensures ∙ c.in-Passed-sound.is)
-    (λ q. miss (0 ∷ 2 ∷ []) 1 tt (subst (λ (w : Verdict). OneOf (0 ∷ 2 ∷ []) (tag_of the_type w)) q c.in_default-v.in_default-v-own.keys2))
+    c.in_default-v.not-VoidExtent
 
 -- coded: neither a fault nor a void extent
 coded-After-spare_in-arg-1 : (c : After-spare_in-arg-1) → c.read_settings-s.result.verdict ≡ verdict.Coded
 coded-After-spare_in-arg-1 c =
     coded_verdict _ (sym c.stage_in-sound.ensures ∙ c.in-Passed-sound.is)
-    (λ q. miss (0 ∷ 2 ∷ []) 1 tt (subst (λ (w : Verdict). OneOf (0 ∷ 2 ∷ []) (tag_of the_type w)) q c.in_default-v.in_default-v-own.keys2))
+    c.in_default-v.not-VoidExtent
 
 -- the counts of a coded block
 known-After-mode_block-arg-1 : (c : After-mode_block-arg-1) → let s = c.read_settings-s.result in
