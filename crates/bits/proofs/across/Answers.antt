@@ -1,7 +1,6 @@
 use native.Mathlib.Omega.{arith}
 use Rattle.bits.proofs.Fields.{field_lt}
 use Rattle.bits.proofs.Halves.{word_across}
-use borrow.Author.Rules.{rules}
 use Rattle.bits.proofs.across.Goals as goal
 
 pub overflow_add-result : goal.overflow_add-result

@@ -1,5 +1,4 @@
 use Rattle.bits.proofs.Fields.{field_lt}
-use borrow.Author.Rules.{rules}
 use Rattle.bits.proofs.append.Goals as goal
 
 pub on_top-requires : goal.on_top-requires

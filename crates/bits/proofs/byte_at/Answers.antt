@@ -1,7 +1,6 @@
 use mathlib.Core.Path.{sym, ◌∙◌}
 use native.Mathlib.Omega.{arith}
 use Rattle.bits.proofs.Blocks.{byte_here, byte_past}
-use borrow.Author.Rules.{rules}
 use Rattle.bits.proofs.byte_at.Goals as goal
 
 pub returns-then-k-s : goal.returns-then-k-s

@@ -1,5 +1,4 @@
 use Rattle.bits.proofs.Fields.{field_low}
-use borrow.Author.Rules.{rules}
 use Rattle.bits.proofs.byte_of.Goals as goal
 
 pub returns : goal.returns

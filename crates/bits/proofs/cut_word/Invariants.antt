@@ -1,12 +1,7 @@
-use mathlib.Core.Path.{◌≡◌, refl, sym, ap, ◌∙◌}
-use Prim.Native.Nat.{ℕ, ◌+◌, ◌-◌, ◌*◌, ◌^◌, ◌≤◌, ◌<◌}
-use native.Mathlib.Nat.{add-zero, lt_of_lt_of_le}
-use native.Mathlib.Omega.{arith}
-use lib.Pow.{pow_mono, shl_lt}
-use borrow.Author.Rules.{rules}
+use mathlib.Core.Path.{◌≡◌}
+use Prim.Native.Nat.{◌+◌, ◌-◌, ◌*◌, ◌≤◌}
 use Rattle.bits.specs.Field.{field}
 use Rattle.bits.specs.Block.{number_of}
-use Rattle.bits.proofs.Fields.{field_lt, field_none, byte_below}
 use Rattle.bits.proofs.cut_word.Given as goal
 
 abbrev pub invariant-loop-left : goal.invariant-loop-left

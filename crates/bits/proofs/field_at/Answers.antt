@@ -1,6 +1,5 @@
 use mathlib.Core.Path.{◌∙◌}
 use Rattle.bits.proofs.Halves.{low_field}
-use borrow.Author.Rules.{rules}
 use Rattle.bits.proofs.field_at.Goals as goal
 
 pub returns : goal.returns

@@ -1,7 +1,6 @@
 use native.Mathlib.Omega.{arith}
 use Rattle.bits.specs.Block.{block_number}
 use Rattle.bits.proofs.Halves.{first_low, first_high}
-use borrow.Author.Rules.{rules}
 use Rattle.bits.proofs.first_bits.Goals as goal
 
 pub returns-then-w-lt64 : goal.returns-then-w-lt64

@@ -1,7 +1,6 @@
 use native.Mathlib.Omega.{arith}
 use Rattle.bits.specs.Block.{block_number}
 use Rattle.bits.proofs.Halves.{shift_low}
-use borrow.Author.Rules.{rules}
 use Rattle.bits.proofs.later.Goals as goal
 
 pub returns : goal.returns

@@ -1,7 +1,6 @@
 use mathlib.Core.Path.{sym}
 use Rattle.bits.specs.Block.{block_number}
 use Rattle.bits.proofs.Fields.{field_cut}
-use borrow.Author.Rules.{rules}
 use Rattle.bits.proofs.load.Goals as goal
 
 pub returns : goal.returns

@@ -1,7 +1,6 @@
 use native.Mathlib.Omega.{arith}
 use lib.Pow.{pow_pos}
 use Rattle.bits.proofs.Halves.{one_shl, low_is, low_whole}
-use borrow.Author.Rules.{rules}
 use Rattle.bits.proofs.low_bits.Goals as goal
 
 pub nonzero_rem-result : goal.nonzero_rem-result

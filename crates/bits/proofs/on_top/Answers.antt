@@ -1,7 +1,6 @@
 use native.Mathlib.Omega.{arith}
 use Rattle.bits.specs.Block.{block_number}
 use Rattle.bits.proofs.Halves.{top_past, top_first, top_low, low_fits, top_high, high_fits}
-use borrow.Author.Rules.{rules}
 use Rattle.bits.proofs.on_top.Goals as goal
 
 pub returns-then-p-ge128 : goal.returns-then-p-ge128

@@ -1,5 +1,4 @@
 use Rattle.bits.specs.Field.{field}
-use borrow.Author.Rules.{rules}
 use Rattle.bits.proofs.part.Goals as goal
 
 pub returns : goal.returns

@@ -1,6 +1,5 @@
 use native.Mathlib.Omega.{arith}
 use Rattle.bits.proofs.Reverse.{reverse_halves}
-use borrow.Author.Rules.{rules}
 use Rattle.bits.proofs.reverse_16.Goals as goal
 
 pub returns : goal.returns

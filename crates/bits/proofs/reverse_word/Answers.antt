@@ -1,5 +1,4 @@
 use Rattle.bits.proofs.Reverse.{reverse_halves}
-use borrow.Author.Rules.{rules}
 use Rattle.bits.proofs.reverse_word.Goals as goal
 
 pub returns : goal.returns

@@ -2,7 +2,6 @@ use mathlib.Core.Path.{sym}
 use native.Mathlib.Omega.{arith}
 use Rattle.bits.specs.Block.{block_number}
 use Rattle.bits.proofs.Reverse.{reverse_join}
-use borrow.Author.Rules.{rules}
 use Rattle.bits.proofs.reversed.Goals as goal
 
 pub returns : goal.returns

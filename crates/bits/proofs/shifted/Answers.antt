@@ -1,7 +1,6 @@
 use native.Mathlib.Omega.{arith}
 use Rattle.bits.specs.Block.{block_number}
 use Rattle.bits.proofs.Halves.{shift_high}
-use borrow.Author.Rules.{rules}
 use Rattle.bits.proofs.shifted.Goals as goal
 
 pub returns : goal.returns

@@ -1,10 +1,8 @@
 use mathlib.Core.Path.{refl}
-use Prim.Native.Nat.{ℕ, ◌-◌, ◌*◌, ◌≤◌}
+use Prim.Native.Nat.{◌-◌}
 use native.Mathlib.Omega.{arith}
-use Rattle.laws.proofs.Filling.{Filling, filling_start, filling_more, filling_done}
-use Rattle.bits.specs.declared.PhysicalBlock.{PhysicalBlock}
-use Rattle.bits.specs.Field.{field}
-use Rattle.bits.specs.Block.{bytes_of, block_number}
+use Rattle.laws.proofs.Filling.{filling_start, filling_more, filling_done}
+use Rattle.bits.specs.Block.{bytes_of}
 use Rattle.bits.proofs.store.Invariants.{bytes}
 use Rattle.bits.proofs.store.Goals as goal
 

@@ -1,10 +1,8 @@
-use mathlib.Core.Path.{refl}
 use Prim.Native.Nat.{ℕ, ◌-◌, ◌*◌, ◌≤◌}
-use native.Mathlib.Omega.{arith}
-use Rattle.laws.proofs.Filling.{Filling, filling_start, filling_more, filling_done}
+use Rattle.laws.proofs.Filling.{Filling}
 use Rattle.bits.specs.declared.PhysicalBlock.{PhysicalBlock}
 use Rattle.bits.specs.Field.{field}
-use Rattle.bits.specs.Block.{bytes_of, block_number}
+use Rattle.bits.specs.Block.{block_number}
 use Rattle.bits.proofs.store.Given as goal
 
 -- byte i of the block

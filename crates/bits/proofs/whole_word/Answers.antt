@@ -1,6 +1,5 @@
 use native.Mathlib.Omega.{arith}
 use Rattle.bits.proofs.Blocks.{eight_bytes}
-use borrow.Author.Rules.{rules}
 use Rattle.bits.proofs.whole_word.Goals as goal
 
 pub returns : goal.returns

@@ -1,6 +1,5 @@
 use native.Mathlib.Omega.{arith}
 use Rattle.bits.proofs.Halves.{word_high, word_past}
-use borrow.Author.Rules.{rules}
 use Rattle.bits.proofs.word_at.Goals as goal
 
 pub returns-then-p-lt128 : goal.returns-then-p-lt128

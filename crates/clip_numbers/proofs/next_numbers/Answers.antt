@@ -9,4 +9,4 @@ returns-then-block-last c = rw (lt-ltb _ _ c.if-block-last.true, c.wide.ensures,
 
 pub returns-else-block-last : goal.returns-else-block-last
 unfolding state_numbers past
-returns-else-block-last c = rw (le-ltb _ _ c.if-block-last.false, c.wrapping_add_u32.ensures, c.wide-else-block-last.ensures, c.wide-else-block-last-2.ensures)
+returns-else-block-last c = rw (le-ltb _ _ c.if-block-last.false, c.wrapping_add_u32.ensures.value, c.wide-else-block-last.ensures, c.wide-else-block-last-2.ensures)

@@ -10,6 +10,9 @@ blend_four-requires c = let h = c.requires.byte_pair in record { w3_value = c.re
 pub returns : goal.returns
 returns c = let b = c.before in
     let a = b.args in
-    let h = b.requires.byte_pair in record { result_value = ap (λ (n : ℕ). n % 256) c.blend_four.ensures
-          ∙ first_four a.w0 a.w1 a.w2 a.w3 b.requires.w3_value _ _ _ _ h.0 h.1 h.2 h.3; result_value_2 = ap (λ (n : ℕ). n / 65536) c.blend_four.ensures
-          ∙ second_four a.w0 a.w1 a.w2 a.w3 b.requires.w3_value _ _ _ _ h.0 h.1 h.2 h.3 }
+    let h = b.requires.byte_pair in record {
+      result_value = ap (λ (n : ℕ). n % 256) c.blend_four.ensures
+          ∙ first_four a.w0 a.w1 a.w2 a.w3 b.requires.w3_value _ _ _ _ h.0 h.1 h.2 h.3;
+      result_value_2 = ap (λ (n : ℕ). n / 65536) c.blend_four.ensures
+          ∙ second_four a.w0 a.w1 a.w2 a.w3 b.requires.w3_value _ _ _ _ h.0 h.1 h.2 h.3;
+    }
