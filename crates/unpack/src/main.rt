@@ -2,12 +2,14 @@
 // made by `unpack_text::program_text`.
 #![tactic(auto)]
 
-use libc::{STDIN_FILENO, STDOUT_FILENO};
+use std::io;
+use std::io::{Read, Write};
 
-fn main() {
+fn main(rt: HostRuntime) -> io::Result<()> {
+    let output = &mut rt.stdout();
     let mut input = [0u8; 19];
-    let bytes = io::read_full(STDIN_FILENO, &mut input);
+    let bytes = program_io::read_full(&mut rt.stdin(), &mut input)?;
     let mut text = [0u8; 5200];
     let n = unpack_text::program_text(&input[..bytes], &mut text);
-    io::write_all(STDOUT_FILENO, &text[..n]);
+    output.write_all(&text[..n])
 }
