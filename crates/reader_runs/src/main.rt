@@ -3,6 +3,8 @@
 // where any is set, then "block" and the sixteen bytes that are written for it, and whether they show the same texels in kind 2.
 #![tactic(auto)]
 
+ghost use Rattle.std.specs.Prelude.{◌≤◌};
+
 use block_answer::Answer;
 use encoding::Stored;
 use spare_bits::Spare;
@@ -94,9 +96,17 @@ fn all<W: Write>(output: &mut W, bytes: [u8; 16]) -> io::Result<()> {
     Ok(())
 }
 
+// How many numbers the texels of a block have.
+#[tactic(auto, using(footprint::proofs::Laws::texels_le))]
+fn numbers_of(fp: u8) -> usize
+    ensures { result ≤ 864 }
+{
+    4 * (footprint::texels(fp) as usize)
+}
+
 fn shown(fp: u8, block: &[u8]) -> [u16; 864] {
     let mut numbers = [0u16; 864];
-    let n = 4 * (footprint::texels(fp) as usize);
+    let n = numbers_of(fp);
     one_block::decode_float16(fp, block, &mut numbers[..n]);
     numbers
 }

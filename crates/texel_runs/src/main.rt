@@ -3,6 +3,8 @@
 // which is what a half float keeps of them, kind 1's bytes, and kind 2's half floats.
 #![tactic(auto)]
 
+ghost use Rattle.std.specs.Prelude.{◌≤◌};
+
 use std::io;
 use std::io::{Read, Write};
 
@@ -159,11 +161,19 @@ fn places<W: Write>(
     Ok(())
 }
 
+// How many numbers the texels of a block have.
+#[tactic(auto, using(footprint::proofs::Laws::texels_le))]
+fn numbers_of(fp: u8) -> usize
+    ensures { result ≤ 864 }
+{
+    4 * (footprint::texels(fp) as usize)
+}
+
 fn record<W: Write>(output: &mut W, fp: u8, block: &[u8]) -> io::Result<()> {
     let mut numbers = [0u16; 864];
     let mut bytes = [0u8; 864];
     let mut halves = [0u16; 864];
-    let n = 4 * (footprint::texels(fp) as usize);
+    let n = numbers_of(fp);
     let a = one_block::decode_unorm16(fp, block, &mut numbers[..n]);
     let b = one_block::decode_srgb8(fp, block, &mut bytes[..n]);
     let c = one_block::decode_float16(fp, block, &mut halves[..n]);
