@@ -5,103 +5,109 @@
 ghost use Rattle.std.specs.Prelude.{◌<◌};
 
 use image_layout::{ImageAnswer, Tally};
-use libc::{STDIN_FILENO, STDOUT_FILENO};
+use std::io;
+use std::io::{Read, Write};
 
-fn word(name: &[u8], n: u8) {
-    io::write_all(STDOUT_FILENO, name);
-    io::print_decimal(STDOUT_FILENO, n as u64);
+fn word<W: Write>(output: &mut W, name: &[u8], n: u8) -> io::Result<()> {
+    output.write_all(name)?;
+    program_io::print_decimal(output, n as u64)
 }
 
-fn end_line() {
-    io::write_all(STDOUT_FILENO, b"\n");
+fn end_line<W: Write>(output: &mut W) -> io::Result<()> {
+    output.write_all(b"\n")
 }
 
 // Each number after a space, and the end of the line.
-fn list(numbers: &[u8]) {
-    let mut i: usize = 0;
-    while i < numbers.len() {
-        word(b" ", numbers[i]);
-        i += 1;
+fn list<W: Write>(output: &mut W, numbers: &[u8]) -> io::Result<()> {
+    for n in numbers {
+        word(output, b" ", *n)?;
     }
-    end_line();
+    end_line(output)
 }
 
-fn write(numbers: &[u8]) {
+fn write<W: Write>(output: &mut W, numbers: &[u8]) -> io::Result<()> {
     let mut block = [7u8; 16];
-    word(b"written ", bc7_numbers::write_numbers(numbers, &mut block));
-    list(&block);
+    word(
+        output,
+        b"written ",
+        bc7_numbers::write_numbers(numbers, &mut block),
+    )?;
+    list(output, &block)
 }
 
-fn show(block: &[u8]) {
+fn show<W: Write>(output: &mut W, block: &[u8]) -> io::Result<()> {
     let mut texels = [7u8; 64];
     let answer = bc7_calls::decode_bc7(block, &mut texels);
-    word(b"shown ", block_answer::number_told(answer));
-    list(&texels);
+    word(output, b"shown ", block_answer::number_told(answer))?;
+    list(output, &texels)?;
     let mut numbers = [7u8; 60];
-    word(b"read ", bc7_numbers::read_numbers(block, &mut numbers));
-    list(&numbers);
-    write(&numbers);
+    word(
+        output,
+        b"read ",
+        bc7_numbers::read_numbers(block, &mut numbers),
+    )?;
+    list(output, &numbers)?;
+    write(output, &numbers)
 }
 
-fn tally(t: Tally) {
-    io::write_all(STDOUT_FILENO, b"faulty ");
-    io::print_decimal(STDOUT_FILENO, t.count);
-    io::write_all(STDOUT_FILENO, b" first ");
-    io::print_decimal(STDOUT_FILENO, t.first);
-    word(b" fault ", t.fault);
+fn tally<W: Write>(output: &mut W, t: Tally) -> io::Result<()> {
+    output.write_all(b"faulty ")?;
+    program_io::print_decimal(output, t.count)?;
+    output.write_all(b" first ")?;
+    program_io::print_decimal(output, t.first)?;
+    word(output, b" fault ", t.fault)
 }
 
 // A picture into 280 bytes.
-fn picture(width: u32, height: u32, blocks: &[u8]) {
+fn picture<W: Write>(output: &mut W, width: u32, height: u32, blocks: &[u8]) -> io::Result<()> {
     let mut texels = [7u8; 280];
     let answer = bc7_image::decode_image_bc7(width, height, blocks, &mut texels);
     match answer {
-        ImageAnswer::Refused(n) => word(b"refused ", n),
-        ImageAnswer::Decoded(t) => tally(t),
+        ImageAnswer::Refused(n) => word(output, b"refused ", n)?,
+        ImageAnswer::Decoded(t) => tally(output, t)?,
     }
-    list(&texels);
+    list(output, &texels)
 }
 
 // A sheet with one number.
-fn single(k: usize, n: u8)
+fn single<W: Write>(output: &mut W, k: usize, n: u8) -> io::Result<()>
     requires { k < 60 }
 {
     let mut numbers = [0u8; 60];
     numbers[k] = n;
-    write(&numbers);
+    write(output, &numbers)
 }
 
-fn main() {
+fn main(rt: HostRuntime) -> io::Result<()> {
+    let output = &mut rt.stdout();
     let mut input = [0u8; 400];
-    let n = io::read_full(STDIN_FILENO, &mut input);
-    let mut k: usize = 0;
-    while k < 25 {
+    let n = program_io::read_full(&mut rt.stdin(), &mut input)?;
+    for k in 0..25 {
         if 16 * k + 16 <= n {
-            show(&input[16 * k..16 * k + 16]);
+            show(output, &input[16 * k..16 * k + 16])?;
         }
-        k += 1;
     }
     // the last six blocks as a picture of 10 by 7 texels; then a side of 0, a byte too few, and a buffer for other sides
-    picture(10, 7, &input[304..400]);
-    picture(0, 7, &input[304..400]);
-    picture(10, 7, &input[304..399]);
-    picture(9, 7, &input[304..400]);
+    picture(output, 10, 7, &input[304..400])?;
+    picture(output, 0, 7, &input[304..400])?;
+    picture(output, 10, 7, &input[304..399])?;
+    picture(output, 9, 7, &input[304..400])?;
     // fifteen bytes, a mode of 8, fields of mode 0 that are too wide or unused, and the largest that fit
-    show(&input[0..15]);
-    single(0, 8);
-    single(0, 255);
-    single(1, 16);
-    single(1, 15);
-    single(2, 1);
-    single(3, 1);
-    single(4, 16);
-    single(21, 15);
-    single(27, 2);
-    single(28, 4);
-    single(28, 3);
-    single(31, 4);
-    single(32, 7);
-    single(43, 8);
-    single(44, 1);
-    single(59, 1);
+    show(output, &input[0..15])?;
+    single(output, 0, 8)?;
+    single(output, 0, 255)?;
+    single(output, 1, 16)?;
+    single(output, 1, 15)?;
+    single(output, 2, 1)?;
+    single(output, 3, 1)?;
+    single(output, 4, 16)?;
+    single(output, 21, 15)?;
+    single(output, 27, 2)?;
+    single(output, 28, 4)?;
+    single(output, 28, 3)?;
+    single(output, 31, 4)?;
+    single(output, 32, 7)?;
+    single(output, 43, 8)?;
+    single(output, 44, 1)?;
+    single(output, 59, 1)
 }

@@ -3,105 +3,113 @@
 // output is made of what Arm's astcenc shows.
 #![tactic(auto)]
 
-use libc::{STDIN_FILENO, STDOUT_FILENO};
+use std::io;
+use std::io::{Read, Write};
 
-fn number(n: u8) {
-    io::write_all(STDOUT_FILENO, b" ");
-    io::print_decimal(STDOUT_FILENO, n as u64);
+fn number<W: Write>(output: &mut W, n: u8) -> io::Result<()> {
+    output.write_all(b" ")?;
+    program_io::print_decimal(output, n as u64)
 }
 
-fn end_line() {
-    io::write_all(STDOUT_FILENO, b"\n");
+fn end_line<W: Write>(output: &mut W) -> io::Result<()> {
+    output.write_all(b"\n")
 }
 
-fn numbers(list: &[u8]) {
-    for i in 0..list.len() {
-        number(list[i]);
+fn numbers<W: Write>(output: &mut W, list: &[u8]) -> io::Result<()> {
+    for n in list {
+        number(output, *n)?;
     }
+    Ok(())
 }
 
 // The first of each four bytes.
-fn reds(texels: &[u8]) {
-    for i in 0..texels.len() {
+fn reds<W: Write>(output: &mut W, texels: &[u8]) -> io::Result<()> {
+    for (i, n) in texels.iter().enumerate() {
         if i % 4 == 0 {
-            number(texels[i]);
+            number(output, *n)?;
         }
     }
+    Ok(())
 }
 
-fn show(block: &[u8]) {
+fn show<W: Write>(output: &mut W, block: &[u8]) -> io::Result<()> {
     let mut texels = [7u8; 64];
     one_block::decode_srgb8(0, block, &mut texels);
-    io::write_all(STDOUT_FILENO, b"shows");
-    reds(&texels);
-    end_line();
+    output.write_all(b"shows")?;
+    reds(output, &texels)?;
+    end_line(output)
 }
 
 // One record, of eighteen bytes.
-fn caption(e0: u8, e1: u8, wanted: &[u8]) {
+fn caption<W: Write>(output: &mut W, e0: u8, e1: u8, wanted: &[u8]) -> io::Result<()> {
     let mut block = [7u8; 16];
     caption_image::caption_into(e0, e1, wanted, &mut block);
-    io::write_all(STDOUT_FILENO, b"block");
-    numbers(&block);
-    end_line();
-    show(&block);
+    output.write_all(b"block")?;
+    numbers(output, &block)?;
+    end_line(output)?;
+    show(output, &block)
 }
 
 // Whether every byte is 7.
 fn all_seven(list: &[u8]) -> bool {
-    for i in 0..list.len() {
-        if list[i] != 7 {
+    for n in list {
+        if *n != 7 {
             return false;
         }
     }
     true
 }
 
-fn refused(width: u32, height: u32, wanted: &[u8], blocks: &mut [u8]) {
+fn refused<W: Write>(
+    output: &mut W,
+    width: u32,
+    height: u32,
+    wanted: &[u8],
+    blocks: &mut [u8],
+) -> io::Result<()> {
     let answer = caption_image::caption_image(1, 2, width, height, wanted, blocks);
-    io::write_all(STDOUT_FILENO, b"refused");
-    number(answer);
+    output.write_all(b"refused")?;
+    number(output, answer)?;
     if all_seven(blocks) {
-        io::write_all(STDOUT_FILENO, b" kept");
+        output.write_all(b" kept")?;
     }
-    end_line();
+    end_line(output)
 }
 
-fn image(e0: u8, e1: u8, wanted: &[u8]) {
+fn image<W: Write>(output: &mut W, e0: u8, e1: u8, wanted: &[u8]) -> io::Result<()> {
     let mut blocks = [7u8; 64];
     let answer = caption_image::caption_image(e0, e1, 6, 5, wanted, &mut blocks);
-    io::write_all(STDOUT_FILENO, b"image");
-    number(answer);
-    numbers(&blocks);
-    end_line();
+    output.write_all(b"image")?;
+    number(output, answer)?;
+    numbers(output, &blocks)?;
+    end_line(output)
 }
 
 // No side, a side above the limit, 3 before 4 and 5, a byte too few, 4 before 5, a grey too few.
-fn refusals() {
+fn refusals<W: Write>(output: &mut W) -> io::Result<()> {
     let greys = [9u8; 16];
     let few = [9u8; 15];
     let mut blocks = [7u8; 16];
     let mut short = [7u8; 15];
-    refused(0, 4, &greys, &mut blocks);
-    refused(4, 16385, &greys, &mut blocks);
-    refused(0, 4, &few, &mut short);
-    refused(4, 4, &greys, &mut short);
-    refused(4, 4, &few, &mut short);
-    refused(4, 4, &few, &mut blocks);
+    refused(output, 0, 4, &greys, &mut blocks)?;
+    refused(output, 4, 16385, &greys, &mut blocks)?;
+    refused(output, 0, 4, &few, &mut short)?;
+    refused(output, 4, 4, &greys, &mut short)?;
+    refused(output, 4, 4, &few, &mut short)?;
+    refused(output, 4, 4, &few, &mut blocks)
 }
 
-fn main() {
+fn main(rt: HostRuntime) -> io::Result<()> {
+    let output = &mut rt.stdout();
     let mut input = [0u8; 464];
-    let n = io::read_full(STDIN_FILENO, &mut input);
+    let n = program_io::read_full(&mut rt.stdin(), &mut input)?;
     if n != 464 {
-        return;
+        return Ok(());
     }
-    let mut k: usize = 0;
-    while k < 24 {
+    for k in 0..24 {
         let at = 18 * k;
-        caption(input[at], input[at + 1], &input[at + 2..at + 18]);
-        k += 1;
+        caption(output, input[at], input[at + 1], &input[at + 2..at + 18])?;
     }
-    image(input[432], input[433], &input[434..464]);
-    refusals();
+    image(output, input[432], input[433], &input[434..464])?;
+    refusals(output)
 }

@@ -6,65 +6,72 @@
 // piece tells after it. Of a frame that is written "refused N", or "frame" and its bytes.
 #![tactic(auto)]
 
-ghost use Rattle.std.specs.Prelude.{◌≤◌, ◌<◌, length};
+ghost use Rattle.std.specs.Prelude.{◌≤◌, ◌<◌, IfOk, length};
 
 use clip::{Clip, Event};
 use clip_frame::Frame;
-use libc::{STDIN_FILENO, STDOUT_FILENO};
+use std::io;
+use std::io::{Read, Write};
 
-fn word(name: &[u8], n: u64) {
-    io::write_all(STDOUT_FILENO, name);
-    io::print_decimal(STDOUT_FILENO, n);
+fn word<W: Write>(output: &mut W, name: &[u8], n: u64) -> io::Result<()> {
+    output.write_all(name)?;
+    program_io::print_decimal(output, n)
 }
 
-fn byte(n: u8) {
-    word(b" ", n as u64);
+fn byte<W: Write>(output: &mut W, n: u8) -> io::Result<()> {
+    word(output, b" ", n as u64)
 }
 
-fn end_line() {
-    io::write_all(STDOUT_FILENO, b"\n");
+fn end_line<W: Write>(output: &mut W) -> io::Result<()> {
+    output.write_all(b"\n")
 }
 
-fn bytes(from: &[u8]) {
-    let mut i: usize = 0;
-    while i < from.len() {
-        byte(from[i]);
-        i += 1;
+fn bytes<W: Write>(output: &mut W, from: &[u8]) -> io::Result<()> {
+    for b in from {
+        byte(output, *b)?;
     }
-    end_line();
+    end_line(output)
 }
 
-fn frame(f: Frame) {
-    word(b" of ", f.footprint as u64);
-    byte(f.kind);
-    word(b" ", f.width as u64);
-    word(b" ", f.height as u64);
+fn frame<W: Write>(output: &mut W, f: Frame) -> io::Result<()> {
+    word(output, b" of ", f.footprint as u64)?;
+    byte(output, f.kind)?;
+    word(output, b" ", f.width as u64)?;
+    word(output, b" ", f.height as u64)
 }
 
-fn block(index: u32, i: u32, f: Frame, of: [u8; 16], at: usize) {
-    word(b"block ", index as u64);
-    word(b" ", i as u64);
-    word(b" at ", at as u64);
-    frame(f);
-    bytes(&of);
+fn block<W: Write>(
+    output: &mut W,
+    index: u32,
+    i: u32,
+    f: Frame,
+    of: [u8; 16],
+    at: usize,
+) -> io::Result<()> {
+    word(output, b"block ", index as u64)?;
+    word(output, b" ", i as u64)?;
+    word(output, b" at ", at as u64)?;
+    frame(output, f)?;
+    bytes(output, &of)
 }
 
-fn told(name: &[u8], n: u8, at: usize) {
-    word(name, n as u64);
-    word(b" at ", at as u64);
-    end_line();
+fn told<W: Write>(output: &mut W, name: &[u8], n: u8, at: usize) -> io::Result<()> {
+    word(output, name, n as u64)?;
+    word(output, b" at ", at as u64)?;
+    end_line(output)
 }
 
-fn event(e: Event, f: Frame, of: [u8; 16], at: usize) {
+fn event<W: Write>(output: &mut W, e: Event, f: Frame, of: [u8; 16], at: usize) -> io::Result<()> {
     match e {
-        Event::Nothing => {}
-        Event::Block(i, j) => block(i, j, f, of, at),
-        Event::Told(n) => told(b"told ", n, at),
+        Event::Nothing => Ok(()),
+        Event::Block(i, j) => block(output, i, j, f, of, at),
+        Event::Told(n) => told(output, b"told ", n, at),
     }
 }
 
 fn min(a: usize, b: usize) -> usize
-    ensures { (result ≤ a) × (result ≤ b) }
+    ensures first { result ≤ a }
+    ensures second { result ≤ b }
 {
     if a < b { a } else { b }
 }
@@ -77,22 +84,23 @@ fn rest_of(left: usize, taken: usize, cut: usize) -> usize {
 // Where a piece of so many bytes ends that begins at a place.
 fn piece_end(at: usize, left: usize, n: usize) -> usize
     requires { at ≤ n }
-    ensures { (at ≤ result) × (result ≤ n) }
+    ensures start { at ≤ result }
+    ensures end { result ≤ n }
 {
     if left < n - at { at + left } else { n }
 }
 
 // The end, and an empty piece after it.
-fn finish(c: Clip, clip: &[u8]) {
+fn finish<W: Write>(output: &mut W, c: Clip, clip: &[u8]) -> io::Result<()> {
     let f = clip_reader::finish(c);
     let over = f.clip;
     let again = clip_reader::feed(over, &clip[0..0]);
-    word(b"end ", f.number as u64);
+    word(output, b"end ", f.number as u64)?;
     let e = again.event;
     let frame = over.frame;
     let none = again.block;
-    io::write_all(STDOUT_FILENO, b" ");
-    event(e, frame, none, again.taken);
+    output.write_all(b" ")?;
+    event(output, e, frame, none, again.taken)
 }
 
 // A reader, and how many bytes of the clip it has taken.
@@ -103,9 +111,11 @@ struct Place {
 }
 
 // An empty piece, and then a piece.
-fn step(c: Clip, clip: &[u8], at: usize, end: usize) -> Place
-    requires { (at ≤ end) × (end ≤ length clip.now) }
-    ensures { (at ≤ result.at) × (result.at ≤ end) }
+fn step<W: Write>(output: &mut W, c: Clip, clip: &[u8], at: usize, end: usize) -> io::Result<Place>
+    requires order { at ≤ end }
+    requires bound { end ≤ length clip.now }
+    ensures start { IfOk result (λ place. at ≤ place.at) }
+    ensures end { IfOk result (λ place. place.at ≤ end) }
 {
     let empty = clip_reader::feed(c, &clip[at..at]);
     let before = empty.clip;
@@ -116,24 +126,24 @@ fn step(c: Clip, clip: &[u8], at: usize, end: usize) -> Place
     let frame = after.frame;
     let next = piece_end(at, f.taken, end);
     if at < next {
-        event(e, frame, of, next);
+        event(output, e, frame, of, next)?;
     }
-    Place {
+    Ok(Place {
         clip: after,
         at: next,
-    }
+    })
 }
 
 // A clip in pieces of so many bytes, to its end or until nothing is taken.
-fn fed(clip: &[u8], cut: usize) {
-    word(b"cut ", cut as u64);
-    end_line();
+fn fed<W: Write>(output: &mut W, clip: &[u8], cut: usize) -> io::Result<()> {
+    word(output, b"cut ", cut as u64)?;
+    end_line(output)?;
     let mut c = clip_reader::fresh();
     let mut at: usize = 0;
     let mut left = cut;
     while at < clip.len() {
         let end = piece_end(at, left, clip.len());
-        let place = step(c, clip, at, end);
+        let place = step(output, c, clip, at, end)?;
         let k = place.clip;
         let next = place.at;
         c = k;
@@ -143,24 +153,32 @@ fn fed(clip: &[u8], cut: usize) {
         left = rest_of(left, next - at, cut);
         at = next;
     }
-    finish(c, clip);
+    finish(output, c, clip)
 }
 
-fn read(clip: &[u8]) {
-    fed(clip, 1);
-    fed(clip, 7);
-    fed(clip, 16);
-    fed(clip, 400);
+fn read<W: Write>(output: &mut W, clip: &[u8]) -> io::Result<()> {
+    fed(output, clip, 1)?;
+    fed(output, clip, 7)?;
+    fed(output, clip, 16)?;
+    fed(output, clip, 400)
 }
 
-fn write(footprint: u8, kind: u8, width: u32, height: u32, blocks: &[u8], out: &mut [u8]) {
+fn write<W: Write>(
+    output: &mut W,
+    footprint: u8,
+    kind: u8,
+    width: u32,
+    height: u32,
+    blocks: &[u8],
+    out: &mut [u8],
+) -> io::Result<()> {
     let n = clip_writer::write_frame(footprint, kind, width, height, blocks, out);
     if n == 0 {
-        io::write_all(STDOUT_FILENO, b"frame");
-        bytes(out);
+        output.write_all(b"frame")?;
+        bytes(output, out)
     } else {
-        word(b"refused ", n as u64);
-        end_line();
+        word(output, b"refused ", n as u64)?;
+        end_line(output)
     }
 }
 
@@ -171,13 +189,14 @@ fn two(high: u8, low: u8) -> u32
 }
 
 // The first n bytes, as a clip.
-fn clip_record(all: &[u8], n: usize) {
+fn clip_record<W: Write>(output: &mut W, all: &[u8], n: usize) -> io::Result<()> {
     let m = min(n, all.len());
-    read(&all[0..m]);
+    read(output, &all[0..m])
 }
 
 // The first n bytes, as a frame's blocks, for a buffer of so many bytes.
-fn frame_record(
+fn frame_record<W: Write>(
+    output: &mut W,
     footprint: u8,
     kind: u8,
     width: u32,
@@ -186,40 +205,61 @@ fn frame_record(
     n: usize,
     out: &mut [u8],
     room: usize,
-) {
+) -> io::Result<()> {
     let m = min(n, all.len());
     let k = min(room, out.len());
-    write(footprint, kind, width, height, &all[0..m], &mut out[0..k]);
+    write(
+        output,
+        footprint,
+        kind,
+        width,
+        height,
+        &all[0..m],
+        &mut out[0..k],
+    )
 }
 
-fn parted(sort: u8, footprint: u8, kind: u8, width: u32, height: u32, all: &[u8], n: u32) {
+fn parted<W: Write>(
+    output: &mut W,
+    sort: u8,
+    footprint: u8,
+    kind: u8,
+    width: u32,
+    height: u32,
+    all: &[u8],
+    n: u32,
+) -> io::Result<()> {
     if sort == 0 {
-        clip_record(all, n as usize);
+        clip_record(output, all, n as usize)
     } else {
         let mut out = [0u8; 500];
         let room = (n as usize) + 9 + (sort as usize);
         frame_record(
-            footprint, kind, width, height, all, n as usize, &mut out, room,
-        );
+            output, footprint, kind, width, height, all, n as usize, &mut out, room,
+        )
     }
 }
 
 // One record, and whether there was one.
-fn record() -> bool {
+fn record<R: Read, W: Write>(input: &mut R, output: &mut W) -> io::Result<bool> {
     let mut h = [0u8; 409];
-    if io::read_full(STDIN_FILENO, &mut h) != 409 {
-        return false;
+    if program_io::read_full(input, &mut h)? != 409 {
+        return Ok(false);
     }
     let width = two(h[3], h[4]);
     let height = two(h[5], h[6]);
     let n = two(h[7], h[8]);
-    parted(h[0], h[1], h[2], width, height, &h[9..409], n);
-    true
+    parted(output, h[0], h[1], h[2], width, height, &h[9..409], n)?;
+    Ok(true)
 }
 
-fn main() {
-    let mut turns = u64::MAX;
-    while turns > 0 && record() {
-        turns -= 1;
+fn main(rt: HostRuntime) -> io::Result<()> {
+    let input = &mut rt.stdin();
+    let output = &mut rt.stdout();
+    for _ in 0..u64::MAX {
+        if !record(input, output)? {
+            break;
+        }
     }
+    Ok(())
 }

@@ -6,103 +6,98 @@
 ghost use Rattle.std.specs.Prelude.{◌≡◌, length};
 
 use image_layout::{ImageAnswer, Tally};
-use libc::{STDIN_FILENO, STDOUT_FILENO};
+use std::io;
+use std::io::{Read, Write};
 
-fn word(name: &[u8], n: u64) {
-    io::write_all(STDOUT_FILENO, name);
-    io::print_decimal(STDOUT_FILENO, n);
+fn word<W: Write>(output: &mut W, name: &[u8], n: u64) -> io::Result<()> {
+    output.write_all(name)?;
+    program_io::print_decimal(output, n)
 }
 
-fn byte(n: u8) {
-    word(b" ", n as u64);
+fn byte<W: Write>(output: &mut W, n: u8) -> io::Result<()> {
+    word(output, b" ", n as u64)
 }
 
-fn number(n: u32) {
-    word(b" ", n as u64);
+fn number<W: Write>(output: &mut W, n: u32) -> io::Result<()> {
+    word(output, b" ", n as u64)
 }
 
-fn pattern(n: u16) {
-    word(b" ", n as u64);
+fn pattern<W: Write>(output: &mut W, n: u16) -> io::Result<()> {
+    word(output, b" ", n as u64)
 }
 
-fn end_line() {
-    io::write_all(STDOUT_FILENO, b"\n");
+fn end_line<W: Write>(output: &mut W) -> io::Result<()> {
+    output.write_all(b"\n")
 }
 
 // Each byte after a space, and the end of the line.
-fn list(bytes: &[u8]) {
-    let mut i: usize = 0;
-    while i < bytes.len() {
-        byte(bytes[i]);
-        i += 1;
+fn list<W: Write>(output: &mut W, bytes: &[u8]) -> io::Result<()> {
+    for b in bytes {
+        byte(output, *b)?;
     }
-    end_line();
+    end_line(output)
 }
 
 // The header that is made of three numbers.
-fn write(footprint: u8, width: u32, height: u32) {
+fn write<W: Write>(output: &mut W, footprint: u8, width: u32, height: u32) -> io::Result<()> {
     let mut header = [7u8; 16];
     let n = astc_numbers::write_numbers(footprint, width, height, &mut header);
-    word(b"written ", n as u64);
-    list(&header);
+    word(output, b"written ", n as u64)?;
+    list(output, &header)
 }
 
-fn read(file: &[u8]) {
+fn read<W: Write>(output: &mut W, file: &[u8]) -> io::Result<()> {
     let mut header = [7u32; 3];
     let n = astc_numbers::read_numbers(file, &mut header);
-    word(b"header ", n as u64);
-    number(header[0]);
-    number(header[1]);
-    number(header[2]);
-    end_line();
-    write((header[0] % 256) as u8, header[1], header[2]);
+    word(output, b"header ", n as u64)?;
+    number(output, header[0])?;
+    number(output, header[1])?;
+    number(output, header[2])?;
+    end_line(output)?;
+    write(output, (header[0] % 256) as u8, header[1], header[2])
 }
 
-fn tally(t: Tally) {
-    word(b"faulty ", t.count);
-    word(b" first ", t.first);
-    word(b" fault ", t.fault as u64);
+fn tally<W: Write>(output: &mut W, t: Tally) -> io::Result<()> {
+    word(output, b"faulty ", t.count)?;
+    word(output, b" first ", t.first)?;
+    word(output, b" fault ", t.fault as u64)
 }
 
-fn told(a: ImageAnswer) {
+fn told<W: Write>(output: &mut W, a: ImageAnswer) -> io::Result<()> {
     match a {
-        ImageAnswer::Refused(n) => word(b"refused ", n as u64),
-        ImageAnswer::Decoded(t) => tally(t),
+        ImageAnswer::Refused(n) => word(output, b"refused ", n as u64),
+        ImageAnswer::Decoded(t) => tally(output, t),
     }
 }
 
 // The colours of 3 by 2 texels.
-fn colours(texels: &[u8; 24]) {
-    let mut i: usize = 0;
-    while i < 6 {
-        byte(texels[4 * i]);
-        byte(texels[4 * i + 1]);
-        byte(texels[4 * i + 2]);
-        i += 1;
+fn colours<W: Write>(output: &mut W, texels: &[u8; 24]) -> io::Result<()> {
+    for i in 0..6 {
+        byte(output, texels[4 * i])?;
+        byte(output, texels[4 * i + 1])?;
+        byte(output, texels[4 * i + 2])?;
     }
-    end_line();
+    end_line(output)
 }
 
 // The half floats of 3 by 2 texels.
-fn halves(texels: &[u16; 24]) {
-    let mut i: usize = 0;
-    while i < 24 {
-        pattern(texels[i]);
-        i += 1;
+fn halves<W: Write>(output: &mut W, texels: &[u16; 24]) -> io::Result<()> {
+    for i in 0..24 {
+        pattern(output, texels[i])?;
     }
-    end_line();
+    end_line(output)
 }
 
-fn show(file: &[u8]) {
+fn show<W: Write>(output: &mut W, file: &[u8]) -> io::Result<()> {
     let mut numbers = [7u16; 24];
-    told(astc_file::decode_file_unorm16(file, &mut numbers));
-    end_line();
+    told(output, astc_file::decode_file_unorm16(file, &mut numbers))?;
+    end_line(output)?;
     let mut texels = [7u8; 24];
-    told(astc_file::decode_file_srgb8(file, &mut texels));
-    colours(&texels);
+    told(output, astc_file::decode_file_srgb8(file, &mut texels))?;
+    colours(output, &texels)?;
     let mut patterns = [7u16; 24];
-    told(astc_file::decode_file_float16(file, &mut patterns));
-    halves(&patterns);
+    told(output, astc_file::decode_file_float16(file, &mut patterns))?;
+    halves(output, &patterns)
 }
 
 fn wide(n: u8) -> usize
@@ -112,25 +107,26 @@ fn wide(n: u8) -> usize
 }
 
 // The file of a record.
-fn run(entry: &[u8])
+fn run<W: Write>(output: &mut W, entry: &[u8]) -> io::Result<()>
     requires { length entry.now ≡ 40 }
 {
     let n = wide(entry[0]);
     if n <= 39 {
         let file = &entry[1..n + 1];
-        read(file);
-        show(file);
+        read(output, file)?;
+        show(output, file)?;
     }
+    Ok(())
 }
 
-fn main() {
+fn main(rt: HostRuntime) -> io::Result<()> {
+    let output = &mut rt.stdout();
     let mut input = [0u8; 1200];
-    let n = io::read_full(STDIN_FILENO, &mut input);
-    let mut k: usize = 0;
-    while k < 30 {
+    let n = program_io::read_full(&mut rt.stdin(), &mut input)?;
+    for k in 0..30 {
         if 40 * k + 40 <= n {
-            run(&input[40 * k..40 * k + 40]);
+            run(output, &input[40 * k..40 * k + 40])?;
         }
-        k += 1;
     }
+    Ok(())
 }

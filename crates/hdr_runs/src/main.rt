@@ -5,16 +5,17 @@
 use encoding::Level;
 use half_pair::HalfPair;
 use hdr_endpoint::{Alphas, HdrPair};
-use libc::STDOUT_FILENO;
+use std::io;
+use std::io::Write;
 
-fn word(name: &[u8], n: u64) {
-    io::write_all(STDOUT_FILENO, name);
-    io::print_decimal(STDOUT_FILENO, n);
+fn word<W: Write>(output: &mut W, name: &[u8], n: u64) -> io::Result<()> {
+    output.write_all(name)?;
+    program_io::print_decimal(output, n)
 }
 
-fn line(name: &[u8], n: u64) {
-    word(name, n);
-    io::write_all(STDOUT_FILENO, b"\n");
+fn line<W: Write>(output: &mut W, name: &[u8], n: u64) -> io::Result<()> {
+    word(output, name, n)?;
+    output.write_all(b"\n")
 }
 
 // The sum, modulo 2^32, with one more number.
@@ -42,7 +43,7 @@ fn byte(x: u64) -> u8 {
 }
 
 // All 16-bit numbers.
-fn halves() {
+fn halves<W: Write>(output: &mut W) -> io::Result<()> {
     let mut sum: u64 = 0;
     let mut lns: u64 = 0;
     for n in 0..65536u32 {
@@ -50,12 +51,12 @@ fn halves() {
         sum = more(sum, half_float::unorm_half(c));
         lns = more(lns, half_float::lns_half(c));
     }
-    line(b"unorm16 ", sum);
-    line(b"lns ", lns);
+    line(output, b"unorm16 ", sum)?;
+    line(output, b"lns ", lns)
 }
 
 // All pairs of bytes, in modes 2 and 3 and as mode 15's alphas.
-fn bytes() {
+fn bytes<W: Write>(output: &mut W) -> io::Result<()> {
     let mut two: u64 = 0;
     let mut three: u64 = 0;
     let mut alpha: u64 = 0;
@@ -67,9 +68,9 @@ fn bytes() {
         let a = hdr_endpoint::alphas_of(x, y);
         alpha = more(more(alpha, a.0), a.1);
     }
-    line(b"mode 2 ", two);
-    line(b"mode 3 ", three);
-    line(b"mode 15 alphas ", alpha);
+    line(output, b"mode 2 ", two)?;
+    line(output, b"mode 3 ", three)?;
+    line(output, b"mode 15 alphas ", alpha)
 }
 
 fn two_on(x: u64) -> u64 {
@@ -111,7 +112,7 @@ fn direct(sum: u64, x: u64) -> u64 {
 }
 
 // So many of the series.
-fn series() {
+fn series<W: Write>(output: &mut W) -> io::Result<()> {
     let mut seven: u64 = 0;
     let mut eleven: u64 = 0;
     let mut x: u64 = 1;
@@ -120,19 +121,17 @@ fn series() {
         eleven = direct(eleven, x);
         x = six_on(x);
     }
-    line(b"mode 7 ", seven);
-    line(b"mode 11 ", eleven);
+    line(output, b"mode 7 ", seven)?;
+    line(output, b"mode 11 ", eleven)
 }
 
 // Eighteen of the series.
 fn levels(x: u64) -> [Level; 18] {
     let mut out = [Level(0); 18];
     let mut y = x;
-    let mut i: usize = 0;
-    while i < 18 {
+    for i in 0..18 {
         y = next(y);
         out[i] = Level(byte(y));
-        i += 1;
     }
     out
 }
@@ -157,7 +156,7 @@ fn two_pairs(sum: u64, x: u64, first: u8, second: u8) -> u64 {
 }
 
 // All pairs of modes, so many times.
-fn pairs() {
+fn pairs<W: Write>(output: &mut W) -> io::Result<()> {
     let mut sum: u64 = 0;
     let mut x: u64 = 1;
     for n in 0..25600u32 {
@@ -166,12 +165,13 @@ fn pairs() {
         sum = two_pairs(sum, x, first, second);
         x = six_on(x);
     }
-    line(b"pairs ", sum);
+    line(output, b"pairs ", sum)
 }
 
-fn main() {
-    halves();
-    bytes();
-    series();
-    pairs();
+fn main(rt: HostRuntime) -> io::Result<()> {
+    let output = &mut rt.stdout();
+    halves(output)?;
+    bytes(output)?;
+    series(output)?;
+    pairs(output)
 }

@@ -5,28 +5,30 @@
 
 ghost use Rattle.std.specs.Prelude.{◌≤◌, length};
 
-use libc::{STDIN_FILENO, STDOUT_FILENO};
+use std::io;
+use std::io::{Read, Write};
 
-fn number(n: u64) {
-    io::write_all(STDOUT_FILENO, b" ");
-    io::print_decimal(STDOUT_FILENO, n);
+fn number<W: Write>(output: &mut W, n: u64) -> io::Result<()> {
+    output.write_all(b" ")?;
+    program_io::print_decimal(output, n)
 }
 
-fn end_line() {
-    io::write_all(STDOUT_FILENO, b"\n");
+fn end_line<W: Write>(output: &mut W) -> io::Result<()> {
+    output.write_all(b"\n")
 }
 
 // The bytes of a buffer.
-fn bytes(out: &[u8]) {
-    for i in 0..out.len() {
-        number(out[i] as u64);
+fn bytes<W: Write>(output: &mut W, out: &[u8]) -> io::Result<()> {
+    for b in out {
+        number(output, *b as u64)?;
     }
+    Ok(())
 }
 
 // Whether every byte of a buffer is 7.
 fn all_seven(out: &[u8]) -> bool {
-    for i in 0..out.len() {
-        if out[i] != 7 {
+    for b in out {
+        if *b != 7 {
             return false;
         }
     }
@@ -34,18 +36,18 @@ fn all_seven(out: &[u8]) -> bool {
 }
 
 // What the call tells of a buffer of sevens.
-fn told(answer: u8, out: &[u8]) {
+fn told<W: Write>(output: &mut W, answer: u8, out: &[u8]) -> io::Result<()> {
     if answer == 0 {
-        io::write_all(STDOUT_FILENO, b"texels");
-        bytes(out);
+        output.write_all(b"texels")?;
+        bytes(output, out)?;
     } else {
-        io::write_all(STDOUT_FILENO, b"refused");
-        number(answer as u64);
+        output.write_all(b"refused")?;
+        number(output, answer as u64)?;
         if all_seven(out) {
-            io::write_all(STDOUT_FILENO, b" kept");
+            output.write_all(b" kept")?;
         }
     }
-    end_line();
+    end_line(output)
 }
 
 fn wide(n: u8) -> usize
@@ -64,24 +66,39 @@ fn pair(low: u8, high: u8, most: usize) -> usize
 }
 
 // A call, and what it tells.
-fn call(width: u32, height: u32, words: &[u8], out: &mut [u8]) {
+fn call<W: Write>(
+    output: &mut W,
+    width: u32,
+    height: u32,
+    words: &[u8],
+    out: &mut [u8],
+) -> io::Result<()> {
     let answer = pvrtc_image::decode_image(width, height, words, out);
-    told(answer, out);
+    told(output, answer, out)
 }
 
 // A call with the first `given` bytes of the words and a buffer of the first `places` bytes.
-fn run(width: u32, height: u32, words: &[u8], given: usize, out: &mut [u8], places: usize)
-    requires { (given ≤ length words.now) × (places ≤ length out.old) }
+fn run<W: Write>(
+    output: &mut W,
+    width: u32,
+    height: u32,
+    words: &[u8],
+    given: usize,
+    out: &mut [u8],
+    places: usize,
+) -> io::Result<()>
+    requires given { given ≤ length words.now }
+    requires places { places ≤ length out.old }
 {
-    call(width, height, &words[..given], &mut out[..places]);
+    call(output, width, height, &words[..given], &mut out[..places])
 }
 
 // One record, and whether there was one.
-fn record() -> bool {
+fn record<R: Read, W: Write>(input: &mut R, output: &mut W) -> io::Result<bool> {
     let mut r = [0u8; 136];
-    let n = io::read_full(STDIN_FILENO, &mut r);
+    let n = program_io::read_full(input, &mut r)?;
     if n != 136 {
-        return false;
+        return Ok(false);
     }
     let width = pair(r[0], r[1], 65535);
     let height = pair(r[2], r[3], 65535);
@@ -89,42 +106,47 @@ fn record() -> bool {
     let places = pair(r[6], r[7], 1025);
     let mut out = [7u8; 1025];
     run(
+        output,
         width as u32,
         height as u32,
         &r[8..136],
         given,
         &mut out,
         places,
-    );
-    true
+    )?;
+    Ok(true)
 }
 
 // "Word place for X = 13, Y = 2 in 64 by 16 texels is 54."
-fn place() {
-    io::write_all(STDOUT_FILENO, b"place");
-    number(pvrtc_order::word_place(4, 2, 13, 2) as u64);
-    end_line();
+fn place<W: Write>(output: &mut W) -> io::Result<()> {
+    output.write_all(b"place")?;
+    number(output, pvrtc_order::word_place(4, 2, 13, 2) as u64)?;
+    end_line(output)
 }
 
 // A side of 4,096: words of zeros, of which the last texel is told.
-fn longest(width: u32, height: u32) {
+fn longest<W: Write>(output: &mut W, width: u32, height: u32) -> io::Result<()> {
     let words = [0u8; 8192];
     let mut out = [7u8; 65536];
     let answer = pvrtc_image::decode_image(width, height, &words, &mut out);
-    io::write_all(STDOUT_FILENO, b"answer");
-    number(answer as u64);
-    bytes(&out[65532..]);
-    end_line();
+    output.write_all(b"answer")?;
+    number(output, answer as u64)?;
+    bytes(output, &out[65532..])?;
+    end_line(output)
 }
 
-fn main() {
-    place();
-    longest(4096, 4);
-    longest(4, 4096);
-    longest(8192, 2);
-    longest(2, 8192);
-    let mut turns = u64::MAX;
-    while turns > 0 && record() {
-        turns -= 1;
+fn main(rt: HostRuntime) -> io::Result<()> {
+    let input = &mut rt.stdin();
+    let output = &mut rt.stdout();
+    place(output)?;
+    longest(output, 4096, 4)?;
+    longest(output, 4, 4096)?;
+    longest(output, 8192, 2)?;
+    longest(output, 2, 8192)?;
+    for _ in 0..u64::MAX {
+        if !record(input, output)? {
+            break;
+        }
     }
+    Ok(())
 }

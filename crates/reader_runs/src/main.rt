@@ -3,169 +3,185 @@
 // where any is set, then "block" and the sixteen bytes that are written for it, and whether they show the same texels in kind 2.
 #![tactic(auto)]
 
+ghost use Rattle.std.specs.Prelude.{◌≤◌};
+
 use block_answer::Answer;
 use encoding::Stored;
-use libc::{STDIN_FILENO, STDOUT_FILENO};
 use spare_bits::Spare;
+use std::io;
+use std::io::{Read, Write};
 use symbolic_block::SymbolicBlock;
 
-fn next(n: u16) {
-    io::write_all(STDOUT_FILENO, b" ");
-    io::print_decimal(STDOUT_FILENO, n as u64);
+fn next<W: Write>(output: &mut W, n: u16) -> io::Result<()> {
+    output.write_all(b" ")?;
+    program_io::print_decimal(output, n as u64)
 }
 
-fn byte(n: u8) {
-    next(n as u16);
+fn byte<W: Write>(output: &mut W, n: u8) -> io::Result<()> {
+    next(output, n as u16)
 }
 
-fn end_line() {
-    io::write_all(STDOUT_FILENO, b"\n");
+fn end_line<W: Write>(output: &mut W) -> io::Result<()> {
+    output.write_all(b"\n")
 }
 
-fn told(name: &[u8], n: u8) {
-    io::write_all(STDOUT_FILENO, name);
-    byte(n);
-    end_line();
+fn told<W: Write>(output: &mut W, name: &[u8], n: u8) -> io::Result<()> {
+    output.write_all(name)?;
+    byte(output, n)?;
+    end_line(output)
 }
 
-fn words(xs: [u16; 4]) {
-    next(xs[0]);
-    next(xs[1]);
-    next(xs[2]);
-    next(xs[3]);
+fn words<W: Write>(output: &mut W, xs: [u16; 4]) -> io::Result<()> {
+    next(output, xs[0])?;
+    next(output, xs[1])?;
+    next(output, xs[2])?;
+    next(output, xs[3])
 }
 
-fn modes(xs: [u8; 4]) {
-    byte(xs[0]);
-    byte(xs[1]);
-    byte(xs[2]);
-    byte(xs[3]);
+fn modes<W: Write>(output: &mut W, xs: [u8; 4]) -> io::Result<()> {
+    byte(output, xs[0])?;
+    byte(output, xs[1])?;
+    byte(output, xs[2])?;
+    byte(output, xs[3])
 }
 
-fn endpoints(xs: [Stored; 18]) {
-    let mut i: usize = 0;
-    while i < 18 {
+fn endpoints<W: Write>(output: &mut W, xs: [Stored; 18]) -> io::Result<()> {
+    for i in 0..18 {
         let x = xs[i];
-        byte(x.0);
-        i += 1;
+        byte(output, x.0)?;
     }
+    Ok(())
 }
 
-fn weights(xs: [Stored; 64]) {
-    let mut i: usize = 0;
-    while i < 64 {
+fn weights<W: Write>(output: &mut W, xs: [Stored; 64]) -> io::Result<()> {
+    for i in 0..64 {
         let x = xs[i];
-        byte(x.0);
-        i += 1;
+        byte(output, x.0)?;
     }
+    Ok(())
 }
 
-fn fields(s: SymbolicBlock) {
-    io::write_all(STDOUT_FILENO, b"fields");
-    byte(s.mark);
+fn fields<W: Write>(output: &mut W, s: SymbolicBlock) -> io::Result<()> {
+    output.write_all(b"fields")?;
+    byte(output, s.mark)?;
     let colours = s.colours;
-    words(colours);
+    words(output, colours)?;
     let extents = s.extents;
-    words([extents[0], extents[1], extents[2], extents[3]]);
-    byte(s.width);
-    byte(s.height);
-    byte(s.range);
-    byte(s.planes);
-    byte(s.component);
-    byte(s.partitions);
-    next(s.index);
-    byte(s.selector);
+    words(output, [extents[0], extents[1], extents[2], extents[3]])?;
+    byte(output, s.width)?;
+    byte(output, s.height)?;
+    byte(output, s.range)?;
+    byte(output, s.planes)?;
+    byte(output, s.component)?;
+    byte(output, s.partitions)?;
+    next(output, s.index)?;
+    byte(output, s.selector)?;
     let m = s.modes;
-    modes(m);
+    modes(output, m)?;
     let e = s.endpoints;
-    endpoints(e);
+    endpoints(output, e)?;
     let w = s.weights;
-    weights(w);
-    byte(s.hdr);
-    byte(s.depth);
-    next(extents[4]);
-    next(extents[5]);
+    weights(output, w)?;
+    byte(output, s.hdr)?;
+    byte(output, s.depth)?;
+    next(output, extents[4])?;
+    next(output, extents[5])
 }
 
-fn all(bytes: [u8; 16]) {
-    io::write_all(STDOUT_FILENO, b" block");
-    let mut i: usize = 0;
-    while i < 16 {
-        byte(bytes[i]);
-        i += 1;
+fn all<W: Write>(output: &mut W, bytes: [u8; 16]) -> io::Result<()> {
+    output.write_all(b" block")?;
+    for i in 0..16 {
+        byte(output, bytes[i])?;
     }
+    Ok(())
+}
+
+// How many numbers the texels of a block have.
+#[tactic(auto, using(footprint::proofs::Laws::texels_le))]
+fn numbers_of(fp: u8) -> usize
+    ensures { result ≤ 864 }
+{
+    4 * (footprint::texels(fp) as usize)
 }
 
 fn shown(fp: u8, block: &[u8]) -> [u16; 864] {
     let mut numbers = [0u16; 864];
-    let n = 4 * (footprint::texels(fp) as usize);
+    let n = numbers_of(fp);
     one_block::decode_float16(fp, block, &mut numbers[..n]);
     numbers
 }
 
 fn equal(a: [u16; 864], b: [u16; 864]) -> bool {
-    let mut i: usize = 0;
-    while i < 864 {
+    for i in 0..864 {
         if a[i] != b[i] {
             return false;
         }
-        i += 1;
     }
     true
 }
 
-fn compared(fp: u8, block: &[u8], bytes: [u8; 16]) {
+fn compared<W: Write>(output: &mut W, fp: u8, block: &[u8], bytes: [u8; 16]) -> io::Result<()> {
     let before = shown(fp, block);
     let after = shown(fp, &bytes);
     if equal(before, after) {
-        io::write_all(STDOUT_FILENO, b" same texels");
+        output.write_all(b" same texels")?;
     } else {
-        io::write_all(STDOUT_FILENO, b" other texels");
+        output.write_all(b" other texels")?;
     }
-    end_line();
+    end_line(output)
 }
 
-fn unused(spare: Spare) {
-    io::write_all(STDOUT_FILENO, b" spare");
-    byte(spare.count);
-    byte(if spare.set { 1 } else { 0 });
+fn unused<W: Write>(output: &mut W, spare: Spare) -> io::Result<()> {
+    output.write_all(b" spare")?;
+    byte(output, spare.count)?;
+    byte(output, if spare.set { 1 } else { 0 })
 }
 
-fn rewritten(fp: u8, block: &[u8], s: SymbolicBlock, spare: Spare) {
-    fields(s);
-    unused(spare);
+fn rewritten<W: Write>(
+    output: &mut W,
+    fp: u8,
+    block: &[u8],
+    s: SymbolicBlock,
+    spare: Spare,
+) -> io::Result<()> {
+    fields(output, s)?;
+    unused(output, spare)?;
     let w = symbolic_calls::write_symbolic(fp, s);
     let bytes = w.bytes;
-    all(bytes);
-    compared(fp, block, bytes);
+    all(output, bytes)?;
+    compared(output, fp, block, bytes)
 }
 
-fn read(fp: u8, block: &[u8]) {
+fn read<W: Write>(output: &mut W, fp: u8, block: &[u8]) -> io::Result<()> {
     let r = symbolic_reader::read_symbolic(fp, block);
     let a = r.answer;
     let s = r.block;
     let spare = r.spare;
     match a {
-        Answer::Refused(n) => told(b"refused", n),
-        Answer::Faulty(n) => told(b"fault", n),
-        Answer::Done => rewritten(fp, block, s, spare),
+        Answer::Refused(n) => told(output, b"refused", n),
+        Answer::Faulty(n) => told(output, b"fault", n),
+        Answer::Done => rewritten(output, fp, block, s, spare),
     }
 }
 
 // One record, and whether there was one.
-fn record() -> bool {
+fn record<R: Read, W: Write>(input: &mut R, output: &mut W) -> io::Result<bool> {
     let mut r = [0u8; 17];
-    let n = io::read_full(STDIN_FILENO, &mut r);
+    let n = program_io::read_full(input, &mut r)?;
     if n != 17 {
-        return false;
+        return Ok(false);
     }
-    read(r[0], &r[1..17]);
-    true
+    read(output, r[0], &r[1..17])?;
+    Ok(true)
 }
 
-fn main() {
-    let mut turns = u64::MAX;
-    while turns > 0 && record() {
-        turns -= 1;
+fn main(rt: HostRuntime) -> io::Result<()> {
+    let input = &mut rt.stdin();
+    let output = &mut rt.stdout();
+    for _ in 0..u64::MAX {
+        if !record(input, output)? {
+            break;
+        }
     }
+    Ok(())
 }

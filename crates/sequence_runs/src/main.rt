@@ -5,50 +5,60 @@
 
 use bits::PhysicalBlock;
 use encoding::Stored;
-use libc::{STDIN_FILENO, STDOUT_FILENO};
+use std::io;
+use std::io::{Read, Write};
 
-fn next(n: u32) {
-    io::write_all(STDOUT_FILENO, b" ");
-    io::print_decimal(STDOUT_FILENO, n as u64);
+fn next<W: Write>(output: &mut W, n: u32) -> io::Result<()> {
+    output.write_all(b" ")?;
+    program_io::print_decimal(output, n as u64)
 }
 
-fn numbers(xs: [Stored; 64], n: u8) {
-    let mut i: usize = 0;
-    while i < 64 {
+fn numbers<W: Write>(output: &mut W, xs: [Stored; 64], n: u8) -> io::Result<()> {
+    for i in 0..64 {
         if i < n as usize {
             let x = xs[i];
-            next(x.0 as u32);
+            next(output, x.0 as u32)?;
         }
-        i += 1;
     }
+    Ok(())
 }
 
-fn told(block: PhysicalBlock, from: u8, range: u8, n: u8) {
+fn told<W: Write>(
+    output: &mut W,
+    block: PhysicalBlock,
+    from: u8,
+    range: u8,
+    n: u8,
+) -> io::Result<()> {
     let s = sequence_end::read_sequence(block, from, range, n);
-    io::write_all(STDOUT_FILENO, b"end");
-    next(s.end);
-    io::write_all(STDOUT_FILENO, b" zero");
-    next(if s.zero { 1 } else { 0 });
-    io::write_all(STDOUT_FILENO, b" numbers");
+    output.write_all(b"end")?;
+    next(output, s.end)?;
+    output.write_all(b" zero")?;
+    next(output, if s.zero { 1 } else { 0 })?;
+    output.write_all(b" numbers")?;
     let xs = s.numbers;
-    numbers(xs, n);
-    io::write_all(STDOUT_FILENO, b"\n");
+    numbers(output, xs, n)?;
+    output.write_all(b"\n")
 }
 
 // One record, and whether there was one.
-fn record() -> bool {
+fn record<R: Read, W: Write>(input: &mut R, output: &mut W) -> io::Result<bool> {
     let mut r = [0u8; 19];
-    let n = io::read_full(STDIN_FILENO, &mut r);
+    let n = program_io::read_full(input, &mut r)?;
     if n != 19 {
-        return false;
+        return Ok(false);
     }
-    told(bits::load(&r[3..19]), r[2], r[0], r[1]);
-    true
+    told(output, bits::load(&r[3..19]), r[2], r[0], r[1])?;
+    Ok(true)
 }
 
-fn main() {
-    let mut turns = u64::MAX;
-    while turns > 0 && record() {
-        turns -= 1;
+fn main(rt: HostRuntime) -> io::Result<()> {
+    let input = &mut rt.stdin();
+    let output = &mut rt.stdout();
+    for _ in 0..u64::MAX {
+        if !record(input, output)? {
+            break;
+        }
     }
+    Ok(())
 }

@@ -3,15 +3,18 @@
 // which is what a half float keeps of them, kind 1's bytes, and kind 2's half floats.
 #![tactic(auto)]
 
-use libc::{STDIN_FILENO, STDOUT_FILENO};
+ghost use Rattle.std.specs.Prelude.{◌≤◌};
 
-fn number(n: u16) {
-    io::write_all(STDOUT_FILENO, b" ");
-    io::print_decimal(STDOUT_FILENO, n as u64);
+use std::io;
+use std::io::{Read, Write};
+
+fn number<W: Write>(output: &mut W, n: u16) -> io::Result<()> {
+    output.write_all(b" ")?;
+    program_io::print_decimal(output, n as u64)
 }
 
-fn byte(n: u8) {
-    number(n as u16);
+fn byte<W: Write>(output: &mut W, n: u8) -> io::Result<()> {
+    number(output, n as u16)
 }
 
 // The number without the bits below its eleven highest; 65535 stays.
@@ -38,52 +41,71 @@ fn kept(n: u16) -> u16 {
 }
 
 // The numbers from place i on, in each kind.
-fn channels(i: usize, numbers: &[u16; 864], bytes: &[u8; 864], halves: &[u16; 864]) {
+fn channels<W: Write>(
+    output: &mut W,
+    i: usize,
+    numbers: &[u16; 864],
+    bytes: &[u8; 864],
+    halves: &[u16; 864],
+) -> io::Result<()> {
     if 860 < i {
-        return;
+        return Ok(());
     }
-    number(kept(numbers[i]));
-    number(kept(numbers[i + 1]));
-    number(kept(numbers[i + 2]));
-    number(kept(numbers[i + 3]));
-    byte(bytes[i]);
-    byte(bytes[i + 1]);
-    byte(bytes[i + 2]);
-    byte(bytes[i + 3]);
-    number(halves[i]);
-    number(halves[i + 1]);
-    number(halves[i + 2]);
-    number(halves[i + 3]);
-    io::write_all(STDOUT_FILENO, b"\n");
+    number(output, kept(numbers[i]))?;
+    number(output, kept(numbers[i + 1]))?;
+    number(output, kept(numbers[i + 2]))?;
+    number(output, kept(numbers[i + 3]))?;
+    byte(output, bytes[i])?;
+    byte(output, bytes[i + 1])?;
+    byte(output, bytes[i + 2])?;
+    byte(output, bytes[i + 3])?;
+    number(output, halves[i])?;
+    number(output, halves[i + 1])?;
+    number(output, halves[i + 2])?;
+    number(output, halves[i + 3])?;
+    output.write_all(b"\n")
 }
 
 // Texel k of a flat block, rows first.
-fn texel(k: usize, numbers: &[u16; 864], bytes: &[u8; 864], halves: &[u16; 864]) {
+fn texel<W: Write>(
+    output: &mut W,
+    k: usize,
+    numbers: &[u16; 864],
+    bytes: &[u8; 864],
+    halves: &[u16; 864],
+) -> io::Result<()> {
     if 144 <= k {
-        return;
+        return Ok(());
     }
-    io::print_decimal(STDOUT_FILENO, k as u64);
-    channels(4 * k, numbers, bytes, halves);
+    program_io::print_decimal(output, k as u64)?;
+    channels(output, 4 * k, numbers, bytes, halves)
 }
 
 // The first texel, the last one of its row, one between, and the last.
-fn texels(fp: u8, numbers: &[u16; 864], bytes: &[u8; 864], halves: &[u16; 864]) {
+fn texels<W: Write>(
+    output: &mut W,
+    fp: u8,
+    numbers: &[u16; 864],
+    bytes: &[u8; 864],
+    halves: &[u16; 864],
+) -> io::Result<()> {
     let width = footprint::width(fp) as usize;
     let count = footprint::texels(fp) as usize;
     if width == 0 {
-        return;
+        return Ok(());
     }
     if count == 0 {
-        return;
+        return Ok(());
     }
-    texel(0, numbers, bytes, halves);
-    texel(width - 1, numbers, bytes, halves);
-    texel(2 * count / 5, numbers, bytes, halves);
-    texel(count - 1, numbers, bytes, halves);
+    texel(output, 0, numbers, bytes, halves)?;
+    texel(output, width - 1, numbers, bytes, halves)?;
+    texel(output, 2 * count / 5, numbers, bytes, halves)?;
+    texel(output, count - 1, numbers, bytes, halves)
 }
 
 // Texel x, y, z of a volume's block, layers first.
-fn place(
+fn place<W: Write>(
+    output: &mut W,
     fp: u8,
     x: u8,
     y: u8,
@@ -91,79 +113,104 @@ fn place(
     numbers: &[u16; 864],
     bytes: &[u8; 864],
     halves: &[u16; 864],
-) {
+) -> io::Result<()> {
     let width = footprint::width(fp) as usize;
     let height = footprint::height(fp) as usize;
     let row = (z as usize) * height + (y as usize);
     let k = row * width + (x as usize);
     if 216 <= k {
-        return;
+        return Ok(());
     }
-    io::print_decimal(STDOUT_FILENO, x as u64);
-    byte(y);
-    byte(z);
-    channels(4 * k, numbers, bytes, halves);
+    program_io::print_decimal(output, x as u64)?;
+    byte(output, y)?;
+    byte(output, z)?;
+    channels(output, 4 * k, numbers, bytes, halves)
 }
 
 // The first texel, the turns of 0, 1 and 2, the one at 1, 1, 1, and the last.
-fn places(fp: u8, numbers: &[u16; 864], bytes: &[u8; 864], halves: &[u16; 864]) {
-    place(fp, 0, 0, 0, numbers, bytes, halves);
-    place(fp, 0, 1, 2, numbers, bytes, halves);
-    place(fp, 0, 2, 1, numbers, bytes, halves);
-    place(fp, 1, 0, 2, numbers, bytes, halves);
-    place(fp, 1, 2, 0, numbers, bytes, halves);
-    place(fp, 2, 0, 1, numbers, bytes, halves);
-    place(fp, 2, 1, 0, numbers, bytes, halves);
-    place(fp, 1, 1, 1, numbers, bytes, halves);
+fn places<W: Write>(
+    output: &mut W,
+    fp: u8,
+    numbers: &[u16; 864],
+    bytes: &[u8; 864],
+    halves: &[u16; 864],
+) -> io::Result<()> {
+    place(output, fp, 0, 0, 0, numbers, bytes, halves)?;
+    place(output, fp, 0, 1, 2, numbers, bytes, halves)?;
+    place(output, fp, 0, 2, 1, numbers, bytes, halves)?;
+    place(output, fp, 1, 0, 2, numbers, bytes, halves)?;
+    place(output, fp, 1, 2, 0, numbers, bytes, halves)?;
+    place(output, fp, 2, 0, 1, numbers, bytes, halves)?;
+    place(output, fp, 2, 1, 0, numbers, bytes, halves)?;
+    place(output, fp, 1, 1, 1, numbers, bytes, halves)?;
     let width = footprint::width(fp);
     let height = footprint::height(fp);
     let depth = footprint::depth(fp);
     if 0 < width && 0 < height && 0 < depth {
-        place(fp, width - 1, height - 1, depth - 1, numbers, bytes, halves);
+        place(
+            output,
+            fp,
+            width - 1,
+            height - 1,
+            depth - 1,
+            numbers,
+            bytes,
+            halves,
+        )?;
     }
+    Ok(())
 }
 
-fn record(fp: u8, block: &[u8]) {
+// How many numbers the texels of a block have.
+#[tactic(auto, using(footprint::proofs::Laws::texels_le))]
+fn numbers_of(fp: u8) -> usize
+    ensures { result ≤ 864 }
+{
+    4 * (footprint::texels(fp) as usize)
+}
+
+fn record<W: Write>(output: &mut W, fp: u8, block: &[u8]) -> io::Result<()> {
     let mut numbers = [0u16; 864];
     let mut bytes = [0u8; 864];
     let mut halves = [0u16; 864];
-    let n = 4 * (footprint::texels(fp) as usize);
+    let n = numbers_of(fp);
     let a = one_block::decode_unorm16(fp, block, &mut numbers[..n]);
     let b = one_block::decode_srgb8(fp, block, &mut bytes[..n]);
     let c = one_block::decode_float16(fp, block, &mut halves[..n]);
-    io::write_all(STDOUT_FILENO, b"footprint");
-    byte(fp);
-    io::write_all(STDOUT_FILENO, b" fault");
-    byte(block_answer::number_told(a));
-    byte(block_answer::number_told(b));
-    byte(block_answer::number_told(c));
-    io::write_all(STDOUT_FILENO, b"\n");
+    output.write_all(b"footprint")?;
+    byte(output, fp)?;
+    output.write_all(b" fault")?;
+    byte(output, block_answer::number_told(a))?;
+    byte(output, block_answer::number_told(b))?;
+    byte(output, block_answer::number_told(c))?;
+    output.write_all(b"\n")?;
     if footprint::is_volume(fp) {
-        places(fp, &numbers, &bytes, &halves);
+        places(output, fp, &numbers, &bytes, &halves)
     } else {
-        texels(fp, &numbers, &bytes, &halves);
+        texels(output, fp, &numbers, &bytes, &halves)
     }
 }
 
 // The record at a place of the input.
-fn record_at(input: &[u8], at: usize) {
+fn record_at<W: Write>(output: &mut W, input: &[u8], at: usize) -> io::Result<()> {
     if 4079 < at {
-        return;
+        return Ok(());
     }
     if input.len() < at + 17 {
-        return;
+        return Ok(());
     }
-    record(input[at], &input[at + 1..at + 17]);
+    record(output, input[at], &input[at + 1..at + 17])
 }
 
-fn main() {
+fn main(rt: HostRuntime) -> io::Result<()> {
+    let output = &mut rt.stdout();
     let mut input = [0u8; 4096];
-    let n = io::read_full(STDIN_FILENO, &mut input);
-    let mut at: usize = 0;
-    while at < 4079 {
+    let n = program_io::read_full(&mut rt.stdin(), &mut input)?;
+    for i in 0..240usize {
+        let at = 17 * i;
         if at + 17 <= n {
-            record_at(&input, at);
+            record_at(output, &input, at)?;
         }
-        at += 17;
     }
+    Ok(())
 }

@@ -8,7 +8,8 @@ ghost use Rattle.std.specs.Prelude.{◌<◌};
 
 use block_answer::Answer;
 use encoding::Stored;
-use libc::{STDIN_FILENO, STDOUT_FILENO};
+use std::io;
+use std::io::{Read, Write};
 use symbolic_block::SymbolicBlock;
 
 fn wide(x: u8) -> u16
@@ -25,20 +26,16 @@ fn word_at(r: &[u8; 119], i: usize) -> u16
 
 fn endpoints_at(r: &[u8; 119]) -> [Stored; 18] {
     let mut out = [Stored(0); 18];
-    let mut i: usize = 0;
-    while i < 18 {
+    for i in 0..18 {
         out[i] = Stored(r[31 + i]);
-        i += 1;
     }
     out
 }
 
 fn weights_at(r: &[u8; 119]) -> [Stored; 64] {
     let mut out = [Stored(0); 64];
-    let mut i: usize = 0;
-    while i < 64 {
+    for i in 0..64 {
         out[i] = Stored(r[49 + i]);
-        i += 1;
     }
     out
 }
@@ -76,56 +73,58 @@ fn block_at(r: &[u8; 119]) -> SymbolicBlock {
     }
 }
 
-fn next(n: u8) {
-    io::write_all(STDOUT_FILENO, b" ");
-    io::print_decimal(STDOUT_FILENO, n as u64);
+fn next<W: Write>(output: &mut W, n: u8) -> io::Result<()> {
+    output.write_all(b" ")?;
+    program_io::print_decimal(output, n as u64)
 }
 
-fn end_line() {
-    io::write_all(STDOUT_FILENO, b"\n");
+fn end_line<W: Write>(output: &mut W) -> io::Result<()> {
+    output.write_all(b"\n")
 }
 
-fn all(bytes: [u8; 16]) {
-    io::write_all(STDOUT_FILENO, b"block");
-    let mut i: usize = 0;
-    while i < 16 {
-        next(bytes[i]);
-        i += 1;
+fn all<W: Write>(output: &mut W, bytes: [u8; 16]) -> io::Result<()> {
+    output.write_all(b"block")?;
+    for i in 0..16 {
+        next(output, bytes[i])?;
     }
-    end_line();
+    end_line(output)
 }
 
-fn refused(n: u8) {
-    io::write_all(STDOUT_FILENO, b"refused");
-    next(n);
-    end_line();
+fn refused<W: Write>(output: &mut W, n: u8) -> io::Result<()> {
+    output.write_all(b"refused")?;
+    next(output, n)?;
+    end_line(output)
 }
 
-fn write(fp: u8, s: SymbolicBlock) {
+fn write<W: Write>(output: &mut W, fp: u8, s: SymbolicBlock) -> io::Result<()> {
     let w = symbolic_calls::write_symbolic(fp, s);
     let bytes = w.bytes;
     let a = w.answer;
     match a {
-        Answer::Refused(n) => refused(n),
-        Answer::Faulty(n) => refused(n),
-        Answer::Done => all(bytes),
+        Answer::Refused(n) => refused(output, n),
+        Answer::Faulty(n) => refused(output, n),
+        Answer::Done => all(output, bytes),
     }
 }
 
 // One record, and whether there was one.
-fn record() -> bool {
+fn record<R: Read, W: Write>(input: &mut R, output: &mut W) -> io::Result<bool> {
     let mut r = [0u8; 119];
-    let n = io::read_full(STDIN_FILENO, &mut r);
+    let n = program_io::read_full(input, &mut r)?;
     if n != 119 {
-        return false;
+        return Ok(false);
     }
-    write(r[0], block_at(&r));
-    true
+    write(output, r[0], block_at(&r))?;
+    Ok(true)
 }
 
-fn main() {
-    let mut turns = u64::MAX;
-    while turns > 0 && record() {
-        turns -= 1;
+fn main(rt: HostRuntime) -> io::Result<()> {
+    let input = &mut rt.stdin();
+    let output = &mut rt.stdout();
+    for _ in 0..u64::MAX {
+        if !record(input, output)? {
+            break;
+        }
     }
+    Ok(())
 }
