@@ -1,4 +1,3 @@
-use borrow.Author.Rules.{rules}
 use Rattle.strict_block.proofs.decode_in.Goals as goal
 
 pub returns : goal.returns

@@ -2,7 +2,6 @@ use mathlib.Core.Path.{refl, sym}
 use Rattle.bits.specs.Block.{block_number}
 use Rattle.block_reading.proofs.Shows.{ordinary_into}
 use Rattle.strict_block.proofs.Laws.{shows_as}
-use borrow.Author.Rules.{rules}
 use Rattle.strict_block.proofs.decode_some_in.Goals as goal
 
 pub returns-in-Ordinary : goal.returns-in-Ordinary

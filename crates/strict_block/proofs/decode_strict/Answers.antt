@@ -4,7 +4,6 @@ use Rattle.bits.specs.Block.{block_number}
 use Rattle.interpolation.specs.Expansion.{takes_hdr}
 use Rattle.block_reading.specs.Faults.{strict_fault}
 use Rattle.strict_block.proofs.Laws.{error_into, same_fault, same_into, shows_as}
-use borrow.Author.Rules.{rules}
 use Rattle.strict_block.proofs.decode_strict.Goals as goal
 use Rattle.strict_block.proofs.decode_strict.Goals.{After-strict_fault-fault}
 

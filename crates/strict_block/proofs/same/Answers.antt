@@ -1,4 +1,3 @@
-use mathlib.Core.Path.{◌≡◌}
 use native.Mathlib.Omega.{arith}
 use Rattle.strict_block.proofs.Laws.{low_differs, high_decides}
 use Rattle.strict_block.proofs.same.Goals as goal
