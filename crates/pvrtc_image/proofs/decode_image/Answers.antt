@@ -23,3 +23,12 @@ pub returns : goal.returns
 returns c = let k = c in
     let a = k.args in
     let e = accepted-After-slice_known-2-1 c in record { answer = sym e; image = shown a.width a.height a.words.now a.out.now e _ (rw (c.side_bits.ensures, c.side_bits-2.ensures) at c.show_rows.ensures) }
+
+pub show_rows-requires : goal.show_rows-requires
+show_rows-requires c =
+    let a = c.args in
+    let e = accepted-After-show_rows-arg-1 c in
+    record {
+      words_sized = rw (c.side_bits.ensures, c.side_bits-2.ensures) (sized a.width a.height a.words.now a.out.now e);
+      out_len = rw (c.side_bits.ensures, c.side_bits-2.ensures) (room a.width a.height a.words.now a.out.now e);
+    }
