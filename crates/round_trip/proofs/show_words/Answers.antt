@@ -1,0 +1,1 @@
+use Rattle.round_trip.proofs.show_words.Goals as goal
