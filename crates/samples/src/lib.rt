@@ -1,3 +1,2 @@
 // Definitions and a theorem only: see specs/ and proofs/.
 #![tactic(auto)]
-
