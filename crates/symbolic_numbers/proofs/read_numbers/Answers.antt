@@ -1,0 +1,1 @@
+use Rattle.symbolic_numbers.proofs.read_numbers.Goals as goal
