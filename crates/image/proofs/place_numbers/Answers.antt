@@ -1,0 +1,25 @@
+use mathlib.Core.Path.{◌∙◌}
+use Prim.Native.Nat.{◌-◌}
+use native.Mathlib.Omega.{arith}
+use Rattle.interpolation.specs.declared.Kind.TheVariants.{Unorm16}
+use Rattle.interpolation.specs.Expansion.{shown_of}
+use Rattle.image_layout.proofs.Parts.{run_fits, placing_none, placing_more, placing_all}
+use Rattle.image.proofs.place_numbers.Goals as goal
+
+pub loop-dy-init : goal.loop-dy-init
+loop-dy-init c = placing_none _ _ _ _ _
+
+pub run_of-requires : goal.run_of-requires
+run_of-requires c = let p = c.requires in record { sound_grid = p.sound_grid; part_fits = p.part_fits; dy_lt_rows = c.loop-dy-test.true }
+
+pub copy_numbers-requires : goal.copy_numbers-requires
+copy_numbers-requires c = let t = c.before.before in let p = t.requires in run_fits _ _ _ _ _ p.sound_grid p.part_fits t.loop-dy-test.true c.run_of.ensures (t.loop-dy.invariant.same ∙ p.out_len)
+
+pub loop-dy-preserved : goal.loop-dy-preserved
+loop-dy-preserved c = let k = c.before.before in let t = k.before.before.before in placing_more (shown_of Unorm16) _ _ _ _ _ t.requires.part_fits t.loop-dy-test.true k.run_of.ensures k.copy_numbers.auto.out t.loop-dy.invariant k.copy_numbers.ensures
+
+pub shape_of-out : goal.shape_of-out
+shape_of-out c = c.loop-dy.invariant.same
+
+pub returns : goal.returns
+returns c = placing_all (shown_of Unorm16) _ _ _ _ (omega arith) c.loop-dy.invariant
