@@ -51,8 +51,8 @@ module _ (f : ℕ → ℕ) where
   pub least_within : (n : ℕ) → least_at f n ≤ n
   least_within n = (found n).within
 
-  pub least_at : (n v : ℕ) → v ≤ n → f (least_at f n) ≤ f v
-  least_at n = (found n).least
+  pub least_at_lem : (n v : ℕ) → v ≤ n → f (least_at f n) ≤ f v
+  least_at_lem n = (found n).least
 
   pub least_first : (n v : ℕ) → v ≤ n → f v ≤ f (least_at f n) → least_at f n ≤ v
   least_first n = (found n).first

@@ -25,7 +25,7 @@ use Rattle.grey_caption.specs.Caption.{footprint, most, settings, sheet_with, bl
 use Rattle.grey_caption.specs.Best.{Weights, shown_by, sum_of, difference_of, GreysShown, Best, block_bit, Local, Placed}
 use Rattle.grey_caption.proofs.Sheets.{sized, weight_at_lem, weight_past, accepted}
 use Rattle.grey_caption.proofs.Picture as picture
-use Rattle.grey_caption.proofs.Choice.{least_within, least_at, least_first, sum_ext, sum_le, sum_same}
+use Rattle.grey_caption.proofs.Choice.{least_within, least_at_lem, least_first, sum_ext, sum_le, sum_same}
 use Rattle.grey_caption.proofs.Bits.{low_bit, high_bit, past_bit, number_is}
 
 -- a bit of the stream that is not weight i's
@@ -96,7 +96,7 @@ module _ (e0 e1 : ℕ) (h0 : e0 ≤ 255) (h1 : e1 ≤ 255) where
     -- at each place
     here : (i v : ℕ) → v ≤ most → squared (grey_of e0 e1 (weight_for e0 e1 wanted i)) (get_or wanted i 0) ≤ squared (grey_of e0 e1 v) (get_or wanted i 0)
     unfolding weight_for best_weight
-    here i v m = least_at (λ w. squared (grey_of e0 e1 w) (get_or wanted i 0)) most v m
+    here i v m = least_at_lem (λ w. squared (grey_of e0 e1 w) (get_or wanted i 0)) most v m
 
     here_first : (i v : ℕ) → v ≤ most → squared (grey_of e0 e1 v) (get_or wanted i 0) ≤ squared (grey_of e0 e1 (weight_for e0 e1 wanted i)) (get_or wanted i 0)
         → weight_for e0 e1 wanted i ≤ v

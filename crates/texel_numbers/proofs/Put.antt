@@ -31,9 +31,9 @@ four_put (x ∷ y ∷ z ∷ []) r g b a e = absurd (omega (arith, e))
 four_put (x ∷ y ∷ z ∷ w ∷ []) r g b a e = refl
 four_put (x ∷ y ∷ z ∷ w ∷ v ∷ l) r g b a e = absurd (omega (arith, e))
 
-pub put_four : (a : Asked) (l : List ℕ) → length l ≡ 4 → put_four l 0 a.texel.r a.texel.g a.texel.b a.texel.a ≡ texel_out a l
+pub put_four_lem : (a : Asked) (l : List ℕ) → length l ≡ 4 → put_four l 0 a.texel.r a.texel.g a.texel.b a.texel.a ≡ texel_out a l
 unfolding texel_out
-put_four a l e = four_put l _ _ _ _ e ∙ rw (eq-eqb (length l) 4 e)
+put_four_lem a l e = four_put l _ _ _ _ e ∙ rw (eq-eqb (length l) 4 e)
 
 pub put_none : (a : Asked) (l : List ℕ) → (length l ≡ 4 → ⊥) → l ≡ texel_out a l
 unfolding texel_out

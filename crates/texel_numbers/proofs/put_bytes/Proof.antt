@@ -1,6 +1,6 @@
 use native.Mathlib.Omega.{arith}
 use lib.ListN.{length-set}
-use Rattle.texel_numbers.proofs.Put.{put_four, put_none}
+use Rattle.texel_numbers.proofs.Put.{put_four_lem, put_none}
 use borrow.Author.Rules.{rules}
 use Rattle.texel_numbers.proofs.put_bytes.Statement.{statement}
 use Rattle.texel_numbers.proofs.put_bytes.Tie as tie
@@ -18,5 +18,5 @@ put_bytes_spec =
     (λ c. simp length-set (omega arith))
     (λ c. simp length-set (omega arith))
     (λ c. search rules)
-    (λ c. put_four _ _ c.if1.true)
+    (λ c. put_four_lem _ _ c.if1.true)
     (λ c. put_none _ _ c.if1.false))

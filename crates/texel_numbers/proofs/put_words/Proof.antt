@@ -1,4 +1,4 @@
-use Rattle.texel_numbers.proofs.Put.{put_four, put_none}
+use Rattle.texel_numbers.proofs.Put.{put_four_lem, put_none}
 use borrow.Author.Rules.{rules}
 use Rattle.texel_numbers.proofs.put_words.Statement.{statement}
 use Rattle.texel_numbers.proofs.put_words.Tie as tie
@@ -12,5 +12,5 @@ put_words_spec =
     (λ c. search rules)
     (λ c. search rules)
     (λ c. search rules)
-    (λ c. put_four _ _ c.if1.true)
+    (λ c. put_four_lem _ _ c.if1.true)
     (λ c. put_none _ _ c.if1.false))
