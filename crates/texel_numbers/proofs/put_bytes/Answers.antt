@@ -1,0 +1,16 @@
+use native.Mathlib.Omega.{arith}
+use lib.ListN.{length-set}
+use Rattle.texel_numbers.proofs.Put.{put_four_lem, put_none}
+use Rattle.texel_numbers.proofs.put_bytes.Goals as goal
+
+pub bounds-out-2 : goal.bounds-out-2
+bounds-out-2 c = simp length-set (omega arith)
+
+pub bounds-out-3 : goal.bounds-out-3
+bounds-out-3 c = simp length-set (omega arith)
+
+pub returns-then-out-eq4 : goal.returns-then-out-eq4
+returns-then-out-eq4 c = put_four_lem _ _ c.if-out-eq4.true
+
+pub returns-else-out-eq4 : goal.returns-else-out-eq4
+returns-else-out-eq4 c = put_none _ _ c.if-out-eq4.false

@@ -1,0 +1,1 @@
+use Rattle.texel_numbers.proofs.texel_words.Goals as goal
