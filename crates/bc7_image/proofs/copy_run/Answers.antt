@@ -1,14 +1,12 @@
-use mathlib.Core.Path.{◌≡◌, refl, sym, ap, ◌∙◌, subst}
+use mathlib.Core.Path.{◌≡◌, ap, ◌∙◌}
 use mathlib.Core.List.{List}
-use Prim.Native.Nat.{ℕ, ◌+◌, ◌≤◌}
+use Prim.Native.Nat.{ℕ, ◌+◌}
 use native.Mathlib.Omega.{arith}
-use lib.ListN.{length, get_or}
+use lib.ListN.{get_or}
 use Rattle.laws.specs.Table.{tab}
 use Rattle.laws.proofs.Filling.{get_or_tab}
 use Rattle.picture_regions.specs.inner.Regions.{Pasted}
-use borrow.Author.Rules.{rules}
-use Rattle.bc7_image.proofs.copy_run.Statement.{statement}
-use Rattle.bc7_image.proofs.copy_run.Tie as tie
+use Rattle.bc7_image.proofs.copy_run.Goals as goal
 
 -- a row that was read and put is a run of sixteen bytes
 row_run : (src : List ℕ) (from n : ℕ) (old : List ℕ) (at : ℕ) (new row : List ℕ) → n ≡ 16 → row ≡ tab (λ k. get_or src (from + k) 0) 16
@@ -20,19 +18,10 @@ row_run src from n old at new row e r p = record {
   outside = λ k f. p.outside k (λ a b. f a (omega arith));
 }
 
-returns : tie.Need-returns
-returns c =
-    let q = c.before.before in
-    row_run _ _ _ _ _ _ _ q.before.before.before.if1.true q.before.before.row_from.ensures q.put-row.ensures
+pub returns-then-n-eq16 : goal.returns-then-n-eq16
+returns-then-n-eq16 c =
+    let q = c in
+    row_run _ _ _ _ _ _ _ q.if-n-eq16.true q.row_from.ensures q.put_row.ensures
 
-pub copy_run_spec : {M : Type 1} → statement M
-copy_run_spec =
-    tie.close
-    (tie.spec
-    (λ c κs. omega arith)
-    (λ c κs. omega arith)
-    (λ c κs. search rules)
-    (λ c. search rules)
-    returns
-    (λ c. search rules)
-    (λ c. c.before.before.copy_some.ensures))
+pub returns-else-n-eq16 : goal.returns-else-n-eq16
+returns-else-n-eq16 c = c.copy_some.ensures
