@@ -25,7 +25,10 @@ returns c = let p = c.before.before.before in
     let e = w.if-block-ne16.false in
     let l = w.if-numbers-ne107.false in
     let s = block_from a.numbers.now in
-    let done : w.writing_of-writing.result ≡ writing_of a.footprint s = w.writing_of-writing.ensures in record { value = c.number_told.ensures ∙ ap (λ (x : Writing). number_told x.answer) done ∙ write_told a.footprint a.numbers.now a.block.now e l; block_after = p.put_block-2.ensures
+    let done : w.writing_of-writing.result ≡ writing_of a.footprint s = w.writing_of-writing.ensures in record {
+      value = c.number_told.ensures ∙ ap (λ (x : Writing). number_told x.answer) done ∙ write_told a.footprint a.numbers.now a.block.now e l;
+      block_after = p.put_block-2.ensures
           ∙ ap (λ (x : Writing). tab (λ k. get_or x.bytes k 0) 16) done
           ∙ whole_block_lem a.footprint s
-          ∙ block_written a.footprint a.numbers.now a.block.now e l }
+          ∙ block_written a.footprint a.numbers.now a.block.now e l;
+    }

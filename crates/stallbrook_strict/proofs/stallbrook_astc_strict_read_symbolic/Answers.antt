@@ -1,0 +1,1 @@
+use Rattle.stallbrook_strict.proofs.stallbrook_astc_strict_read_symbolic.Goals as goal
