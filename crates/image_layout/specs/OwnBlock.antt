@@ -1,6 +1,6 @@
 -- Demand 2's last sentence: "a texel depends on its own block's sixteen bytes, the footprint, the kind and its place, on nothing else".
 -- 02, b: so in each reading.
--- Theorem: proofs/Independence.antt, `own_Block` (`OwnBlockEverywhere`).
+-- Theorem: proofs/Independence.antt, `own_block` (`OwnBlockEverywhere`).
 -- Assumes nothing.
 use Rattle.std.specs.Prelude.{◌≡◌, ℕ, ◌+◌, ◌*◌, ◌%◌, ◌<◌, List, length, get_or}
 use Rattle.footprint.specs.Footprint.{width_of, height_of, texels_of}
