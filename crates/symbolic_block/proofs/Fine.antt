@@ -1,5 +1,6 @@
 -- What an acceptable mode sheet is.
 -- Assumes nothing.
+use Rattle.std.specs.Prelude.{None, Option, Some}
 use mathlib.Core.Path.{◌≡◌, refl, subst}
 use mathlib.Core.Bool.{Bool, true, false, not}
 use Prim.Native.Nat.{ℕ, ◌+◌, ◌*◌, ◌/◌, ◌≤◌}
@@ -8,8 +9,6 @@ use lib.Dec.{T, ltb, eqb}
 use borrow.Author.Tests.{ltb-false, lt-ltb}
 use Rattle.laws.specs.Choice.{pick, both}
 use Rattle.quantization.specs.Ranges.{most_at}
-use Rattle.block_mode.specs.declared.FoundMode.{FoundMode}
-use Rattle.block_mode.specs.declared.FoundMode.TheVariants.{Mode, NoMode}
 use Rattle.block_mode.specs.Back2D.{Limits}
 use Rattle.footprint.specs.Footprint.{is_volume}
 use Rattle.volume_mode.specs.Either.{is_deep, block_mode_of}
@@ -39,7 +38,7 @@ pub record Fine (fp : ℕ) (s : SymbolicBlock) : Type 0 where
   pub modes_in : T (within 4 s.partitions 15 (mode_in s))
   pub colours_0 : T (within 4 0 0 (colour_in s))
   pub extents_0 : T (within 6 0 0 (extent_in s))
-  pub found : block_mode_of (sheet_grid s) ≡ Mode (mode_number (block_mode_of (sheet_grid s)))
+  pub found : block_mode_of (sheet_grid s) ≡ Some (mode_number (block_mode_of (sheet_grid s)))
   pub count_most : weight_count (sheet_grid s) ≤ 64
   pub bits_most : weight_bits (sheet_grid s) ≤ 96
   pub selected : modes_misfit (header_of s) ≡ false
@@ -48,9 +47,9 @@ pub record Fine (fp : ℕ) (s : SymbolicBlock) : Type 0 where
   pub endpoints_in : T (within 18 (endpoint_count (header_of s)) (most_at (endpoint_range_of (header_of s))) (endpoint_in s))
   pub weights_in : T (within 64 (weight_count (sheet_grid s)) (most_at s.range) (weight_in s))
 
-a_mode : (x : FoundMode) → is_no_mode x ≡ false → x ≡ Mode (mode_number x)
-a_mode (Mode m) e = refl
-a_mode NoMode e = let z : ◌≡◌ {A = Bool} true false = e in absurd (subst T z tt)
+a_mode : (x : Option ℕ) → is_no_mode x ≡ false → x ≡ Some (mode_number x)
+a_mode (Some m) e = refl
+a_mode None e = let z : ◌≡◌ {A = Bool} true false = e in absurd (subst T z tt)
 
 -- where neither 20 nor 35 holds, the HDR mark is set exactly when some partition's mode is HDR
 same_mark : (m h : Bool) → both (not m) h ≡ false → both m (not h) ≡ false → m ≡ h

@@ -12,7 +12,7 @@ ghost use Rattle.symbolic_block.specs.Refusals.{unknown_footprint, outside, with
 ghost use Rattle.symbolic_refusal.specs.inner.Stages.{or_else, bad_grid, bad_partitioning, bad_lists, bad_fields, bad_shown, grid_in_use, partitioning_in_use, numbers_in_use, bad_void_fields, field_reasons, number_reasons};
 
 use block_header::BlockHeader;
-use block_mode::{FoundMode, WeightGrid};
+use block_mode::WeightGrid;
 use encoding::Stored;
 use symbolic_block::SymbolicBlock;
 
@@ -241,11 +241,7 @@ fn header_of(s: SymbolicBlock) -> BlockHeader
 fn no_block_mode(g: WeightGrid) -> bool
     ensures { result ≡ no_block_mode g }
 {
-    let bits = volume_mode::block_mode_of(g);
-    match bits {
-        FoundMode::Mode(_) => false,
-        FoundMode::NoMode => true,
-    }
+    volume_mode::block_mode_of(g).is_none()
 }
 
 // 1, 31 and 32

@@ -18,7 +18,7 @@ ghost use Rattle.symbolic_writer.specs.inner.Piled.{with_value, piled, extent_ce
 
 use bits::PhysicalBlock;
 use block_header::BlockHeader;
-use block_mode::{FoundMode, WeightGrid};
+use block_mode::WeightGrid;
 use encoding::Stored;
 use symbolic_block::SymbolicBlock;
 
@@ -72,11 +72,7 @@ fn header_of(s: SymbolicBlock) -> BlockHeader
 fn mode_number(g: WeightGrid) -> u64
     ensures { result ≡ mode_number (block_mode_of g) }
 {
-    let m = volume_mode::block_mode_of(g);
-    match m {
-        FoundMode::Mode(bits) => wide16(bits),
-        FoundMode::NoMode => 0,
-    }
+    volume_mode::block_mode_of(g).map_or(0, wide16)
 }
 
 fn power(i: u32) -> u64
