@@ -51,3 +51,8 @@ fault_told (Some fault) = fault_number fault
 abbrev pub refusal_told : {A : Type 0} → Result A Refusal → ℕ
 refusal_told (Ok x) = 0
 refusal_told (Err refusal) = refusal_number refusal
+
+-- the fault of a block that is read, 0 where it has none
+abbrev pub fault_in : {A : Type 0} → Result A Fault → ℕ
+fault_in (Ok x) = 0
+fault_in (Err fault) = fault_number fault

@@ -2,6 +2,7 @@
 #![tactic(auto)]
 
 ghost use Rattle.std.specs.Prelude.{◌≡◌};
+ghost use Rattle.reason.specs.declared.Refusal.TheVariants.{Faulty};
 ghost use Rattle.reason.specs.Numbers.{fault_number, refusal_number, fault_told, refusal_told};
 
 // What is wrong with an ASTC block. The first that holds is told.
@@ -95,6 +96,14 @@ impl From<Fault> for u8 {
             Fault::HdrEndpoints => 20,
             Fault::NotCanonical => 21,
         }
+    }
+}
+
+impl From<Fault> for Refusal {
+    ghost from_gives = { λ f r. r ≡ Faulty f };
+
+    fn from(fault: Fault) -> Refusal {
+        Refusal::Faulty(fault)
     }
 }
 
