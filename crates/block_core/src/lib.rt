@@ -20,7 +20,7 @@ ghost use Rattle.weight_grid.specs.inner.Pairs.{OnePlane};
 
 use bits::PhysicalBlock;
 use block_buffer::{place, put};
-use block_fault::{Settings, Verdict};
+use block_fault::{Contents, Settings};
 use block_mode::WeightGrid;
 use encoding::LevelPair;
 use interpolation::{Kind, Texel};
@@ -321,18 +321,16 @@ fn decode_halves(
     ensures { Shows (fault_of (takes_hdr kind) fp (block_number (halves lo hi))) (block_into fp kind (block_number (halves lo hi))) fp result out.old out.new }
 {
     let block = PhysicalBlock { lo, hi };
-    let s = block_fault::read_settings(interpolation::takes_hdr(kind), volume, block, fp);
-    let v = s.verdict;
-    match v {
-        Verdict::Fault(fault) => {
-            let texel = error_texel(kind);
-            Decoded::Uniform(UniformBlock { texel, fault })
-        }
-        Verdict::VoidExtent => {
-            let texel = block_levels::colours(kind, block);
-            Decoded::Uniform(UniformBlock { texel, fault: 0 })
-        }
-        Verdict::Coded => {
+    match block_fault::read_settings(interpolation::takes_hdr(kind), volume, block, fp) {
+        Err(fault) => Decoded::Uniform(UniformBlock {
+            texel: error_texel(kind),
+            fault: fault.into(),
+        }),
+        Ok(Contents::VoidExtent) => Decoded::Uniform(UniformBlock {
+            texel: block_levels::colours(kind, block),
+            fault: 0,
+        }),
+        Ok(Contents::Coded(s)) => {
             paint_coded(block, s, fp, volume, kind, out);
             Decoded::Buffered
         }

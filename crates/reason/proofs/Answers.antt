@@ -4,9 +4,10 @@ use mathlib.Core.Path.{◌≡◌, sym, ap, ◌∙◌, subst}
 use Prim.Native.Nat.{ℕ}
 use Rattle.std.specs.Prelude.{Result, Ok, Err, IsErrAnd}
 use Rattle.reason.specs.declared.Fault.{Fault}
-use Rattle.reason.specs.Numbers.{fault_number, fault_in}
+use Rattle.reason.specs.declared.Refusal.{Refusal}
+use Rattle.reason.specs.Numbers.{fault_number, fault_in, refusal_number, refusal_told}
 use Rattle.reason.specs.Answers.{Reads}
-use Rattle.reason.proofs.Numbers.{some_fault}
+use Rattle.reason.proofs.Numbers.{some_fault, some_refusal}
 
 -- what a step answers that does not pass, handed on: its fault is told, which is not 0
 pub handed_on : {A B : Type 0} {n m : ℕ} {e : Fault} {r : Result B Fault} (x : A) (q : Result A Fault) → IsErrAnd q (λ f. f ≡ e) → r ≡ Err e → fault_in r ≡ n
@@ -21,3 +22,13 @@ passed w s = ap fault_in (sym w) ∙ s
 -- what is read of a block without fault
 pub read_is : {A : Type 0} {n : ℕ} {x y : A} {r : Result A Fault} → r ≡ Ok y → Reads n x r → (n ≡ 0) × (y ≡ x)
 read_is {n = n} {x = x} w s = subst (Reads n x) w s
+
+pub fault_is : {A : Type 0} {n : ℕ} {e : Fault} {r : Result A Fault} (x : A) → r ≡ Err e → Reads n x r → (n ≡ fault_number e) × (n ≡ 0 → ⊥)
+fault_is {n = n} {e = e} x w s = let q : fault_number e ≡ n = subst (Reads n x) w s in (sym q, λ z. some_fault e (q ∙ z))
+
+-- a step that refuses, and one that passes
+pub refused_is : {A : Type 0} {n : ℕ} {e : Refusal} {r : Result A Refusal} → r ≡ Err e → refusal_told r ≡ n → (n ≡ refusal_number e) × (n ≡ 0 → ⊥)
+refused_is {e = e} w s = let q = sym s ∙ ap refusal_told w in (q, λ z. some_refusal e (sym q ∙ z))
+
+pub accepted : {A : Type 0} {n : ℕ} {y : A} {r : Result A Refusal} → r ≡ Ok y → refusal_told r ≡ n → 0 ≡ n
+accepted w s = ap refusal_told (sym w) ∙ s

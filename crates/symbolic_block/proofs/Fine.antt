@@ -18,7 +18,8 @@ use Rattle.symbolic_block.specs.declared.SymbolicBlock.{SymbolicBlock}
 use Rattle.symbolic_block.specs.Fields.{sheet_grid, header_of, is_marked, colour_in, extent_in, mode_in, endpoint_in, weight_in}
 use Rattle.symbolic_block.specs.Refusals.{within, outside, is_no_mode, unknown_footprint, bad_mark, bad_hdr, bad_width, bad_height, bad_grid_depth, bad_range, bad_planes, bad_component, bad_partitions, bad_index, bad_selector, bad_modes, some_in_use, no_block_mode, modes_misfit, bad_endpoints, bad_weights, marked_without, mode_refusals}
 use Rattle.symbolic_block.specs.Writing.{mode_number}
-use Rattle.laws.proofs.Reasons.{None, none_at, either_none}
+use Rattle.laws.proofs.Reasons as reasons
+use Rattle.laws.proofs.Reasons.{none_at, either_none}
 use Rattle.laws.specs.Reasons.{reason_at}
 use Rattle.symbolic_block.proofs.Lists.{not_not}
 
@@ -77,7 +78,7 @@ depth_in false d e =
 abbrev Not : ℕ → SymbolicBlock → ℕ → Type 0
 Not fp s i = (reason_at (mode_refusals fp s) i).holds ≡ false
 
-pub fine : (fp : ℕ) (s : SymbolicBlock) → (s.mark ≡ 1 → ⊥) → None (mode_refusals fp s) → Fine fp s
+pub fine : (fp : ℕ) (s : SymbolicBlock) → (s.mark ≡ 1 → ⊥) → reasons.None (mode_refusals fp s) → Fine fp s
 unfolding mode_refusals is_deep unknown_footprint bad_mark bad_hdr bad_width bad_height bad_grid_depth bad_range bad_planes bad_component bad_partitions bad_index bad_selector bad_modes some_in_use no_block_mode bad_endpoints bad_weights too_many_weights weight_bits_outside too_many_endpoints too_few_endpoint_bits hdr_refused marked_without
 fine fp s m n =
     let at = none_at (mode_refusals fp s) n in
