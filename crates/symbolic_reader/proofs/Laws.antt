@@ -1,9 +1,9 @@
 -- What the stages of the reader come to, and the numbers that it reads.
 -- Assumes nothing.
-use mathlib.Core.Path.{◌≡◌, refl, sym, ap, ◌∙◌, subst}
+use mathlib.Core.Path.{◌≡◌, refl, sym, ap, ◌∙◌}
 use mathlib.Core.Bool.{Bool, true, false, not}
 use mathlib.Core.List.{List}
-use Prim.Native.Nat.{ℕ, ◌*◌, ◌≤◌, ◌<◌}
+use Prim.Native.Nat.{ℕ, ◌≤◌, ◌<◌}
 use native.Mathlib.Omega.{arith}
 use lib.Dec.{eqb, ltb}
 use lib.ListN.{length, get_or}
@@ -12,7 +12,6 @@ use Rattle.laws.specs.Choice.{pick}
 use Rattle.laws.specs.Table.{tab, padded, Bytes}
 use Rattle.laws.proofs.Filling.{tab_ext, padded_at}
 use Rattle.encoding.specs.declared.Encoding.{Encoding}
-use Rattle.encoding.specs.declared.Stored.{Stored}
 use Rattle.integer_sequence.specs.Reading.{number, numbers, stored}
 use Rattle.bits.specs.Field.{field}
 use Rattle.bits.specs.Block.{number_of}
@@ -21,7 +20,7 @@ use Rattle.block_fault.specs.Bits.{mode_at, is_void, header_at, endpoint_at, wei
 use Rattle.footprint.specs.Footprint.{is_volume}
 use Rattle.void_extent.specs.Layout.{colour_at, extent_at}
 use Rattle.block_fault.specs.Faults.{fault_of}
-use Rattle.block_answer.specs.declared.Answer.TheVariants.{Refused, Faulty, Done}
+use Rattle.block_answer.specs.declared.Answer.TheVariants.{Refused, Faulty}
 use Rattle.block_answer.specs.Told.{number_told}
 use Rattle.symbolic_block.specs.Reading.{mode_block, void_block, read_block}
 use Rattle.symbolic_block.proofs.Opened.{read_void, read_mode}

@@ -7,7 +7,6 @@ use Rattle.block_fault.specs.declared.Settings.{Settings}
 use Rattle.block_fault.proofs.Sound.{coded_counts, coded_limits, void_read, coded_read}
 use Rattle.block_core.proofs.Shows.{shows_fault, shows_void, shows_coded, flat_grid_lem}
 use Rattle.one_texel.proofs.Coded.{some_partition, answered}
-use borrow.Author.Rules.{rules}
 use Rattle.one_texel.proofs.texel_of.Goals as goal
 
 pub read_settings-requires : goal.read_settings-requires

@@ -1,8 +1,6 @@
-use mathlib.Core.Path.{refl}
 use Prim.Native.Nat.{◌-◌, ◌≤◌}
-use native.Mathlib.Omega.{arith}
 use lib.ListN.{get_or}
-use Rattle.laws.proofs.Filling.{Filling, filling_start, filling_more, filling_done}
+use Rattle.laws.proofs.Filling.{Filling}
 use Rattle.integer_sequence.specs.Reading.{stored}
 use Rattle.symbolic_reader.proofs.first_18.Given as goal
 
