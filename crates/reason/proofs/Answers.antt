@@ -5,6 +5,7 @@ use Prim.Native.Nat.{ℕ}
 use Rattle.std.specs.Prelude.{Result, Ok, Err, IsErrAnd}
 use Rattle.reason.specs.declared.Fault.{Fault}
 use Rattle.reason.specs.declared.Refusal.{Refusal}
+use Rattle.reason.specs.declared.Refusal.TheVariants.{Faulty}
 use Rattle.reason.specs.Numbers.{fault_number, fault_in, refusal_number, refusal_told}
 use Rattle.reason.specs.Answers.{Reads}
 use Rattle.reason.proofs.Numbers.{some_fault, some_refusal}
@@ -32,3 +33,15 @@ refused_is {e = e} w s = let q = sym s ∙ ap refusal_told w in (q, λ z. some_r
 
 pub accepted : {A : Type 0} {n : ℕ} {y : A} {r : Result A Refusal} → r ≡ Ok y → refusal_told r ≡ n → 0 ≡ n
 accepted w s = ap refusal_told (sym w) ∙ s
+
+-- a refusal, or a fault as a refusal, handed on by `?`
+pub refused_on : {A B : Type 0} {n m : ℕ} {e : Refusal} {r : Result B Refusal} (q : Result A Refusal) → IsErrAnd q (λ f. f ≡ e) → r ≡ Err e → refusal_told r ≡ n
+    → ((n ≡ 0 → ⊥) → n ≡ m) → refusal_told q ≡ m
+refused_on (Ok y) i w s told = absurd i
+refused_on {e = e} (Err f) i w s told = let k = refused_is w s in ap refusal_number i ∙ sym k.0 ∙ told k.1
+
+pub faulty_on : {A B : Type 0} {n m : ℕ} {e : Fault} {r : Result B Fault} (q : Result A Refusal) → IsErrAnd q (λ f. f ≡ Faulty e) → r ≡ Err e → fault_in r ≡ n
+    → ((n ≡ 0 → ⊥) → n ≡ m) → refusal_told q ≡ m
+faulty_on (Ok y) i w s told = absurd i
+faulty_on {e = e} (Err f) i w s told =
+    let k = ap fault_in (sym w) ∙ s in ap refusal_number i ∙ k ∙ told (λ z. some_fault e (k ∙ z))

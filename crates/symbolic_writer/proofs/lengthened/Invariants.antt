@@ -1,9 +1,7 @@
-use native.Mathlib.Omega.{arith}
-use mathlib.Core.Path.{◌≡◌, refl, sym, ap, ◌∙◌}
-use Prim.Native.Nat.{ℕ, ◌-◌, ◌≤◌}
+use mathlib.Core.Path.{◌≡◌}
+use Prim.Native.Nat.{◌-◌, ◌≤◌}
 use lib.ListN.{get_or}
 use Rattle.laws.specs.Table.{padded}
-use Rattle.laws.proofs.Filling.{padded_none, padded_more}
 use Rattle.integer_sequence.specs.Reading.{stored}
 use Rattle.symbolic_writer.proofs.lengthened.Given as goal
 

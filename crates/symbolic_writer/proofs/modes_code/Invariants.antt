@@ -1,12 +1,8 @@
-use mathlib.Core.Path.{◌≡◌, refl, ap, ap₂, ◌∙◌}
-use Prim.Native.Nat.{ℕ, ◌+◌, ◌-◌, ◌*◌, ◌%◌, ◌≤◌}
+use mathlib.Core.Path.{◌≡◌}
+use Prim.Native.Nat.{◌-◌, ◌*◌, ◌%◌, ◌≤◌}
 use lib.ListN.{get_or}
-use native.Mathlib.Omega.{arith}
-use native.Mathlib.Nat.{mul-le-mul}
-use native.Mathlib.Numerals.{add-one}
-use borrow.Author.Tests.{eq-eqb, ne_eqb}
 use Rattle.bits.specs.Field.{stream}
-use Rattle.symbolic_block.specs.Writing.{class_bit, modes_code}
+use Rattle.symbolic_block.specs.Writing.{class_bit}
 use Rattle.symbolic_writer.proofs.modes_code.Given as goal
 
 abbrev pub invariant-loop-i : goal.invariant-loop-i
