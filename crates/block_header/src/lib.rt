@@ -152,16 +152,17 @@ pub fn grid_stage(fp: u8, g: WeightGrid, weights: u64) -> Result<(), Fault>
     let large = wide | (high | deep);
     let many = 64 < weight_count(g);
     let outside = (weights < 24) | (96 < weights);
-    if large {
-        return Err(Fault::GridTooLarge);
+    if !(large | (many | outside)) {
+        return Ok(());
     }
-    if many {
-        return Err(Fault::TooManyWeights);
-    }
-    if outside {
-        return Err(Fault::WeightBits);
-    }
-    Ok(())
+    // of a faulty block by values: a branch at its bits would be guessed
+    Err(if large {
+        Fault::GridTooLarge
+    } else if many {
+        Fault::TooManyWeights
+    } else {
+        Fault::WeightBits
+    })
 }
 
 // The first of 14 to 16 that holds.
