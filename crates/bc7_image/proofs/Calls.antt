@@ -1,9 +1,8 @@
 -- The refusals of a picture call, and the answer and the buffer in each case.
 -- Assumes nothing.
-use mathlib.Core.Path.{◌≡◌, refl, ap, ◌∙◌}
+use mathlib.Core.Path.{◌≡◌, refl, ap}
 use mathlib.Core.List.{List}
 use Prim.Native.Nat.{ℕ, ◌*◌}
-use native.Mathlib.Decide.{ℕ_discrete}
 use lib.ListN.{length}
 use borrow.Author.Tests.{ne_eqb}
 use Rattle.image_size.specs.Sides.{blocks_of}

@@ -26,10 +26,8 @@ fn row_from(src: &[u8; 64], from: usize) -> [u8; 16]
     ensures { result ≡ tab (λ k. get_or src.now (from + k) 0) 16 }
 {
     let mut row = [0u8; 16];
-    let mut i: usize = 0;
-    while i < 16 {
+    for i in 0..16usize {
         row[i] = src[from + i];
-        i += 1;
     }
     row
 }
