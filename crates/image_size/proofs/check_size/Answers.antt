@@ -1,8 +1,7 @@
 use mathlib.Core.Path.{sym, ◌∙◌}
-use borrow.Author.Rules.{rules}
 use borrow.Author.Tests.{lt-ltb, le-ltb}
 use Rattle.image_size.specs.Sides.{size_refusal}
-use Rattle.image_size.proofs.size_refusal.Goals as goal
+use Rattle.image_size.proofs.check_size.Goals as goal
 
 pub returns-then-footprint-gt13 : goal.returns-then-footprint-gt13
 unfolding size_refusal
