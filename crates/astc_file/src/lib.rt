@@ -1,4 +1,4 @@
-// .astc files (02, a): a whole file to the texels of its image, in each kind.
+// .astc files: a whole file to the texels of its image, in each kind.
 #![tactic(auto)]
 
 ghost use Rattle.std.specs.Prelude.{◌≡◌, length};
@@ -7,7 +7,6 @@ ghost use Rattle.one_block.specs.Calls.{Words};
 ghost use Rattle.image_layout.specs.Call.{told_of};
 ghost use Rattle.astc_file.specs.File.{file_answer, file_told, file_out};
 
-use astc_header::HeaderAnswer;
 use image_layout::ImageAnswer;
 use interpolation::Kind;
 
@@ -18,10 +17,9 @@ pub fn decode_file_words(kind: Kind, file: &[u8], out: &mut [u16]) -> ImageAnswe
     ensures told { told_of result ≡ file_told kind file.now (length out.old) }
     ensures image { out.new ≡ file_out kind file.now out.old }
 {
-    let answer = astc_header::read_header(file);
-    match answer {
-        HeaderAnswer::Refused(e) => ImageAnswer::Refused(e),
-        HeaderAnswer::Accepted(h) => {
+    match astc_header::read_header(file) {
+        Err(refusal) => ImageAnswer::Refused(refusal.into()),
+        Ok(h) => {
             image::decode_image_words(kind, h.footprint, h.width, h.height, &file[16..], out)
         }
     }
@@ -51,10 +49,9 @@ pub fn decode_file_srgb8(file: &[u8], out: &mut [u8]) -> ImageAnswer
     ensures told { told_of result ≡ file_told Srgb8 file.now (length out.old) }
     ensures image { out.new ≡ file_out Srgb8 file.now out.old }
 {
-    let answer = astc_header::read_header(file);
-    match answer {
-        HeaderAnswer::Refused(e) => ImageAnswer::Refused(e),
-        HeaderAnswer::Accepted(h) => {
+    match astc_header::read_header(file) {
+        Err(refusal) => ImageAnswer::Refused(refusal.into()),
+        Ok(h) => {
             image::decode_image_srgb8(h.footprint, h.width, h.height, &file[16..], out)
         }
     }

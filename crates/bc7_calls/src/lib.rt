@@ -41,17 +41,6 @@ fn refusal(bytes: usize, places: usize) -> u8
     0
 }
 
-fn copy(from: &[u8; 64], out: &mut [u8])
-    requires { (length from.now ≡ 64) × (length out.old ≡ 64) }
-    ensures { out.new ≡ from.now }
-{
-    let mut k: usize = 0;
-    while k < 64 {
-        out[k] = from[k];
-        k += 1;
-    }
-}
-
 // The texels of a block: sixteen, rows first, each of four bytes R, G, B, A.
 pub fn decode_bc7(block: &[u8], out: &mut [u8]) -> Answer
     ensures value { result ≡ decode_answer block.now (length out.old) }
@@ -64,7 +53,7 @@ pub fn decode_bc7(block: &[u8], out: &mut [u8]) -> Answer
     }
     let mut texels = [0u8; 64];
     let fault = bc7_core::decode_into(bits::load(block), &mut texels);
-    copy(&texels, out);
+    out.copy_from_slice(&texels);
     block_answer::answer_for(fault)
 }
 

@@ -52,10 +52,8 @@ fn held_of(state: &[u32]) -> [u8; 16]
     ensures { result ≡ held_of state.now }
 {
     let mut held = [0u8; 16];
-    let mut k: usize = 0;
-    while k < 16 {
+    for k in 0..16usize {
         held[k] = low(state[10 + k]);
-        k += 1;
     }
     held
 }
@@ -139,30 +137,6 @@ fn numbers_of(c: Clip) -> [u32; 26]
         wide(h[14]),
         wide(h[15]),
     ]
-}
-
-// ---- lent lists
-
-fn put_numbers(from: [u32; 26], state: &mut [u32])
-    requires { length state.old ≡ 26 }
-    ensures { state.new ≡ from }
-{
-    let mut i: usize = 0;
-    while i < 26 {
-        state[i] = from[i];
-        i += 1;
-    }
-}
-
-fn put_told(from: [u64; 8], told: &mut [u64])
-    requires { length told.old ≡ 8 }
-    ensures { told.new ≡ from }
-{
-    let mut i: usize = 0;
-    while i < 8 {
-        told[i] = from[i];
-        i += 1;
-    }
 }
 
 // ---- what a feed tells
@@ -296,9 +270,9 @@ fn whole_block(state: &mut [u32], piece: &[u8], block: &mut [u8], told: &mut [u6
     let at = state[4];
     let f = frame_of(state);
     let next = next_numbers(index, at, state[5], f);
-    put_numbers(next, state);
+    state.copy_from_slice(&next);
     byte_list::put_block(clip_reader::first_block(piece), block);
-    put_told(block_told(16, index, at, f), told);
+    told.copy_from_slice(&block_told(16, index, at, f));
 }
 
 // ---- the calls
@@ -316,9 +290,9 @@ fn feed_state(state: &mut [u32], piece: &[u8], block: &mut [u8], told: &mut [u64
     let bytes = fed.block;
     let event = fed.event;
     let f = c.frame;
-    put_numbers(numbers_of(c), state);
+    state.copy_from_slice(&numbers_of(c));
     byte_list::put_block(bytes, block);
-    put_told(event_told(fed.taken, event, f), told);
+    told.copy_from_slice(&event_told(fed.taken, event, f));
     number_in(event)
 }
 
@@ -378,7 +352,7 @@ pub fn start_numbers(state: &mut [u32]) -> u8
     if state.len() != 26 {
         return 5;
     }
-    put_numbers(numbers_of(clip_reader::fresh()), state);
+    state.copy_from_slice(&numbers_of(clip_reader::fresh()));
     0
 }
 
@@ -392,6 +366,6 @@ pub fn finish_numbers(state: &mut [u32]) -> u8
     }
     let finished = clip_reader::finish(clip_of(state));
     let c = finished.clip;
-    put_numbers(numbers_of(c), state);
+    state.copy_from_slice(&numbers_of(c));
     finished.number
 }

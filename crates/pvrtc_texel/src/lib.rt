@@ -8,12 +8,10 @@ ghost use Rattle.pvrtc_texel.specs.Image.{side_bits, bad_pvrtc_side, words_in, i
 pub fn side_bits(side: u32) -> u32
     ensures { result ≡ side_bits side }
 {
-    let mut k: u32 = 0;
-    while k < 11 {
+    for k in 0..11u32 {
         if side == 4 << k {
             return k;
         }
-        k += 1;
     }
     11
 }

@@ -8,7 +8,14 @@ use Rattle.reason.specs.declared.Refusal.{Refusal}
 use Rattle.reason.specs.declared.Refusal.TheVariants.{Faulty}
 use Rattle.reason.specs.Numbers.{fault_number, fault_in, refusal_number, refusal_told}
 use Rattle.reason.specs.Answers.{Reads}
-use Rattle.reason.proofs.Numbers.{some_fault, some_refusal}
+use native.Mathlib.Omega.{arith}
+use Rattle.reason.proofs.Told.{fault_some, refusal_some}
+
+some_fault : (f : Fault) → fault_number f ≡ 0 → ⊥
+some_fault f e = omega (arith, fault_some f, e)
+
+some_refusal : (r : Refusal) → refusal_number r ≡ 0 → ⊥
+some_refusal r e = omega (arith, refusal_some r, e)
 
 -- what a step answers that does not pass, handed on: its fault is told, which is not 0
 pub handed_on : {A B : Type 0} {n m : ℕ} {e : Fault} {r : Result B Fault} (x : A) (q : Result A Fault) → IsErrAnd q (λ f. f ≡ e) → r ≡ Err e → fault_in r ≡ n

@@ -1,6 +1,5 @@
-use mathlib.Core.Path.{◌≡◌, refl, sym, ap, ◌∙◌}
+use mathlib.Core.Path.{sym, ◌∙◌}
 use Rattle.bc7_calls.proofs.Laws.{not_written, stored, writing_told}
-use borrow.Author.Rules.{rules}
 use Rattle.bc7_calls.proofs.write_bc7.Goals as goal
 
 pub returns-then-n-ne0 : goal.returns-then-n-ne0

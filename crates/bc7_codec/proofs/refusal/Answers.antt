@@ -1,7 +1,6 @@
-use mathlib.Core.Path.{◌≡◌, refl, sym, ap, ◌∙◌}
+use mathlib.Core.Path.{sym, ◌∙◌}
 use native.Mathlib.Omega.{arith}
 use Rattle.bc7_codec.proofs.Whole.{all_fields, refused_mode, refused_none, refused_field}
-use borrow.Author.Rules.{rules}
 use Rattle.bc7_codec.proofs.refusal.Goals as goal
 
 pub returns-then-s-gt7 : goal.returns-then-s-gt7

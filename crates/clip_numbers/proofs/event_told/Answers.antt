@@ -1,4 +1,4 @@
-use Rattle.std.proofs.Common.{◌≡◌, ◌∷◌, sym, ap, ◌∙◌, rules}
+use Rattle.std.proofs.Common.{◌∷◌, sym, ap, ◌∙◌}
 use Rattle.clip.specs.declared.Event.{Event}
 use Rattle.clip_numbers.specs.Numbers.{handed_numbers}
 use Rattle.clip_numbers.proofs.event_told.Goals as goal

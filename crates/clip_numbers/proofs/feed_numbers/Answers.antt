@@ -1,4 +1,4 @@
-use Rattle.std.proofs.Common.{◌≡◌, sym, ◌∙◌, arith, rules}
+use Rattle.std.proofs.Common.{sym, ◌∙◌, arith}
 use Rattle.clip_numbers.proofs.Lists.{lengths, refused_number, refused_state, refused_block, refused_told, fed_number, fed_state, fed_block, fed_told}
 use Rattle.clip_numbers.proofs.feed_numbers.Goals as goal
 

@@ -1,4 +1,4 @@
-use Rattle.std.proofs.Common.{rules, eq-eqb, ne_eqb}
+use Rattle.std.proofs.Common.{eq-eqb, ne_eqb}
 use Rattle.clip_numbers.specs.Numbers.{phase_of}
 use Rattle.clip_numbers.proofs.phase_of.Goals as goal
 

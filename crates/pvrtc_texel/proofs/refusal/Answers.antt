@@ -1,8 +1,6 @@
 use mathlib.Core.Path.{◌≡◌, sym, ap, ◌∙◌}
-use mathlib.Core.Bool.{true, false}
-use Prim.Native.Nat.{ℕ, ◌*◌, ◌≤◌}
-use native.Mathlib.Omega.{arith}
-use borrow.Author.Rules.{rules}
+use mathlib.Core.Bool.{false}
+use Prim.Native.Nat.{ℕ, ◌*◌}
 use Rattle.pvrtc_texel.specs.Image.{bad_pvrtc_side}
 use Rattle.pvrtc_texel.proofs.Sides.{side_most, refused_width, refused_height, refused_bytes, refused_places, accepted}
 use Rattle.pvrtc_texel.proofs.refusal.Goals as goal
