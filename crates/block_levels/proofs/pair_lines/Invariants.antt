@@ -11,7 +11,4 @@ use borrow.Author.Rules.{rules}
 use Rattle.block_levels.proofs.pair_lines.Given as goal
 
 abbrev pub invariant-loop-p : goal.invariant-loop-p
-invariant-loop-p l = (l.p ≤ l.n) × (l.out ≡ padded 4 l.p (λ k. line_of (get_or l.t k no_pair)) (line_of zero_pair))
-
-abbrev pub decreases-loop-p : goal.decreases-loop-p
-decreases-loop-p l = l.n - l.p
+invariant-loop-p l = (l.out ≡ padded 4 l.p (λ k. line_of (get_or l.t k no_pair)) (line_of zero_pair))

@@ -14,7 +14,4 @@ use Rattle.color_endpoint.proofs.Laws.{table_next, table_full, table_at, entry_u
 use Rattle.half_pair.proofs.half_table.Given as goal
 
 abbrev pub invariant-loop-p : goal.invariant-loop-p
-invariant-loop-p l = (l.p ≤ l.n) × (l.start ≤ 128 * l.p) × (l.start ≡ start_of l.modes l.p) × (l.t ≡ half_table_of l.modes l.p l.levels)
-
-abbrev pub decreases-loop-p : goal.decreases-loop-p
-decreases-loop-p l = l.n - l.p
+invariant-loop-p l = (l.start ≤ 128 * l.p) × (l.start ≡ start_of l.modes l.p) × (l.t ≡ half_table_of l.modes l.p l.levels)
