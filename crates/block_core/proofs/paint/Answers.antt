@@ -16,7 +16,7 @@ use Rattle.partition.proofs.Rows.{which_lt}
 use Rattle.block_buffer.proofs.Painting.{Laid, laid_texel, laid_as, laid_none, laid_done, row_end, place_fits}
 use Rattle.block_core.proofs.Painting.{reach_column, on_grid_told, told, room_for}
 use Rattle.block_core.proofs.paint.Goals as goal
-use Rattle.block_core.proofs.paint.Goals.{After-grid_place-gt, After-infill_both-both, After-p00-1, After-p01-1, After-p10-1, After-place, After-put, After-step, After-struct_known-in-loop-x-3-1, In-loop-x}
+use Rattle.block_core.proofs.paint.Goals.{After-grid_place-gt, After-infill_both-both, After-p00-1, After-p01-1, After-p10-1, After-place, After-put, After-step, After-struct_known-in-loop-x-2-1, In-loop-x}
 
 down_le-After-grid_place-gt : (c : After-grid_place-gt) → c.grid_place-gt.result ≤ 16 * (c.args.g.height - 1)
 down_le-After-grid_place-gt c = omega (arith, c.grid_place-gt.ensures, c.requires.inside.rows c.loop-y.y c.loop-y-test.true)
@@ -33,8 +33,8 @@ down_le-After-p10-1 c = omega (arith, c.grid_place-gt.ensures, c.requires.inside
 down_le-After-step : (c : After-step) → c.grid_place-gt.result ≤ 16 * (c.args.g.height - 1)
 down_le-After-step c = omega (arith, c.grid_place-gt.ensures, c.requires.inside.rows c.loop-y.y c.loop-y-test.true)
 
-down_le-After-struct_known-in-loop-x-3-1 : (c : After-struct_known-in-loop-x-3-1) → c.grid_place-gt.result ≤ 16 * (c.args.g.height - 1)
-down_le-After-struct_known-in-loop-x-3-1 c = omega (arith, c.grid_place-gt.ensures, c.requires.inside.rows c.loop-y.y c.loop-y-test.true)
+down_le-After-struct_known-in-loop-x-2-1 : (c : After-struct_known-in-loop-x-2-1) → c.grid_place-gt.result ≤ 16 * (c.args.g.height - 1)
+down_le-After-struct_known-in-loop-x-2-1 c = omega (arith, c.grid_place-gt.ensures, c.requires.inside.rows c.loop-y.y c.loop-y-test.true)
 
 from_le-After-grid_place-gt : (c : After-grid_place-gt) → c.grid_place-gt.result / 16 * c.args.g.width ≤ 11 * 12
 from_le-After-grid_place-gt c =
@@ -64,8 +64,8 @@ x_of-After-place t = t.loop-x.x
 abbrev x_of-After-put : After-put → ℕ
 x_of-After-put t = t.loop-x.x
 
-abbrev x_of-After-struct_known-in-loop-x-3-1 : After-struct_known-in-loop-x-3-1 → ℕ
-x_of-After-struct_known-in-loop-x-3-1 t = t.loop-x.x
+abbrev x_of-After-struct_known-in-loop-x-2-1 : After-struct_known-in-loop-x-2-1 → ℕ
+x_of-After-struct_known-in-loop-x-2-1 t = t.loop-x.x
 
 abbrev x_of-In-loop-x : In-loop-x → ℕ
 x_of-In-loop-x t = t.loop-x.x
@@ -91,8 +91,8 @@ column_at-After-p10-1 t = get_or t.columns-columns.result (x_of-After-p10-1 t) n
 abbrev column_at-After-put : After-put → Column
 column_at-After-put t = get_or t.columns-columns.result (x_of-After-put t) no_column
 
-abbrev column_at-After-struct_known-in-loop-x-3-1 : After-struct_known-in-loop-x-3-1 → Column
-column_at-After-struct_known-in-loop-x-3-1 t = get_or t.columns-columns.result (x_of-After-struct_known-in-loop-x-3-1 t) no_column
+abbrev column_at-After-struct_known-in-loop-x-2-1 : After-struct_known-in-loop-x-2-1 → Column
+column_at-After-struct_known-in-loop-x-2-1 t = get_or t.columns-columns.result (x_of-After-struct_known-in-loop-x-2-1 t) no_column
 
 narrow-After-infill_both-both : (t : After-infill_both-both) → x_of-After-infill_both-both t < 12
 narrow-After-infill_both-both t = omega (arith, t.loop-x-test.true, t.requires.inside.width_most)
@@ -112,8 +112,8 @@ narrow-After-p01-1 t = omega (arith, t.loop-x-test.true, t.requires.inside.width
 narrow-After-p10-1 : (t : After-p10-1) → x_of-After-p10-1 t < 12
 narrow-After-p10-1 t = omega (arith, t.loop-x-test.true, t.requires.inside.width_most)
 
-narrow-After-struct_known-in-loop-x-3-1 : (t : After-struct_known-in-loop-x-3-1) → x_of-After-struct_known-in-loop-x-3-1 t < 12
-narrow-After-struct_known-in-loop-x-3-1 t = omega (arith, t.loop-x-test.true, t.requires.inside.width_most)
+narrow-After-struct_known-in-loop-x-2-1 : (t : After-struct_known-in-loop-x-2-1) → x_of-After-struct_known-in-loop-x-2-1 t < 12
+narrow-After-struct_known-in-loop-x-2-1 t = omega (arith, t.loop-x-test.true, t.requires.inside.width_most)
 
 column_is-After-p00-1 : (t : After-p00-1) → column_at-After-p00-1 t ≡ grid_column t.args.f.across t.args.g.width (x_of-After-p00-1 t)
 column_is-After-p00-1 t =
@@ -139,11 +139,11 @@ column_is-After-put t =
     ap (λ (l : List Column). get_or l (x_of-After-put t) no_column) t.columns-columns.ensures
     ∙ (padded_here (grid_column a.f.across a.g.width) no_column 12 a.f.width (x_of-After-put t) no_column (narrow-After-put t) t.loop-x-test.true)
 
-column_is-After-struct_known-in-loop-x-3-1 : (t : After-struct_known-in-loop-x-3-1) → column_at-After-struct_known-in-loop-x-3-1 t ≡ grid_column t.args.f.across t.args.g.width (x_of-After-struct_known-in-loop-x-3-1 t)
-column_is-After-struct_known-in-loop-x-3-1 t =
+column_is-After-struct_known-in-loop-x-2-1 : (t : After-struct_known-in-loop-x-2-1) → column_at-After-struct_known-in-loop-x-2-1 t ≡ grid_column t.args.f.across t.args.g.width (x_of-After-struct_known-in-loop-x-2-1 t)
+column_is-After-struct_known-in-loop-x-2-1 t =
     let a = t.args in
-    ap (λ (l : List Column). get_or l (x_of-After-struct_known-in-loop-x-3-1 t) no_column) t.columns-columns.ensures
-    ∙ (padded_here (grid_column a.f.across a.g.width) no_column 12 a.f.width (x_of-After-struct_known-in-loop-x-3-1 t) no_column (narrow-After-struct_known-in-loop-x-3-1 t) t.loop-x-test.true)
+    ap (λ (l : List Column). get_or l (x_of-After-struct_known-in-loop-x-2-1 t) no_column) t.columns-columns.ensures
+    ∙ (padded_here (grid_column a.f.across a.g.width) no_column 12 a.f.width (x_of-After-struct_known-in-loop-x-2-1 t) no_column (narrow-After-struct_known-in-loop-x-2-1 t) t.loop-x-test.true)
 
 abbrev upper-After-p00-1 : After-p00-1 → ℕ
 upper-After-p00-1 t = t.grid_place-gt.result / 16 * t.args.g.width
@@ -157,8 +157,8 @@ upper-After-p10-1 t = t.grid_place-gt.result / 16 * t.args.g.width
 abbrev upper-After-put : After-put → ℕ
 upper-After-put t = t.grid_place-gt.result / 16 * t.args.g.width
 
-abbrev upper-After-struct_known-in-loop-x-3-1 : After-struct_known-in-loop-x-3-1 → ℕ
-upper-After-struct_known-in-loop-x-3-1 t = t.grid_place-gt.result / 16 * t.args.g.width
+abbrev upper-After-struct_known-in-loop-x-2-1 : After-struct_known-in-loop-x-2-1 → ℕ
+upper-After-struct_known-in-loop-x-2-1 t = t.grid_place-gt.result / 16 * t.args.g.width
 
 abbrev lower-After-p00-1 : After-p00-1 → ℕ
 lower-After-p00-1 t = upper-After-p00-1 t + t.step.result
@@ -169,8 +169,8 @@ lower-After-p01-1 t = upper-After-p01-1 t + t.step.result
 abbrev lower-After-p10-1 : After-p10-1 → ℕ
 lower-After-p10-1 t = upper-After-p10-1 t + t.step.result
 
-abbrev lower-After-struct_known-in-loop-x-3-1 : After-struct_known-in-loop-x-3-1 → ℕ
-lower-After-struct_known-in-loop-x-3-1 t = upper-After-struct_known-in-loop-x-3-1 t + t.step.result
+abbrev lower-After-struct_known-in-loop-x-2-1 : After-struct_known-in-loop-x-2-1 → ℕ
+lower-After-struct_known-in-loop-x-2-1 t = upper-After-struct_known-in-loop-x-2-1 t + t.step.result
 
 -- the points that are read are the grid's
 room-After-p00-1 : (t : After-p00-1) → (lower-After-p00-1 t + (column_at-After-p00-1 t).next < 64) × ((column_at-After-p00-1 t).at ≤ (column_at-After-p00-1 t).next) × (upper-After-p00-1 t ≤ lower-After-p00-1 t)
@@ -194,11 +194,11 @@ room-After-p10-1 t =
     reach_column s.args.g s.args.f (x_of-After-p10-1 t) (column_at-After-p10-1 t) (column_is-After-p10-1 t) refl (ap (λ (k : ℕ). upper-After-p10-1 t + k) t.step.ensures) p.limits p.count (p.columns (x_of-After-p10-1 t) t.loop-x-test.true) (down_le-After-p10-1 t)
 
 -- the points that are read are the grid's
-room-After-struct_known-in-loop-x-3-1 : (t : After-struct_known-in-loop-x-3-1) → (lower-After-struct_known-in-loop-x-3-1 t + (column_at-After-struct_known-in-loop-x-3-1 t).next < 64) × ((column_at-After-struct_known-in-loop-x-3-1 t).at ≤ (column_at-After-struct_known-in-loop-x-3-1 t).next) × (upper-After-struct_known-in-loop-x-3-1 t ≤ lower-After-struct_known-in-loop-x-3-1 t)
-room-After-struct_known-in-loop-x-3-1 t =
+room-After-struct_known-in-loop-x-2-1 : (t : After-struct_known-in-loop-x-2-1) → (lower-After-struct_known-in-loop-x-2-1 t + (column_at-After-struct_known-in-loop-x-2-1 t).next < 64) × ((column_at-After-struct_known-in-loop-x-2-1 t).at ≤ (column_at-After-struct_known-in-loop-x-2-1 t).next) × (upper-After-struct_known-in-loop-x-2-1 t ≤ lower-After-struct_known-in-loop-x-2-1 t)
+room-After-struct_known-in-loop-x-2-1 t =
     let s = t in
     let p = s.requires.inside in
-    reach_column s.args.g s.args.f (x_of-After-struct_known-in-loop-x-3-1 t) (column_at-After-struct_known-in-loop-x-3-1 t) (column_is-After-struct_known-in-loop-x-3-1 t) refl (ap (λ (k : ℕ). upper-After-struct_known-in-loop-x-3-1 t + k) t.step.ensures) p.limits p.count (p.columns (x_of-After-struct_known-in-loop-x-3-1 t) t.loop-x-test.true) (down_le-After-struct_known-in-loop-x-3-1 t)
+    reach_column s.args.g s.args.f (x_of-After-struct_known-in-loop-x-2-1 t) (column_at-After-struct_known-in-loop-x-2-1 t) (column_is-After-struct_known-in-loop-x-2-1 t) refl (ap (λ (k : ℕ). upper-After-struct_known-in-loop-x-2-1 t + k) t.step.ensures) p.limits p.count (p.columns (x_of-After-struct_known-in-loop-x-2-1 t) t.loop-x-test.true) (down_le-After-struct_known-in-loop-x-2-1 t)
 
 -- the partition that is found has a line
 which_line : (c : After-infill_both-both) → get_or c.row_partitions-which.result (x_of-After-infill_both-both c) 0 < 4
@@ -242,31 +242,27 @@ pub loop-x-preserved : goal.loop-x-preserved
 loop-x-preserved c =
     let d = c in
     let t = c in
-    let l = t.loop-x in (
-      omega (arith, t.loop-x-test.true),
-      λ old e w. rw c.put.ensures (laid_texel c.args.f.width _ old l.out l.x (y_of-After-put c) e t.loop-x-test.true (fits-After-put c) (shown c) d.place.ensures (l.invariant.1 old e w)),
-    )
+    let l = t.loop-x in
+    λ old e w. rw c.put.ensures (laid_texel c.args.f.width _ old l.out l.x (y_of-After-put c) e t.loop-x-test.true (fits-After-put c) (shown c) d.place.ensures (l.invariant old e w))
 
 pub loop-y-preserved : goal.loop-y-preserved
 loop-y-preserved c =
     let l = c.loop-x in
-    let k = c.loop-y in (
-      omega (arith, c.loop-y-test.true),
-      λ e. laid_as _ _ _ _ (row_end c.args.f.width l.x k.y (omega (arith, c.loop-x-test.false, l.invariant.0))) (l.invariant.1 _ e (k.invariant.1 e)),
-    )
+    let k = c.loop-y in
+    λ e. laid_as _ _ _ _ (row_end c.args.f.width l.x k.y (omega (arith, c.loop-x-test.false))) (l.invariant _ e (k.invariant e))
 
 pub returns : goal.returns
 returns c =
     let l = c.loop-y in
     let a = c.args in
-    let z : l.y ≡ a.f.height = omega (arith, c.loop-y-test.false, l.invariant.0) in
-    λ e. laid_done a.f.width _ _ _ (a.f.height * a.f.width) (ap (λ (n : ℕ). 4 * (n * a.f.width)) z) (l.invariant.1 e)
+    let z : l.y ≡ a.f.height = omega (arith, c.loop-y-test.false) in
+    λ e. laid_done a.f.width _ _ _ (a.f.height * a.f.width) (ap (λ (n : ℕ). 4 * (n * a.f.width)) z) (l.invariant e)
 
 pub columns-columns-requires : goal.columns-columns-requires
 columns-columns-requires c = let p = c.requires.inside in record { by_index = p.columns; points_bound = (p.limits.width_most, p.width_most) }
 
 pub loop-y-init : goal.loop-y-init
-loop-y-init c = (omega arith, λ e. laid_none _ _ _ (omega arith))
+loop-y-init c = λ e. laid_none _ _ _ (omega arith)
 
 pub overflow_mul-upper : goal.overflow_mul-upper
 overflow_mul-upper c = omega (arith, from_le-After-grid_place-gt c)
@@ -275,19 +271,19 @@ pub overflow_add-lower : goal.overflow_add-lower
 overflow_add-lower c = let a = c.args in omega (arith, from_le-After-step c, c.step.ensures, step_le c.grid_place-gt.result a.g.height a.g.width, c.requires.inside.limits.width_most)
 
 pub loop-x-init : goal.loop-x-init
-loop-x-init c = (omega arith, λ old e w. laid_as _ _ _ _ (omega arith) w)
+loop-x-init c = λ old e w. laid_as _ _ _ _ (omega arith) w
 
 pub offset_bounds-columns-x : goal.offset_bounds-columns-x
 offset_bounds-columns-x c = omega (arith, narrow-In-loop-x c)
 
 pub overflow_add-p00 : goal.overflow_add-p00
-overflow_add-p00 c = omega (arith, room-After-struct_known-in-loop-x-3-1 c)
+overflow_add-p00 c = omega (arith, room-After-struct_known-in-loop-x-2-1 c)
 
 pub offset_bounds-points-upper : goal.offset_bounds-points-upper
-offset_bounds-points-upper c = omega (arith, room-After-struct_known-in-loop-x-3-1 c)
+offset_bounds-points-upper c = omega (arith, room-After-struct_known-in-loop-x-2-1 c)
 
 pub bounds-points-upper : goal.bounds-points-upper
-bounds-points-upper c = omega (arith, room-After-struct_known-in-loop-x-3-1 c)
+bounds-points-upper c = omega (arith, room-After-struct_known-in-loop-x-2-1 c)
 
 pub overflow_add-p01 : goal.overflow_add-p01
 overflow_add-p01 c = omega (arith, room-After-p00-1 c)
@@ -333,15 +329,3 @@ offset_bounds-lines-which c = omega (arith, which_line c)
 
 pub put-requires : goal.put-requires
 put-requires c = rw c.place.ensures (fits-After-place c)
-
-pub overflow_add-x : goal.overflow_add-x
-overflow_add-x c = let t = c in omega (arith, t.loop-x-test.true, c.requires.inside.width_most)
-
-pub loop-x-smaller : goal.loop-x-smaller
-loop-x-smaller c = omega (arith, c.loop-x-test.true)
-
-pub overflow_add-y : goal.overflow_add-y
-overflow_add-y c = let r = c in omega (arith, r.loop-y-test.true, c.requires.inside.height_most)
-
-pub loop-y-smaller : goal.loop-y-smaller
-loop-y-smaller c = omega (arith, c.loop-y-test.true)

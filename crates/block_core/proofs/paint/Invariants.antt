@@ -18,14 +18,8 @@ use Rattle.block_core.proofs.paint.Given as goal
 -- within a row: whatever was painted before the row is there still, and x texels of the row are
 abbrev pub invariant-loop-x : goal.invariant-loop-x
 invariant-loop-x l =
-    (l.x ≤ l.f.width) × ((old : List ℕ) → length old ≡ 864 → Laid l.f.width (prepared_texel l.kind l.g l.component l.points l.lines l.seeds l.partitions l.f) old l.initial.out (4 * (l.y * l.f.width)) → Laid l.f.width (prepared_texel l.kind l.g l.component l.points l.lines l.seeds l.partitions l.f) old l.out (4 * (l.y * l.f.width + l.x)))
-
-abbrev pub decreases-loop-x : goal.decreases-loop-x
-decreases-loop-x l = l.f.width - l.x
+    ((old : List ℕ) → length old ≡ 864 → Laid l.f.width (prepared_texel l.kind l.g l.component l.points l.lines l.seeds l.partitions l.f) old l.initial.out (4 * (l.y * l.f.width)) → Laid l.f.width (prepared_texel l.kind l.g l.component l.points l.lines l.seeds l.partitions l.f) old l.out (4 * (l.y * l.f.width + l.x)))
 
 abbrev pub invariant-loop-y : goal.invariant-loop-y
 invariant-loop-y l =
-    (l.y ≤ l.f.height) × (length l.initial.out ≡ 864 → Laid l.f.width (prepared_texel l.kind l.g l.component l.points l.lines l.seeds l.partitions l.f) l.initial.out l.out (4 * (l.y * l.f.width)))
-
-abbrev pub decreases-loop-y : goal.decreases-loop-y
-decreases-loop-y l = l.f.height - l.y
+    (length l.initial.out ≡ 864 → Laid l.f.width (prepared_texel l.kind l.g l.component l.points l.lines l.seeds l.partitions l.f) l.initial.out l.out (4 * (l.y * l.f.width)))

@@ -163,27 +163,23 @@ pub loop-x-preserved : goal.loop-x-preserved
 loop-x-preserved c =
     let d = c in
     let t = c in
-    let l = t.loop-x in (
-      omega (arith, t.loop-x-test.true),
-      λ points eq one old e w. rw c.put.ensures (laid_texel c.args.f.width _ old l.out l.x (y_of-After-put c) e t.loop-x-test.true (fits-After-put c) (shown c points eq one) d.place.ensures (l.invariant.1 points eq one old e w)),
-    )
+    let l = t.loop-x in
+    λ points eq one old e w. rw c.put.ensures (laid_texel c.args.f.width _ old l.out l.x (y_of-After-put c) e t.loop-x-test.true (fits-After-put c) (shown c points eq one) d.place.ensures (l.invariant points eq one old e w))
 
 pub loop-y-preserved : goal.loop-y-preserved
 loop-y-preserved c =
     let l = c.loop-x in
     let r = c in
-    let k = r.loop-y in (
-      omega (arith, r.loop-y-test.true),
-      λ points eq one e. laid_as _ _ _ _ (row_end c.args.f.width l.x k.y (omega (arith, c.loop-x-test.false, l.invariant.0))) (l.invariant.1 points eq one _ e (k.invariant.1 points eq one e)),
-    )
+    let k = r.loop-y in
+    λ points eq one e. laid_as _ _ _ _ (row_end c.args.f.width l.x k.y (omega (arith, c.loop-x-test.false))) (l.invariant points eq one _ e (k.invariant points eq one e))
 
 pub returns : goal.returns
 returns c =
     let l = c.loop-y in
     let p = c in
     let s = p in
-    let z : l.y ≡ s.args.f.height = omega (arith, c.loop-y-test.false, l.invariant.0) in
-    λ e. laid_done s.args.f.width _ _ _ (s.args.f.height * s.args.f.width) (ap (λ (n : ℕ). 4 * (n * s.args.f.width)) z) (l.invariant.1 s.args.points p.pairs-pairs.ensures s.requires.one_plane e)
+    let z : l.y ≡ s.args.f.height = omega (arith, c.loop-y-test.false) in
+    λ e. laid_done s.args.f.width _ _ _ (s.args.f.height * s.args.f.width) (ap (λ (n : ℕ). 4 * (n * s.args.f.width)) z) (l.invariant s.args.points p.pairs-pairs.ensures s.requires.one_plane e)
 
 pub places-places-requires : goal.places-places-requires
 places-places-requires c = let p = c.requires.inside in record { by_index = p.columns; points_bound = (p.limits.width_most, p.width_most) }
@@ -192,7 +188,7 @@ pub pairs-pairs-requires : goal.pairs-pairs-requires
 pairs-pairs-requires c = c.requires.one_plane
 
 pub loop-y-init : goal.loop-y-init
-loop-y-init c = (omega arith, λ points eq one e. laid_none _ _ _ (omega arith))
+loop-y-init c = λ points eq one e. laid_none _ _ _ (omega arith)
 
 pub overflow_mul-from : goal.overflow_mul-from
 overflow_mul-from c = omega (arith, from_le-After-grid_place-gt c)
@@ -201,7 +197,7 @@ pub overflow_add-next : goal.overflow_add-next
 overflow_add-next c = let a = c.args in omega (arith, from_le-After-step c, c.step.ensures, step_le c.grid_place-gt.result a.g.height a.g.width, c.requires.inside.limits.width_most)
 
 pub loop-x-init : goal.loop-x-init
-loop-x-init c = (omega arith, λ points eq one old e w. laid_as _ _ _ _ (omega arith) w)
+loop-x-init c = λ points eq one old e w. laid_as _ _ _ _ (omega arith) w
 
 pub offset_bounds-places-i : goal.offset_bounds-places-i
 offset_bounds-places-i c = omega (arith, narrow-In-loop-x-unread c)
@@ -241,15 +237,3 @@ bounds-lower-i c = narrow-After-below-1-unread-2 c
 
 pub put-requires : goal.put-requires
 put-requires c = rw c.place.ensures (fits-After-place c)
-
-pub overflow_add-x : goal.overflow_add-x
-overflow_add-x c = let t = c in omega (arith, t.loop-x-test.true, c.requires.inside.width_most)
-
-pub loop-x-smaller : goal.loop-x-smaller
-loop-x-smaller c = omega (arith, c.loop-x-test.true)
-
-pub overflow_add-y : goal.overflow_add-y
-overflow_add-y c = let r = c in omega (arith, r.loop-y-test.true, c.requires.inside.height_most)
-
-pub loop-y-smaller : goal.loop-y-smaller
-loop-y-smaller c = let r = c in omega (arith, r.loop-y-test.true)

@@ -17,14 +17,8 @@ use Rattle.block_core.proofs.paint_single.Given as goal
 -- within a row: whatever was painted before the row is there still, and x texels of the row are, whatever points the pairs were made of
 abbrev pub invariant-loop-x : goal.invariant-loop-x
 invariant-loop-x l =
-    (l.x ≤ l.f.width) × ((points : List LevelPair) → l.pairs ≡ pairs_of points → OnePlane points → (old : List ℕ) → length old ≡ 864 → Laid l.f.width (single_texel l.kind l.g points l.lines l.f) old l.initial.out (4 * (l.y * l.f.width)) → Laid l.f.width (single_texel l.kind l.g points l.lines l.f) old l.out (4 * (l.y * l.f.width + l.x)))
-
-abbrev pub decreases-loop-x : goal.decreases-loop-x
-decreases-loop-x l = l.f.width - l.x
+    ((points : List LevelPair) → l.pairs ≡ pairs_of points → OnePlane points → (old : List ℕ) → length old ≡ 864 → Laid l.f.width (single_texel l.kind l.g points l.lines l.f) old l.initial.out (4 * (l.y * l.f.width)) → Laid l.f.width (single_texel l.kind l.g points l.lines l.f) old l.out (4 * (l.y * l.f.width + l.x)))
 
 abbrev pub invariant-loop-y : goal.invariant-loop-y
 invariant-loop-y l =
-    (l.y ≤ l.f.height) × ((points : List LevelPair) → l.pairs ≡ pairs_of points → OnePlane points → length l.initial.out ≡ 864 → Laid l.f.width (single_texel l.kind l.g points l.lines l.f) l.initial.out l.out (4 * (l.y * l.f.width)))
-
-abbrev pub decreases-loop-y : goal.decreases-loop-y
-decreases-loop-y l = l.f.height - l.y
+    ((points : List LevelPair) → l.pairs ≡ pairs_of points → OnePlane points → length l.initial.out ≡ 864 → Laid l.f.width (single_texel l.kind l.g points l.lines l.f) l.initial.out l.out (4 * (l.y * l.f.width)))

@@ -1,6 +1,6 @@
 -- After p turns the table is that of p partitions.
 use mathlib.Core.Path.{◌≡◌, refl, ◌∙◌}
-use Prim.Native.Nat.{ℕ, ◌≤◌, ◌<◌, ◌*◌, ◌-◌}
+use Prim.Native.Nat.{ℕ, ◌<◌}
 use native.Mathlib.Omega.{arith}
 use mathlib.Core.List.{List}
 use lib.ListN.{get_or}
@@ -10,7 +10,7 @@ use Rattle.endpoint_arithmetic.specs.Pair.{zero_pair}
 use Rattle.interpolation.specs.Expansion.{no_pair}
 use Rattle.color_endpoint.specs.Modes.{pair_of}
 use Rattle.color_endpoint.specs.Table.{start_of, numbers_from, entry_by, table_by, table_of}
-use Rattle.half_pair.specs.Pair.{half_pair_of, zero_half, half_table_of}
+use Rattle.half_pair.specs.Pair.{half_pair_of, zero_half}
 use Rattle.color_endpoint.proofs.Laws.{table_next, table_full, table_at, entry_used, start_next}
 use Rattle.half_pair.proofs.half_table.Goals as goal
 

@@ -6,7 +6,4 @@ use Rattle.color_endpoint.proofs.Laws.{start_next}
 use Rattle.partition_texel.proofs.start_of.Given as goal
 
 abbrev pub invariant-loop-i : goal.invariant-loop-i
-invariant-loop-i l = (l.i ≤ l.p) × (l.p ≤ 4) × (l.start ≤ 128 * l.i) × (l.start ≡ start_of l.modes l.i)
-
-abbrev pub decreases-loop-i : goal.decreases-loop-i
-decreases-loop-i l = l.p - l.i
+invariant-loop-i l = (l.start ≤ 128 * l.i) × (l.start ≡ start_of l.modes l.i)

@@ -219,10 +219,8 @@ pub loop-x-preserved : goal.loop-x-preserved
 loop-x-preserved c = let d = c in
     let p = c in
     let l = p.loop-x in
-    let a = c.args in (
-      omega (arith, p.loop-x-test.true),
-      λ old e w. rw c.put.ensures (laid_texel a.f.width _ old l.out l.x p.row_of-q.result e p.loop-x-test.true (fits-After-put c) (shown c) d.place.ensures (l.invariant.1 old e w)),
-    )
+    let a = c.args in
+    λ old e w. rw c.put.ensures (laid_texel a.f.width _ old l.out l.x p.row_of-q.result e p.loop-x-test.true (fits-After-put c) (shown c) d.place.ensures (l.invariant old e w))
 
 pub loop-y-preserved : goal.loop-y-preserved
 loop-y-preserved c = let l = c.loop-x in
@@ -230,37 +228,33 @@ loop-y-preserved c = let l = c.loop-x in
     let r = c in
     let k = r.loop-y in
     let f = c.args.f in
-    let n : q.result + 1 ≡ z-After-loop-x c * f.height + (k.y + 1) = omega (arith, q.ensures) in (
-      omega (arith, r.loop-y-test.true),
-      λ old e w. laid_as _ _ _ _ (row_end f.width l.x q.result (omega (arith, c.loop-x-test.false, l.invariant.0)) ∙ ap (λ (m : ℕ). 4 * (m * f.width)) n)
-          (l.invariant.1 old e (laid_as _ _ _ _ (ap (λ (m : ℕ). 4 * (m * f.width)) (sym q.ensures)) (k.invariant.1 old e w))),
-    )
+    let n : q.result + 1 ≡ z-After-loop-x c * f.height + (k.y + 1) = omega (arith, q.ensures) in
+    λ old e w. laid_as _ _ _ _ (row_end f.width l.x q.result (omega (arith, c.loop-x-test.false)) ∙ ap (λ (m : ℕ). 4 * (m * f.width)) n)
+    (l.invariant old e (laid_as _ _ _ _ (ap (λ (m : ℕ). 4 * (m * f.width)) (sym q.ensures)) (k.invariant old e w)))
 
 pub loop-z-preserved : goal.loop-z-preserved
 loop-z-preserved c = let l = c.loop-y in
     let r = c in
-    let f = c.args.f in (
-      omega (arith, r.loop-z-test.true),
-      λ e. laid_as _ _ _ _ (layer_end f.width f.height (z-After-loop-y c) l.y (omega (arith, c.loop-y-test.false, l.invariant.0))) (l.invariant.1 _ e (r.loop-z.invariant.1 e)),
-    )
+    let f = c.args.f in
+    λ e. laid_as _ _ _ _ (layer_end f.width f.height (z-After-loop-y c) l.y (omega (arith, c.loop-y-test.false))) (l.invariant _ e (r.loop-z.invariant e))
 
 pub returns : goal.returns
 returns c = let l = c.loop-z in
     let f = c.args.f in
-    let e : l.z ≡ f.depth = omega (arith, c.loop-z-test.false, l.invariant.0) in
-    λ h. laid_done f.width _ _ _ (f.depth * f.height * f.width) (ap (λ (n : ℕ). 4 * (n * f.height * f.width)) e) (l.invariant.1 h)
+    let e : l.z ≡ f.depth = omega (arith, c.loop-z-test.false) in
+    λ h. laid_done f.width _ _ _ (f.depth * f.height * f.width) (ap (λ (n : ℕ). 4 * (n * f.height * f.width)) e) (l.invariant h)
 
 pub loop-z-init : goal.loop-z-init
-loop-z-init c = (omega arith, λ e. laid_none _ _ _ (omega arith))
+loop-z-init c = λ e. laid_none _ _ _ (omega arith)
 
 pub loop-y-init : goal.loop-y-init
-loop-y-init c = (omega arith, λ old e w. laid_as _ _ _ _ (omega arith) w)
+loop-y-init c = λ old e w. laid_as _ _ _ _ (omega arith) w
 
 pub row_of-q-requires : goal.row_of-q-requires
 row_of-q-requires c = omega (arith, row_le c)
 
 pub loop-x-init : goal.loop-x-init
-loop-x-init c = (omega arith, λ old e w. laid_as _ _ _ _ (omega arith) w)
+loop-x-init c = λ old e w. laid_as _ _ _ _ (omega arith) w
 
 pub route_at-k-requires : goal.route_at-k-requires
 route_at-k-requires c = on_place-After-grid_place-gs c
@@ -300,21 +294,3 @@ bounds-which-x c = narrow-After-blend_pairs-both c
 
 pub put-requires : goal.put-requires
 put-requires c = rw c.place.ensures (fits-After-place c)
-
-pub overflow_add-x : goal.overflow_add-x
-overflow_add-x c = omega (arith, narrow-After-put c)
-
-pub loop-x-smaller : goal.loop-x-smaller
-loop-x-smaller c = let p = c in omega (arith, p.loop-x-test.true)
-
-pub overflow_add-y : goal.overflow_add-y
-overflow_add-y c = let r = c in omega (arith, r.loop-y-test.true, c.requires.in_volume.height_most)
-
-pub loop-y-smaller : goal.loop-y-smaller
-loop-y-smaller c = let r = c in omega (arith, r.loop-y-test.true)
-
-pub overflow_add-z : goal.overflow_add-z
-overflow_add-z c = let r = c in omega (arith, r.loop-z-test.true, c.requires.in_volume.depth_most)
-
-pub loop-z-smaller : goal.loop-z-smaller
-loop-z-smaller c = let r = c in omega (arith, r.loop-z-test.true)
