@@ -11,7 +11,6 @@ use Rattle.interpolation.specs.Expansion.{takes_hdr}
 use Rattle.block_fault.proofs.Verdicts.{settings_verdict, told_fault, told_void, told_coded, coded_header, coded_counts, coded_limits, coded_numbers}
 use Rattle.block_core.specs.inner.Prepared.{halves}
 use Rattle.block_core.proofs.Shows.{painted_into, shows_fault, shows_void, shows_coded, flat_grid_lem}
-use borrow.Author.Rules.{rules}
 use Rattle.block_core.proofs.decode_halves.Goals as goal
 use Rattle.block_core.proofs.decode_halves.Goals.{After-colours-texel, After-error_texel-texel, After-paint_coded, After-paint_coded-arg-1}
 

@@ -1,18 +1,9 @@
-use mathlib.Core.Path.{◌≡◌, refl, ap, ◌∙◌}
+use mathlib.Core.Path.{◌≡◌}
 use mathlib.Core.List.{List}
-use Prim.Native.Nat.{ℕ, ◌+◌, ◌-◌, ◌*◌, ◌/◌, ◌≤◌, ◌<◌}
-use native.Mathlib.Nat.{mul-le-mul}
-use native.Mathlib.Omega.{arith}
-use lib.ListN.{length, get_or}
-use borrow.Author.Rules.{rules}
-use Rattle.laws.proofs.Filling.{padded_here}
-use Rattle.weight_grid.proofs.Points.{step_le}
-use Rattle.weight_grid.specs.declared.Column.{Column}
-use Rattle.weight_grid.specs.inner.Columns.{grid_column, no_column}
+use Prim.Native.Nat.{ℕ, ◌+◌, ◌*◌}
+use lib.ListN.{length}
 use Rattle.block_core.specs.inner.Prepared.{prepared_texel}
-use Rattle.partition.proofs.Rows.{which_lt}
-use Rattle.block_buffer.proofs.Painting.{Laid, laid_texel, laid_as, laid_none, laid_done, row_end, place_fits}
-use Rattle.block_core.proofs.Painting.{reach_column, on_grid_told, told, room_for}
+use Rattle.block_buffer.proofs.Painting.{Laid}
 use Rattle.block_core.proofs.paint.Given as goal
 
 -- within a row: whatever was painted before the row is there still, and x texels of the row are

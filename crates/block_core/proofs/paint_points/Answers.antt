@@ -1,10 +1,7 @@
-use mathlib.Core.Path.{◌≡◌, ◌∙◌}
-use Prim.Native.Nat.{ℕ, ◌+◌, ◌-◌, ◌*◌, ◌/◌, ◌%◌, ◌≤◌, ◌<◌}
+use mathlib.Core.Path.{◌∙◌}
+use Prim.Native.Nat.{◌+◌, ◌*◌, ◌≤◌}
 use native.Mathlib.Omega.{arith}
-use lib.ListN.{length}
-use borrow.Author.Rules.{rules}
-use Rattle.interpolation.specs.declared.Texel.{Texel}
-use Rattle.block_buffer.proofs.Painting.{Laid, laid_more, laid_none, laid_done}
+use Rattle.block_buffer.proofs.Painting.{laid_more, laid_none, laid_done}
 use Rattle.block_core.specs.inner.Prepared.{point_texel}
 use Rattle.block_core.proofs.paint_points.Goals as goal
 use Rattle.block_core.proofs.paint_points.Goals.{In-loop-i}

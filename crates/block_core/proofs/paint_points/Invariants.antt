@@ -1,10 +1,8 @@
-use mathlib.Core.Path.{◌≡◌, ◌∙◌}
-use Prim.Native.Nat.{ℕ, ◌+◌, ◌-◌, ◌*◌, ◌/◌, ◌%◌, ◌≤◌, ◌<◌}
-use native.Mathlib.Omega.{arith}
+use mathlib.Core.Path.{◌≡◌}
+use Prim.Native.Nat.{ℕ, ◌*◌, ◌/◌, ◌%◌, ◌<◌}
 use lib.ListN.{length}
-use borrow.Author.Rules.{rules}
 use Rattle.interpolation.specs.declared.Texel.{Texel}
-use Rattle.block_buffer.proofs.Painting.{Laid, laid_more, laid_none, laid_done}
+use Rattle.block_buffer.proofs.Painting.{Laid}
 use Rattle.block_core.specs.inner.Prepared.{point_texel}
 use Rattle.block_core.proofs.paint_points.Given as goal
 

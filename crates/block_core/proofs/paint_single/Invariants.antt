@@ -1,17 +1,11 @@
-use mathlib.Core.Path.{◌≡◌, refl, ap, ◌∙◌}
+use mathlib.Core.Path.{◌≡◌}
 use mathlib.Core.List.{List}
-use Prim.Native.Nat.{ℕ, ◌+◌, ◌-◌, ◌*◌, ◌/◌, ◌≤◌, ◌<◌}
-use native.Mathlib.Nat.{mul-le-mul}
-use native.Mathlib.Omega.{arith}
-use lib.ListN.{length, get_or}
-use borrow.Author.Rules.{rules}
+use Prim.Native.Nat.{ℕ, ◌+◌, ◌*◌}
+use lib.ListN.{length}
 use Rattle.encoding.specs.declared.LevelPair.{LevelPair}
 use Rattle.weight_grid.specs.inner.Pairs.{OnePlane, pairs_of}
-use Rattle.weight_grid.proofs.Points.{step_le}
 use Rattle.block_core.specs.inner.Prepared.{single_texel}
-use Rattle.block_buffer.proofs.Painting.{Laid, laid_texel, laid_as, laid_none, laid_done, row_end, place_fits}
-use Rattle.block_core.proofs.Painting.{room_for}
-use Rattle.block_core.proofs.PairPainting.{pair_reach, pair_room, pair_told}
+use Rattle.block_buffer.proofs.Painting.{Laid}
 use Rattle.block_core.proofs.paint_single.Given as goal
 
 -- within a row: whatever was painted before the row is there still, and x texels of the row are, whatever points the pairs were made of

@@ -1,9 +1,8 @@
-use mathlib.Core.Path.{◌≡◌, refl, sym, ap, ◌∙◌}
-use Prim.Native.Nat.{ℕ, ◌-◌, ◌≤◌}
+use mathlib.Core.Path.{refl}
 use native.Mathlib.Omega.{arith}
 use Rattle.laws.specs.Table.{tab}
 use Rattle.quantization.specs.Unquantise.{unquant_endpoint}
-use Rattle.block_levels.proofs.Levels.{SoFar, so_far_start, so_far_next, so_far_done}
+use Rattle.block_levels.proofs.Levels.{so_far_start, so_far_next, so_far_done}
 use Rattle.block_levels.proofs.endpoint_levels.Goals as goal
 
 pub loop-i-init : goal.loop-i-init

@@ -1,5 +1,5 @@
-use mathlib.Core.Path.{◌≡◌, refl, sym, ap, ◌∙◌}
-use Prim.Native.Nat.{ℕ, ◌-◌, ◌≤◌}
+use mathlib.Core.Path.{◌≡◌, sym, ap, ◌∙◌}
+use Prim.Native.Nat.{ℕ}
 use native.Mathlib.Omega.{arith}
 use lib.ListN.{get_or}
 use Rattle.laws.specs.Table.{tab, padded}
@@ -7,7 +7,6 @@ use Rattle.laws.proofs.Filling.{padded_none, padded_more}
 use Rattle.endpoint_arithmetic.specs.Pair.{zero_pair}
 use Rattle.interpolation.specs.Expansion.{no_pair}
 use Rattle.interpolation.specs.inner.Line.{line_of}
-use borrow.Author.Rules.{rules}
 use Rattle.block_levels.proofs.pair_lines.Goals as goal
 
 pub loop-p-init : goal.loop-p-init

@@ -1,13 +1,9 @@
-use mathlib.Core.Path.{◌≡◌, refl, sym, ap, ◌∙◌}
-use Prim.Native.Nat.{ℕ, ◌-◌, ◌≤◌}
-use native.Mathlib.Omega.{arith}
+use mathlib.Core.Path.{◌≡◌}
 use lib.ListN.{get_or}
-use Rattle.laws.specs.Table.{tab, padded}
-use Rattle.laws.proofs.Filling.{padded_none, padded_more}
+use Rattle.laws.specs.Table.{padded}
 use Rattle.endpoint_arithmetic.specs.Pair.{zero_pair}
 use Rattle.interpolation.specs.Expansion.{no_pair}
 use Rattle.interpolation.specs.inner.Line.{line_of}
-use borrow.Author.Rules.{rules}
 use Rattle.block_levels.proofs.pair_lines.Given as goal
 
 abbrev pub invariant-loop-p : goal.invariant-loop-p

@@ -1,5 +1,4 @@
 use mathlib.Core.Path.{◌≡◌, refl, sym}
-use Prim.Native.Nat.{◌*◌, ◌-◌, ◌≤◌}
 use native.Mathlib.Omega.{arith}
 use Rattle.color_endpoint.specs.Table.{start_of}
 use Rattle.color_endpoint.proofs.Laws.{start_next}

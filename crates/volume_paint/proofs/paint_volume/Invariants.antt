@@ -1,16 +1,10 @@
-use mathlib.Core.Path.{◌≡◌, sym, ap, ◌∙◌}
+use mathlib.Core.Path.{◌≡◌}
 use mathlib.Core.List.{List}
-use Prim.Native.Nat.{ℕ, ◌+◌, ◌-◌, ◌*◌, ◌≤◌, ◌<◌}
-use native.Mathlib.Omega.{arith}
-use lib.ListN.{length, get_or}
-use borrow.Author.Rules.{rules}
-use Rattle.partition.proofs.Rows.{which_lt}
-use Rattle.volume_infill.specs.inner.Way.{WithinGrid}
-use Rattle.volume_infill.proofs.Reading.{Routed, routed}
-use Rattle.block_buffer.proofs.Painting.{Laid, laid_texel, laid_as, laid_none, laid_done, row_end}
+use Prim.Native.Nat.{ℕ, ◌+◌, ◌*◌}
+use lib.ListN.{length}
+use Rattle.block_buffer.proofs.Painting.{Laid}
 use Rattle.volume_paint.specs.inner.Volume.{volume_texel}
 use Rattle.laws.specs.Table.{by_rows}
-use Rattle.volume_paint.proofs.Painting.{row_lt, layer_end, rows_most, in_buffer, on_grid, told}
 use Rattle.volume_paint.proofs.paint_volume.Given as goal
 
 -- within a row: whatever was painted before the row is there still, and x texels of the row are
