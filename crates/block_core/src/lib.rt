@@ -105,14 +105,12 @@ fn paint(
 {
     let row = g.width as usize;
     let columns = weight_grid::columns(f.across, g.width, f.width);
-    let mut y: u8 = 0;
-    while y < f.height {
+    for y in 0..f.height {
         let gt = weight_grid::grid_place(f.down, y, g.height);
         let upper = ((gt / 16) as usize) * row;
         let lower = upper + weight_grid::step(gt, g.height, row);
         let which = partition::row_partitions(seeds, partitions, y);
-        let mut x: u8 = 0;
-        while x < f.width {
+        for x in 0..f.width {
             let c = columns[x as usize];
             let left = c.at as usize;
             let right = c.next as usize;
@@ -124,9 +122,7 @@ fn paint(
             let line = lines[which[x as usize] as usize];
             let t = half_line::mix(kind, line, both, component);
             put(out, place(f.width, x, y), t.r, t.g, t.b, t.a);
-            x += 1;
         }
-        y += 1;
     }
 }
 
@@ -148,16 +144,14 @@ fn paint_single(
     let places = weight_grid::places(f.across, g.width, f.width);
     let pairs = weight_grid::pairs(points);
     let line = lines[0];
-    let mut y: u8 = 0;
-    while y < f.height {
+    for y in 0..f.height {
         let gt = weight_grid::grid_place(f.down, y, g.height);
         let from = ((gt / 16) as usize) * row;
         let next = from + weight_grid::step(gt, g.height, row);
         let mut upper: [u16; 16] = [0; 16];
         let mut lower: [u16; 16] = [0; 16];
         weight_grid::factor_pairs(&places, gt, &mut upper, &mut lower);
-        let mut x: u8 = 0;
-        while x < f.width {
+        for x in 0..f.width {
             let i = x as usize;
             let at = (places[i] / 16) as usize;
             let above = pairs[from + at];
@@ -172,9 +166,7 @@ fn paint_single(
                 texel.b,
                 texel.a,
             );
-            x += 1;
         }
-        y += 1;
     }
 }
 
@@ -214,11 +206,9 @@ fn paint_points(
     ensures { (width : ℕ) (texel : ℕ → ℕ → Texel) → ((t : ℕ) → t < count → point_texel kind component points lines.now t ≡ texel (t % width) (t / width)) → length out.old ≡ 864 → out.new ≡ painted width texel count out.old }
 {
     let line = lines[0];
-    let mut i: usize = 0;
-    while i < count {
+    for i in 0..count {
         let t = half_line::mix(kind, line, points[i], component);
         put(out, 4 * i, t.r, t.g, t.b, t.a);
-        i += 1;
     }
 }
 

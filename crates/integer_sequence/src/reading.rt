@@ -95,12 +95,10 @@ fn read_bits(s: PhysicalBlock, b: u32, n: usize) -> [Stored; 64]
 {
     let mut out = no_numbers();
     let mut rest = s;
-    let mut i: usize = 0;
-    while i < n {
+    for i in 0..n {
         let word = bits::word_at(rest, 0);
         out[i] = Stored(cut(word, 0, b) as u8);
         rest = bits::later(rest, b);
-        i += 1;
     }
     out
 }
@@ -112,8 +110,7 @@ fn read_trits(s: PhysicalBlock, b: u32, n: usize) -> [Stored; 64]
 {
     let mut out = no_numbers();
     let mut rest = s;
-    let mut i: usize = 0;
-    while i < n {
+    for i in (0..n).step_by(5) {
         let word = bits::word_at(rest, 0);
         let g = trit_group(word, b);
         out[i] = Stored((g % 256) as u8);
@@ -130,7 +127,6 @@ fn read_trits(s: PhysicalBlock, b: u32, n: usize) -> [Stored; 64]
             out[i + 4] = Stored((g / 4294967296 % 256) as u8);
         }
         rest = bits::later(rest, 5 * b + 8);
-        i += 5;
     }
     out
 }
@@ -141,8 +137,7 @@ fn read_quints(s: PhysicalBlock, b: u32, n: usize) -> [Stored; 64]
 {
     let mut out = no_numbers();
     let mut rest = s;
-    let mut i: usize = 0;
-    while i < n {
+    for i in (0..n).step_by(3) {
         let word = bits::word_at(rest, 0);
         let g = quint_group(word, b);
         out[i] = Stored((g % 256) as u8);
@@ -153,7 +148,6 @@ fn read_quints(s: PhysicalBlock, b: u32, n: usize) -> [Stored; 64]
             out[i + 2] = Stored((g / 65536 % 256) as u8);
         }
         rest = bits::later(rest, 3 * b + 7);
-        i += 3;
     }
     out
 }

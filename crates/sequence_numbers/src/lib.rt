@@ -39,9 +39,7 @@ fn bits_from(s: PhysicalBlock, b: u32, first: u32, n: u32) -> u64
 {
     let word = bits::word_at(s, first * b);
     let mut out: u64 = 0;
-    let mut k = n;
-    while 0 < k {
-        k -= 1;
+    for k in (0..n).rev() {
         out = out * 256 + integer_sequence::reading::cut(word, k * b, b);
     }
     out
@@ -55,12 +53,11 @@ fn trits_from(s: PhysicalBlock, b: u32, first: u32, n: u32) -> u64
     let mut p = first / 5 * (5 * b + 8);
     let g = integer_sequence::reading::trit_group(bits::word_at(s, p), b);
     let mut out = g >> (8 * (first % 5));
-    let mut have = 5 - first % 5;
-    while have < n {
+    let own = 5 - first % 5;
+    for have in (own..n).step_by(5) {
         p += 5 * b + 8;
         let g = integer_sequence::reading::trit_group(bits::word_at(s, p), b);
         out += g << (8 * have);
-        have += 5;
     }
     out
 }
@@ -72,12 +69,11 @@ fn quints_from(s: PhysicalBlock, b: u32, first: u32, n: u32) -> u64
     let mut p = first / 3 * (3 * b + 7);
     let g = integer_sequence::reading::quint_group(bits::word_at(s, p), b);
     let mut out = g >> (8 * (first % 3));
-    let mut have = 3 - first % 3;
-    while have < n {
+    let own = 3 - first % 3;
+    for have in (own..n).step_by(3) {
         p += 3 * b + 7;
         let g = integer_sequence::reading::quint_group(bits::word_at(s, p), b);
         out += g << (8 * have);
-        have += 3;
     }
     out
 }

@@ -182,12 +182,10 @@ pub fn bits_word(xs: [Stored; 64], i: usize, m: usize, b: u32) -> u64
 {
     let mut word: u64 = 0;
     let mut p: u32 = 0;
-    let mut k: usize = 0;
-    while k < m {
+    for k in 0..m {
         let x = xs[i + k];
         word = (low(value(x), b) << p) + word;
         p += b;
-        k += 1;
     }
     word
 }

@@ -37,10 +37,8 @@ fn few_numbers(t: Texel, at: usize, n: usize, out: &mut [u16])
     requires { (n ≤ 3) × (at + 4 * n ≤ length out.old) }
     ensures { Pasted (shown_of Unorm16) (everywhere t) 0 (4 * n) out.old at out.new }
 {
-    let mut i: usize = 0;
-    while i < n {
+    for i in 0..n {
         put_numbers(out, at + 4 * i, t);
-        i += 1;
     }
 }
 
@@ -104,10 +102,8 @@ fn few_bytes(t: Texel, at: usize, n: usize, out: &mut [u8])
     requires { (n ≤ 3) × (at + 4 * n ≤ length out.old) }
     ensures { Pasted (shown_of Srgb8) (everywhere t) 0 (4 * n) out.old at out.new }
 {
-    let mut i: usize = 0;
-    while i < n {
+    for i in 0..n {
         put_bytes(out, at + 4 * i, byte_word(t));
-        i += 1;
     }
 }
 

@@ -27,13 +27,11 @@ fn read_bits(s: PhysicalBlock, b: u32, n: usize, table: &[u8; 32]) -> [LevelPair
 {
     let mut out = no_weights();
     let mut rest = s;
-    let mut i: usize = 0;
-    while i < n {
+    for i in 0..n {
         let word = bits::word_at(rest, 0);
         let v = reading::cut(word, 0, b);
         out[i] = quantization::weight_point(table, Stored(v as u8));
         rest = bits::later(rest, b);
-        i += 1;
     }
     out
 }
@@ -45,8 +43,7 @@ fn read_trits(s: PhysicalBlock, b: u32, n: usize, table: &[u8; 32]) -> [LevelPai
 {
     let mut out = no_weights();
     let mut rest = s;
-    let mut i: usize = 0;
-    while i < n {
+    for i in (0..n).step_by(5) {
         let word = bits::word_at(rest, 0);
         let g = reading::trit_group(word, b);
         let p0 = quantization::weight_point(table, Stored((g % 256) as u8));
@@ -68,7 +65,6 @@ fn read_trits(s: PhysicalBlock, b: u32, n: usize, table: &[u8; 32]) -> [LevelPai
             out[i + 4] = p4;
         }
         rest = bits::later(rest, 5 * b + 8);
-        i += 5;
     }
     out
 }
@@ -79,8 +75,7 @@ fn read_quints(s: PhysicalBlock, b: u32, n: usize, table: &[u8; 32]) -> [LevelPa
 {
     let mut out = no_weights();
     let mut rest = s;
-    let mut i: usize = 0;
-    while i < n {
+    for i in (0..n).step_by(3) {
         let word = bits::word_at(rest, 0);
         let g = reading::quint_group(word, b);
         let p0 = quantization::weight_point(table, Stored((g % 256) as u8));
@@ -94,7 +89,6 @@ fn read_quints(s: PhysicalBlock, b: u32, n: usize, table: &[u8; 32]) -> [LevelPa
             out[i + 2] = p2;
         }
         rest = bits::later(rest, 3 * b + 7);
-        i += 3;
     }
     out
 }
@@ -128,12 +122,10 @@ pub fn paired(weights: [LevelPair; 64], count: usize) -> [LevelPair; 64]
     ensures { result ≡ paired_of weights count }
 {
     let mut out = no_weights();
-    let mut i: usize = 0;
-    while i < count {
+    for i in 0..count {
         let first = weights[2 * i];
         let second = weights[2 * i + 1];
         out[i] = LevelPair(first.0 % 256 + 65536 * (second.0 % 256));
-        i += 1;
     }
     out
 }

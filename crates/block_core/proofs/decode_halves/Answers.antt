@@ -6,7 +6,6 @@ use Rattle.block_fault.specs.declared.Settings.{Settings}
 use Rattle.block_fault.proofs.Sound.{coded_counts, coded_limits, void_read, coded_read}
 use Rattle.block_core.specs.inner.Prepared.{halves}
 use Rattle.block_core.proofs.Shows.{painted_into, shows_fault, shows_void, shows_coded, flat_grid_lem}
-use borrow.Author.Rules.{rules}
 use Rattle.block_core.proofs.decode_halves.Goals as goal
 
 pub paint_coded-requires-clause-grid_bound : goal.paint_coded-requires-clause-grid_bound

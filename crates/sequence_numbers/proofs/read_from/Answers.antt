@@ -1,5 +1,4 @@
 use Rattle.integer_sequence.proofs.Groups.{narrow, narrow_bits, narrow_trits, narrow_quints}
-use borrow.Author.Rules.{rules}
 use Rattle.sequence_numbers.proofs.read_from.Goals as goal
 
 pub bits_from-requires : goal.bits_from-requires

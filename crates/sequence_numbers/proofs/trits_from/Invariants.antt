@@ -1,11 +1,7 @@
-use mathlib.Core.Path.{refl}
 use Prim.Native.Nat.{◌-◌}
-use native.Mathlib.Omega.{arith}
 use Rattle.bits.specs.Block.{block_number}
 use Rattle.encoding.specs.declared.Encoding.TheVariants.{Trits}
-use Rattle.encoding.specs.Encoding.{sequence_bits}
-use Rattle.integer_sequence.proofs.Groups.{trits_narrow}
-use Rattle.sequence_numbers.proofs.Alone.{Got, got_place, got_first, got_near, got_room, got_more, got_all}
+use Rattle.sequence_numbers.proofs.Alone.{Got}
 use Rattle.sequence_numbers.proofs.trits_from.Given as goal
 
 abbrev pub invariant-loop-have : goal.invariant-loop-have

@@ -1,20 +1,8 @@
-use mathlib.Core.Path.{◌≡◌, refl, sym, ap, ◌∙◌}
-use mathlib.Core.List.{List}
-use Prim.Native.Nat.{ℕ, ◌+◌, ◌-◌, ◌*◌, ◌/◌, ◌%◌, ◌^◌, ◌≤◌, ◌<◌}
-use native.Mathlib.Nat.{div-one}
-use native.Mathlib.Omega.{arith}
-use borrow.Author.Rules.{rules}
 use Rattle.bits.specs.Block.{block_number}
 use Rattle.encoding.specs.declared.Encoding.TheVariants.{Bits}
-use Rattle.encoding.specs.Encoding.{sequence_bits}
-use Rattle.integer_sequence.proofs.Groups.{number_bits}
-use Rattle.integer_sequence.proofs.Turns.{Turn, turn_first, turn_number, put, turn_next, turn_last}
-use Rattle.weight_reader.specs.inner.Weights.{no_levels, point_by, by_table}
-use Rattle.weight_reader.proofs.Weights.{few, looked_up}
+use Rattle.integer_sequence.proofs.Turns.{Turn}
+use Rattle.weight_reader.specs.inner.Weights.{no_levels, point_by}
 use Rattle.weight_reader.proofs.read_bits.Given as goal
 
 abbrev pub invariant-loop-i : goal.invariant-loop-i
-invariant-loop-i l = (l.i ≤ l.n) × Turn (point_by l.table) no_levels Bits l.b (block_number l.initial.rest) l.n l.i l.out l.rest
-
-abbrev pub decreases-loop-i : goal.decreases-loop-i
-decreases-loop-i l = l.n - l.i
+invariant-loop-i l = Turn (point_by l.table) no_levels Bits l.b (block_number l.initial.rest) l.n l.i l.out l.rest

@@ -1,11 +1,10 @@
 use mathlib.Core.Logic.{inl, inr}
-use mathlib.Core.Path.{◌≡◌, refl, sym, ap, ◌∙◌}
+use mathlib.Core.Path.{◌≡◌, refl}
 use mathlib.Core.List.{List}
-use Prim.Native.Nat.{ℕ, ◌+◌, ◌-◌, ◌*◌, ◌/◌, ◌%◌, ◌^◌, ◌≤◌, ◌<◌}
+use Prim.Native.Nat.{ℕ, ◌+◌, ◌*◌, ◌/◌, ◌%◌, ◌^◌, ◌≤◌, ◌<◌}
 use native.Mathlib.Nat.{div-one}
 use native.Mathlib.Omega.{arith}
 use lib.ListN.{get_or, set}
-use borrow.Author.Rules.{rules}
 use Rattle.bits.specs.Block.{block_number}
 use Rattle.encoding.specs.declared.Encoding.TheVariants.{Trits}
 use Rattle.encoding.specs.declared.LevelPair.{LevelPair}
@@ -39,10 +38,10 @@ module _ (c : After-later-rest) where
   unfolding sequence_bits
   element k m h e f =
       looked_up table Trits _ _ m (few 3 _ 3 (omega arith) (omega arith))
-      (turn_element (point_by table) no_levels Trits _ _ _ (trits_narrow _ (omega arith)) (omega arith) c.word_at-word.ensures c.loop-i.invariant.1 c.trit_group-g.ensures k h e) f
+      (turn_element (point_by table) no_levels Trits _ _ _ (trits_narrow _ (omega arith)) (omega arith) c.word_at-word.ensures c.loop-i.invariant c.trit_group-g.ensures k h e) f
 
   first : set c.loop-i.out at c.weight_point-p0.result ≡ up_to 1
-  first = put (point_by table) no_levels Trits _ _ _ (omega arith) c.loop-i.invariant.1.done (element 0 _ (omega arith) (omega arith) (rw (div-one c.trit_group-g.result) c.weight_point-p0.ensures)) refl (omega arith) refl
+  first = put (point_by table) no_levels Trits _ _ _ (omega arith) c.loop-i.invariant.done (element 0 _ (omega arith) (omega arith) (rw (div-one c.trit_group-g.result) c.weight_point-p0.ensures)) refl (omega arith) refl
 
 second : (c : After-later-rest) → c.if-i-n.out ≡ up_to c 2
 second c = let d = c in
@@ -60,13 +59,21 @@ fifth : (c : After-later-rest) → c.if-i-n-4.out ≡ up_to c 5
 fifth c = let d = c in
     put_if (point_by (table c)) no_levels Trits _ _ _ (λ p. p) (λ q. q) (room c) (fourth c) (element c 4 _ (omega arith) refl d.weight_point-p4.ensures) (omega arith) (elim c.if-i-n-4.branch [ then-i-n-4 w ↦ inl (w.if-i-n-4.true, w.out-is) | else-i-n-4 w ↦ inr (w.if-i-n-4.false, w.out-is) ])
 
+-- the turn after this one
+next : (c : After-later-rest) → Turn (point_by (table c)) no_levels Trits c.args.b (block_number c.args.s) c.args.n (at c + 5) c.if-i-n-4.out c.later-rest.result
+unfolding sequence_bits
+next c = turn_next (point_by (table c)) no_levels Trits _ _ _ c.loop-i.invariant (omega arith) (fifth c) c.later-rest.ensures
+
 pub loop-i-init : goal.loop-i-init
-loop-i-init c = (omega arith, turn_first _ _ Trits _ _ _ c.no_weights-out.ensures refl)
+loop-i-init c = turn_first _ _ Trits _ _ _ c.no_weights-out.ensures refl
 
 pub loop-i-preserved : goal.loop-i-preserved
-unfolding sequence_bits
-loop-i-preserved c = (omega arith, turn_next (point_by (table c)) no_levels Trits _ _ _ c.loop-i.invariant.1 (omega arith) (fifth c) c.later-rest.ensures)
+loop-i-preserved c = next c.before
+
+pub returns-after-i-n-4 : goal.returns-after-i-n-4
+unfolding by_table
+returns-after-i-n-4 c = turn_last _ _ Trits _ _ _ (omega arith) (next c.before)
 
 pub returns : goal.returns
 unfolding by_table
-returns c = turn_last _ _ Trits _ _ _ (omega arith) c.loop-i.invariant.1
+returns c = turn_last _ _ Trits _ _ _ (omega arith) c.loop-i.invariant

@@ -1,6 +1,5 @@
 use native.Mathlib.Omega.{arith}
 use Rattle.integer_sequence.proofs.Groups.{narrow, narrow_bits, narrow_trits, narrow_quints}
-use borrow.Author.Rules.{rules}
 use Rattle.integer_sequence.proofs.reading.read.Goals as goal
 
 pub read_bits-requires : goal.read_bits-requires

@@ -1,7 +1,7 @@
 use mathlib.Core.Logic.{inl, inr}
 use mathlib.Core.Path.{◌≡◌, refl, sym, ap, ◌∙◌}
 use mathlib.Core.List.{List}
-use Prim.Native.Nat.{ℕ, ◌+◌, ◌-◌, ◌*◌, ◌/◌, ◌%◌, ◌^◌, ◌≤◌, ◌<◌}
+use Prim.Native.Nat.{ℕ, ◌+◌, ◌*◌, ◌/◌, ◌%◌, ◌^◌, ◌<◌}
 use native.Mathlib.Nat.{div-one}
 use native.Mathlib.Omega.{arith}
 use lib.ListN.{set}
@@ -13,7 +13,7 @@ use Rattle.integer_sequence.specs.Reading.{number, numbers, stored}
 use Rattle.integer_sequence.proofs.Groups.{quints_narrow}
 use Rattle.integer_sequence.proofs.Turns.{so_far, Turn, turn_first, turn_element, put, put_if, turn_next, turn_last}
 use Rattle.integer_sequence.proofs.reading.read_quints.Goals as goal
-use Rattle.integer_sequence.proofs.reading.read_quints.Goals.{After-quint_group-g, Joined-i-n, Joined-i-n-2, else-i-n, else-i-n-2, then-i-n, then-i-n-2}
+use Rattle.integer_sequence.proofs.reading.read_quints.Goals.{After-later-rest, After-quint_group-g, Joined-i-n, Joined-i-n-2, else-i-n, else-i-n-2, then-i-n, then-i-n-2}
 
 module _ (c : After-quint_group-g) where
   -- the numbers before the turn, and the first k of the group
@@ -22,10 +22,10 @@ module _ (c : After-quint_group-g) where
 
   element : (k m : ℕ) → k < 3 → m ≡ c.loop-i.i + k → c.quint_group-g.result / 2 ^ (8 * k) % 256 ≡ number Quints c.args.b (block_number c.args.s) m
   unfolding sequence_bits
-  element k m h e = turn_element stored (stored 0) Quints _ _ _ (quints_narrow _ (omega arith)) (omega arith) c.word_at-word.ensures c.loop-i.invariant.1 c.quint_group-g.ensures k h e
+  element k m h e = turn_element stored (stored 0) Quints _ _ _ (quints_narrow _ (omega arith)) (omega arith) c.word_at-word.ensures c.loop-i.invariant c.quint_group-g.ensures k h e
 
   first : set c.loop-i.out c.loop-i.i (stored (c.quint_group-g.result % 256)) ≡ up_to 1
-  first = put stored (stored 0) Quints _ _ _ (omega arith) c.loop-i.invariant.1.done (ap (λ (x : ℕ). stored (x % 256)) (sym (div-one _)) ∙ ap stored (element 0 _ (omega arith) (omega arith))) refl (omega arith) refl
+  first = put stored (stored 0) Quints _ _ _ (omega arith) c.loop-i.invariant.done (ap (λ (x : ℕ). stored (x % 256)) (sym (div-one _)) ∙ ap stored (element 0 _ (omega arith) (omega arith))) refl (omega arith) refl
 
 second : (c : Joined-i-n) → c.if-i-n.out ≡ up_to c.before 2
 second c = put_if stored (stored 0) Quints _ _ _ (λ p. p) (λ q. q) (omega arith) (first c.before) (ap stored (element c.before 1 _ (omega arith) refl)) (omega arith) (elim c.if-i-n.branch [ then-i-n w ↦ inl (w.if-i-n.true, w.out-is) | else-i-n w ↦ inr (w.if-i-n.false, w.out-is) ])
@@ -33,13 +33,21 @@ second c = put_if stored (stored 0) Quints _ _ _ (λ p. p) (λ q. q) (omega arit
 third : (c : Joined-i-n-2) → c.if-i-n-2.out ≡ up_to c.before.before 3
 third c = put_if stored (stored 0) Quints _ _ _ (λ p. p) (λ q. q) (omega arith) (second c.before) (ap stored (element c.before.before 2 _ (omega arith) refl)) (omega arith) (elim c.if-i-n-2.branch [ then-i-n-2 w ↦ inl (w.if-i-n-2.true, w.out-is) | else-i-n-2 w ↦ inr (w.if-i-n-2.false, w.out-is) ])
 
+-- the turn after this one
+next : (c : After-later-rest) → Turn stored (stored 0) Quints c.args.b (block_number c.args.s) c.args.n (c.loop-i.i + 3) c.if-i-n-2.out c.later-rest.result
+unfolding sequence_bits
+next c = turn_next stored (stored 0) Quints _ _ _ c.loop-i.invariant (omega arith) (third c.before) c.later-rest.ensures
+
 pub loop-i-init : goal.loop-i-init
-loop-i-init c = (omega arith, turn_first stored (stored 0) Quints _ _ _ c.no_numbers-out.ensures refl)
+loop-i-init c = turn_first stored (stored 0) Quints _ _ _ c.no_numbers-out.ensures refl
 
 pub loop-i-preserved : goal.loop-i-preserved
-unfolding sequence_bits
-loop-i-preserved c = (omega arith, turn_next stored (stored 0) Quints _ _ _ c.loop-i.invariant.1 (omega arith) (third c.before) c.later-rest.ensures)
+loop-i-preserved c = next c.before
+
+pub returns-after-i-n-2 : goal.returns-after-i-n-2
+unfolding numbers
+returns-after-i-n-2 c = turn_last stored (stored 0) Quints _ _ _ (omega arith) (next c.before)
 
 pub returns : goal.returns
 unfolding numbers
-returns c = turn_last stored (stored 0) Quints _ _ _ (omega arith) c.loop-i.invariant.1
+returns c = turn_last stored (stored 0) Quints _ _ _ (omega arith) c.loop-i.invariant
