@@ -90,9 +90,12 @@ module _ (fp : ℕ) (s : List ℕ) where
     go false true q r = eqb-true _ _ q
 
   -- otherwise the bytes are sixteen, and their number is read
-  pub passed_reading : Bytes s → 0 ≡ read_refusal fp (length s) → {B : ℕ} → B ≡ field (number_of s) 0 128 → reading_in fp B ≡ reading_of fp s
+  pub whole_reading : 0 ≡ read_refusal fp (length s) → reading_in fp (number_of s) ≡ reading_of fp s
   unfolding reading_of
-  passed_reading bytes e q = ap (reading_in fp) (q ∙ loaded s bytes (sixteen (sym e))) ∙ rw (eq-eqb _ 0 (sym e))
+  whole_reading e = rw (eq-eqb _ 0 (sym e))
+
+  pub passed_reading : Bytes s → 0 ≡ read_refusal fp (length s) → {B : ℕ} → B ≡ field (number_of s) 0 128 → reading_in fp B ≡ reading_of fp s
+  passed_reading bytes e q = ap (reading_in fp) (q ∙ loaded s bytes (sixteen (sym e))) ∙ whole_reading e
 
   -- 01's number of the answer
   number_told_lem : number_told (reading_of fp s).answer ≡ read_told fp s

@@ -148,10 +148,8 @@ fn first_18(xs: [Stored; 64]) -> [Stored; 18]
     ensures { result ≡ tab (λ i. get_or xs i (stored 0)) 18 }
 {
     let mut out = [Stored(0); 18];
-    let mut i: usize = 0;
-    while i < 18 {
+    for i in 0..18 {
         out[i] = xs[i];
-        i += 1;
     }
     out
 }

@@ -104,12 +104,10 @@ fn modes_code(h: BlockHeader) -> u64
     let count = h.partitions as u32;
     let mut classes: u64 = 0;
     let mut lows: u64 = 0;
-    let mut i: u32 = 0;
-    while i < count {
+    for i in 0..count {
         let m = wide(modes[i as usize]);
         classes = class_bit(selector, m) * power(i) + classes;
         lows = (m % 4) * power(2 * i) + lows;
-        i += 1;
     }
     lows * power(count) + classes
 }
@@ -159,11 +157,8 @@ fn lengthened(xs: [Stored; 18]) -> [Stored; 64]
     ensures { result ≡ padded 64 18 (λ i. get_or xs i (stored 0)) (stored 0) }
 {
     let mut out = no_numbers();
-    let mut i: usize = 0;
-    while i < 18 {
-        let x = xs[i];
-        out[i] = x;
-        i += 1;
+    for i in 0..18 {
+        out[i] = xs[i];
     }
     out
 }

@@ -6,7 +6,4 @@ use Rattle.laws.specs.Choice.{all}
 use Rattle.symbolic_numbers.proofs.endpoints_fit.Given as goal
 
 abbrev pub invariant-loop-i : goal.invariant-loop-i
-invariant-loop-i l = (l.i ≤ 18) × (length l.numbers ≡ 107) × (l.ok ≡ all (λ k. leb (get_or l.numbers (21 + k) 0) 255) l.i)
-
-abbrev pub decreases-loop-i : goal.decreases-loop-i
-decreases-loop-i l = 18 - l.i
+invariant-loop-i l = (l.ok ≡ all (λ k. leb (get_or l.numbers (21 + k) 0) 255) l.i)

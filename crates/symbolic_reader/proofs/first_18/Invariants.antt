@@ -5,7 +5,4 @@ use Rattle.integer_sequence.specs.Reading.{stored}
 use Rattle.symbolic_reader.proofs.first_18.Given as goal
 
 abbrev pub invariant-loop-i : goal.invariant-loop-i
-invariant-loop-i l = (l.i ≤ 18) × Filling (λ k. get_or l.xs k (stored 0)) (stored 0) 18 l.out l.i
-
-abbrev pub decreases-loop-i : goal.decreases-loop-i
-decreases-loop-i l = 18 - l.i
+invariant-loop-i l = Filling (λ k. get_or l.xs k (stored 0)) (stored 0) 18 l.out l.i

@@ -7,8 +7,5 @@ use Rattle.symbolic_writer.proofs.modes_code.Given as goal
 
 abbrev pub invariant-loop-i : goal.invariant-loop-i
 invariant-loop-i l =
-    (l.i ≤ l.count) × (l.classes ≡ stream (λ j. j) (λ j. class_bit l.selector (get_or l.modes j 0)) l.i) × (l.lows ≡ stream (λ j. 2 * j) (λ j. get_or l.modes j 0 % 4) l.i)
+    (l.classes ≡ stream (λ j. j) (λ j. class_bit l.selector (get_or l.modes j 0)) l.i) × (l.lows ≡ stream (λ j. 2 * j) (λ j. get_or l.modes j 0 % 4) l.i)
     × (l.classes ≤ 256 * l.i) × (l.lows ≤ 768 * l.i)
-
-abbrev pub decreases-loop-i : goal.decreases-loop-i
-decreases-loop-i l = l.count - l.i
