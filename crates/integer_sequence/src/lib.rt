@@ -1,6 +1,7 @@
 // Packed numbers (000: integer sequence encoding) read from a block. Crate sequence_writer writes them.
 #![tactic(auto)]
 
+pub mod group;
 pub mod reading;
 pub mod tables;
 
