@@ -20,7 +20,8 @@ fn no_weights() -> [LevelPair; 64]
     [LevelPair(0); 64]
 }
 
-// The levels of the first n numbers of the sequence s by a table, group by group; the last group may be cut.
+// The levels of the first n numbers of the sequence s by a table, group by group; the last group may be cut. `integer_sequence` keeps the
+// numbers themselves in such a loop: one for both would fill an array of a type parameter, of which no size is known.
 fn read_groups<G: Group>(s: PhysicalBlock, b: u32, n: usize, table: &[u8; 32]) -> [LevelPair; 64]
     requires { (radix G.form * 2 ^ b ≤ 32) × (n ≤ 64) }
     ensures { result ≡ by_table table.now G.form b (block_number s) n }
