@@ -1,4 +1,4 @@
-// One texel of a block (02, f), its picture not unpacked: the settings are read once, then the weights around the texel's place, its
+// One texel of a block, its picture not unpacked: the settings are read once, then the weights around the texel's place, its
 // partition, and that partition's endpoint numbers.
 #![tactic(auto)]
 

@@ -1,5 +1,4 @@
-// The bits of the groups of a sequence (000: integer sequence encoding; 01, "Packed numbers"), each with the smallest code whose present
-// digits are the wanted ones.
+// The bits of the groups of a sequence, each with the smallest code whose present digits are the wanted ones.
 #![tactic(auto)]
 
 ghost use Rattle.std.specs.Prelude.{◌≡◌, [], ◌∷◌, map, ◌+◌, ◌*◌, ◌/◌, ◌%◌, ◌^◌, ◌≤◌, ◌<◌, get_or, take, drop};

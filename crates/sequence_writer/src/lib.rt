@@ -1,4 +1,4 @@
-// Writing packed numbers (000: integer sequence encoding; 01, "Packed numbers") into a block.
+// Writing packed numbers into a block.
 #![tactic(auto)]
 
 ghost use Rattle.std.specs.Prelude.{◌≡◌, ◌≤◌, min, take};
@@ -37,6 +37,7 @@ fn write_trits(block: PhysicalBlock, from: u32, b: u32, xs: [Stored; 64], n: usi
     out
 }
 
+// Beside write_trits: the tables that are lent have 243 and 125 entries, and a trait over both with its impls is longer than this loop.
 fn write_quints(
     block: PhysicalBlock,
     from: u32,

@@ -74,7 +74,8 @@ fn byte_word(t: Texel) -> u32
     r + 256 * g + 65536 * b + 16777216 * a
 }
 
-// The four bytes of a number at place i, as one store.
+// The four bytes of a number at place i, as one store. From here on bytes stand beside 16-bit numbers: `Pasted` speaks of lists of numbers,
+// and the elements of a slice of a type parameter are none.
 fn put_bytes(out: &mut [u8], i: usize, w: u32)
     requires { i + 4 ≤ length out.old }
     ensures { out.new ≡ put_four out.old i (w % 256) (w / 256 % 256) (w / 65536 % 256) (w / 16777216) }

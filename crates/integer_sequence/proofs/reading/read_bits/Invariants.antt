@@ -1,8 +1,0 @@
-use Rattle.bits.specs.Block.{block_number}
-use Rattle.encoding.specs.declared.Encoding.TheVariants.{Bits}
-use Rattle.integer_sequence.specs.Reading.{stored}
-use Rattle.integer_sequence.proofs.Turns.{Turn}
-use Rattle.integer_sequence.proofs.reading.read_bits.Given as goal
-
-abbrev pub invariant-loop-i : goal.invariant-loop-i
-invariant-loop-i l = Turn stored (stored 0) Bits l.b (block_number l.initial.rest) l.n l.i l.out l.rest
