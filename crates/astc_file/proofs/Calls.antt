@@ -1,7 +1,7 @@
 -- What the calls promise, in their two events.
 -- Assumes nothing.
 use Prim.Native.Nat.{ℕ, ◌-◌, ◌≤◌}
-use mathlib.Core.Path.{◌≡◌, refl, sym, ◌∙◌}
+use mathlib.Core.Path.{◌≡◌, refl}
 use mathlib.Core.List.{List}
 use lib.ListN.{length, take, drop}
 use borrow.Author.Tests.{ne_eqb}
@@ -15,7 +15,7 @@ use Rattle.image_layout.specs.Call.{told_of}
 use Rattle.block_reading.specs.declared.Reading.TheVariants.{Ordinary}
 use Rattle.image_layout.proofs.Calls.{Promised}
 use Rattle.astc_header.specs.declared.FileHeader.{FileHeader}
-use Rattle.astc_header.specs.Header.{header_in, header_answer, header_refusal}
+use Rattle.astc_header.specs.Header.{header_answer, header_refusal}
 use Rattle.astc_header.proofs.Refusals.{stopped, passed, part_all, taken}
 use Rattle.astc_file.specs.File.{file_answer, file_told, file_out}
 

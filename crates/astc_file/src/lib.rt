@@ -51,8 +51,6 @@ pub fn decode_file_srgb8(file: &[u8], out: &mut [u8]) -> ImageAnswer
 {
     match astc_header::read_header(file) {
         Err(refusal) => ImageAnswer::Refused(refusal.into()),
-        Ok(h) => {
-            image::decode_image_srgb8(h.footprint, h.width, h.height, &file[16..], out)
-        }
+        Ok(h) => { image::decode_image_srgb8(h.footprint, h.width, h.height, &file[16..], out) }
     }
 }

@@ -1,4 +1,3 @@
-use mathlib.Core.Path.{◌≡◌}
 use Rattle.interpolation.specs.declared.Kind.TheVariants.{Srgb8}
 use borrow.Author.Rules.{rules}
 use Rattle.astc_file.proofs.Calls.{file_refused, file_decoded, long, behind}

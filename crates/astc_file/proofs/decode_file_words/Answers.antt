@@ -1,4 +1,3 @@
-use mathlib.Core.Path.{◌≡◌}
 use borrow.Author.Rules.{rules}
 use Rattle.astc_file.proofs.Calls.{file_refused, file_decoded, long, behind}
 use Rattle.astc_file.proofs.decode_file_words.Goals as goal
