@@ -51,7 +51,7 @@ fn own_refusal(footprint: u8, kind: u8, width: u32, height: u32) -> u8
     if kind > 2 {
         return 2;
     }
-    image_size::size_refusal(footprint, width, height)
+    reason::refusal_told(image_size::check_size(footprint, width, height))
 }
 
 // Of a frame that is read, n being the length that its bytes tell.

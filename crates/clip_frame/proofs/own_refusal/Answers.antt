@@ -11,4 +11,4 @@ returns-then-kind-gt2 c = let a = c.args in sym (own_2 a.footprint a.kind a.widt
 
 pub returns : goal.returns
 returns c = let a = c.args in
-    c.size_refusal.ensures ∙ sym (own_3 a.footprint a.kind a.width a.height c.if-footprint-gt13.false c.if-kind-gt2.false)
+    c.refusal_told.ensures ∙ c.check_size.ensures ∙ sym (own_3 a.footprint a.kind a.width a.height c.if-footprint-gt13.false c.if-kind-gt2.false)
