@@ -12,11 +12,7 @@ use interpolation::Kind;
 use reason::Refusal;
 
 // A file in a kind of 16-bit numbers: kinds 0 and 2.
-pub fn decode_file_words(
-    kind: Kind,
-    file: &[u8],
-    out: &mut [u16],
-) -> Result<Tally, Refusal>
+pub fn decode_file_words(kind: Kind, file: &[u8], out: &mut [u16]) -> Result<Tally, Refusal>
     requires { Words kind }
     ensures answer { file_answer kind file.now (length out.old) result }
     ensures told { told_of result ≡ file_told kind file.now (length out.old) }

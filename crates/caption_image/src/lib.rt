@@ -97,12 +97,7 @@ pub fn caption_image(
 }
 
 // One block over lent lists, refused where a list is not of sixteen.
-pub fn caption_into(
-    e0: u8,
-    e1: u8,
-    wanted: &[u8],
-    block: &mut [u8],
-) -> Result<(), Refusal>
+pub fn caption_into(e0: u8, e1: u8, wanted: &[u8], block: &mut [u8]) -> Result<(), Refusal>
     ensures value { refusal_told result ≡ caption_block_refusal (length block.old) (length wanted.now) }
     ensures block_after { block.new ≡ caption_block_out e0 e1 wanted.now block.old }
 {
