@@ -33,13 +33,6 @@ pub fn check_size(footprint: u8, width: u32, height: u32) -> Result<(), Refusal>
     Ok(())
 }
 
-// Refusals 1 and 3, 0 for none.
-pub fn size_refusal(footprint: u8, width: u32, height: u32) -> u8
-    ensures { result ≡ size_refusal footprint width height }
-{
-    reason::refusal_told(check_size(footprint, width, height))
-}
-
 // A quotient by the side of a block: by each side of a flat footprint the compiler makes it a product, which takes less time.
 fn quotient(n: u32, side: u8) -> u32
     requires { 0 < side }

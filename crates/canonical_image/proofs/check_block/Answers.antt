@@ -1,5 +1,5 @@
 use Rattle.canonical_image.proofs.Laws.{one_1, one_4, one_5, one_none}
-use Rattle.canonical_image.proofs.one_refusal.Goals as goal
+use Rattle.canonical_image.proofs.check_block.Goals as goal
 
 pub returns-then-fp-gt23 : goal.returns-then-fp-gt23
 returns-then-fp-gt23 c = one_1 _ _ _ c.if-fp-gt23.true
