@@ -5,6 +5,7 @@
 ghost use Rattle.std.specs.Prelude.{◌≡◌, false, ◌+◌, ◌^◌, ◌≤◌, ◌<◌, ltb, get_or};
 ghost use Rattle.laws.specs.Choice.{both, all};
 ghost use Rattle.laws.specs.Table.{tab};
+ghost use Rattle.reason.specs.Numbers.{refusal_told};
 ghost use Rattle.bits.specs.Field.{field, stream};
 ghost use Rattle.bits.specs.Block.{block_number};
 ghost use Rattle.bc7_layout.specs.Modes.{subsets};
@@ -19,6 +20,7 @@ ghost use Rattle.bc7_codec.specs.inner.Pieces.{FieldsFit};
 
 use bc7_block::Bc7Block;
 use bits::PhysicalBlock;
+use reason::Refusal;
 
 // The plan of partition p of a mode.
 fn plan_for(m: u8, p: u8) -> u64
@@ -177,19 +179,19 @@ fn all_fit(f: [u8; 60], m: u8, p: u8, plan: u64) -> bool
     ok
 }
 
-// 72, 73, or 0 for none.
-pub fn refusal(s: Bc7Block) -> u8
-    ensures { result ≡ refusal_of s }
+// Refuses a mode above 7, then a field that does not fit its bits.
+pub fn check(s: Bc7Block) -> Result<(), Refusal>
+    ensures { refusal_told result ≡ refusal_of s }
 {
     if 7 < s.mode {
-        return 72;
+        return Err(Refusal::Bc7Mode);
     }
     let f = fields_of(s);
     let plan = plan_for(s.mode, s.partition);
     if all_fit(f, s.mode, s.partition, plan) {
-        return 0;
+        return Ok(());
     }
-    73
+    Err(Refusal::Bc7Field)
 }
 
 fn no_bits() -> PhysicalBlock

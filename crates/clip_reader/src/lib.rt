@@ -132,17 +132,9 @@ fn check(c: Clip, s: [u8; 16]) -> Step
     ensures { result ≡ checked c s }
 {
     let f = clip_frame::frame_in(s);
-    let n = clip_frame::frame_refusal(
-        f.footprint,
-        f.kind,
-        f.width,
-        f.height,
-        clip_frame::length_in(s),
-    );
-    if n == 0 {
-        quiet(begin(c, f))
-    } else {
-        stop(c, n)
+    match clip_frame::check_frame(f, clip_frame::length_in(s)) {
+        Ok(()) => quiet(begin(c, f)),
+        Err(refusal) => stop(c, refusal.into()),
     }
 }
 
@@ -267,18 +259,14 @@ fn go_on(c: Clip, piece: &[u8]) -> Fed
     ensures { result ≡ go_on c piece.now }
 {
     let mut clip = c;
-    let mut i: usize = 0;
-    while i < piece.len() {
-        let t = byte_step(clip, piece[i]);
-        i += 1;
-        let e = t.event;
-        if is_handed(e) {
-            return fed_by(t, i);
+    for (i, b) in piece.iter().enumerate() {
+        let t = byte_step(clip, *b);
+        if is_handed(t.event) {
+            return fed_by(t, i + 1);
         }
-        let k = t.clip;
-        clip = k;
+        clip = t.clip;
     }
-    fed_by(quiet(clip), i)
+    fed_by(quiet(clip), piece.len())
 }
 
 // The first sixteen bytes of a piece.

@@ -69,13 +69,6 @@ fn event<W: Write>(output: &mut W, e: Event, f: Frame, of: [u8; 16], at: usize) 
     }
 }
 
-fn min(a: usize, b: usize) -> usize
-    ensures first { result ≤ a }
-    ensures second { result ≤ b }
-{
-    if a < b { a } else { b }
-}
-
 // What is left of a piece, or the next one.
 fn rest_of(left: usize, taken: usize, cut: usize) -> usize {
     if taken < left { left - taken } else { cut }
@@ -172,13 +165,15 @@ fn write<W: Write>(
     blocks: &[u8],
     out: &mut [u8],
 ) -> io::Result<()> {
-    let n = clip_writer::write_frame(footprint, kind, width, height, blocks, out);
-    if n == 0 {
-        output.write_all(b"frame")?;
-        bytes(output, out)
-    } else {
-        word(output, b"refused ", n as u64)?;
-        end_line(output)
+    match clip_writer::write_frame(footprint, kind, width, height, blocks, out) {
+        Ok(()) => {
+            output.write_all(b"frame")?;
+            bytes(output, out)
+        }
+        Err(refusal) => {
+            word(output, b"refused ", u8::from(refusal) as u64)?;
+            end_line(output)
+        }
     }
 }
 
@@ -190,7 +185,7 @@ fn two(high: u8, low: u8) -> u32
 
 // The first n bytes, as a clip.
 fn clip_record<W: Write>(output: &mut W, all: &[u8], n: usize) -> io::Result<()> {
-    let m = min(n, all.len());
+    let m = n.min(all.len());
     read(output, &all[0..m])
 }
 
@@ -206,8 +201,8 @@ fn frame_record<W: Write>(
     out: &mut [u8],
     room: usize,
 ) -> io::Result<()> {
-    let m = min(n, all.len());
-    let k = min(room, out.len());
+    let m = n.min(all.len());
+    let k = room.min(out.len());
     write(
         output,
         footprint,

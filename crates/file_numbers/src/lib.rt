@@ -34,7 +34,7 @@ pub fn file_words(kind: Kind, file: &[u8], out: &mut [u16], tally: &mut [u64]) -
     }
     let answer = astc_file::decode_file_words(kind, file, out);
     image_numbers::put_tally(image_numbers::tally_told(answer), tally);
-    image_numbers::refusal_told(answer)
+    reason::refusal_told(answer)
 }
 
 // A whole file in kind 1, with its tally.
@@ -48,5 +48,5 @@ pub fn file_srgb8(file: &[u8], out: &mut [u8], tally: &mut [u64]) -> u8
     }
     let answer = astc_file::decode_file_srgb8(file, out);
     image_numbers::put_tally(image_numbers::tally_told(answer), tally);
-    image_numbers::refusal_told(answer)
+    reason::refusal_told(answer)
 }

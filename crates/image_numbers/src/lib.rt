@@ -14,13 +14,7 @@ use interpolation::Kind;
 use reason::Refusal;
 
 // The first refusal of an image call, else 5.
-pub fn refusal_or_5(
-    footprint: u8,
-    width: u32,
-    height: u32,
-    bytes: usize,
-    places: usize,
-) -> Refusal
+pub fn refusal_or_5(footprint: u8, width: u32, height: u32, bytes: usize, places: usize) -> Refusal
     ensures { refusal_number result ≡ refusal_or5 (image_refusal footprint width height bytes places) }
 {
     match image_layout::check_image(footprint, width, height, bytes, places) {

@@ -1,7 +1,7 @@
 -- Making and asking, test by test.
 -- Assumes nothing.
 use mathlib.Core.Path.{◌≡◌, refl, sym, ap, ◌∙◌}
-use mathlib.Core.Bool.{Bool, true, false, not}
+use mathlib.Core.Bool.{Bool, true, false, not, true≢false}
 use mathlib.Core.List.{List, [], ◌∷◌}
 use Prim.Native.Nat.{ℕ, ◌+◌, ◌*◌, ◌/◌, ◌%◌, ◌≤◌, ◌<◌}
 use native.Mathlib.Decide.{ℕ_discrete}
@@ -10,7 +10,12 @@ use native.Mathlib.Omega.{arith}
 use lib.Dec.{eqb, ltb}
 use lib.ListN.{length}
 use borrow.Author.Tests.{eq-eqb, ne_eqb, lt-ltb, le-ltb}
+use Rattle.std.specs.Prelude.{Result, Ok, Err}
+use Rattle.std.specs.Result.{is_err}
 use Rattle.laws.specs.Choice.{pick, either, both}
+use Rattle.reason.specs.declared.Refusal.{Refusal}
+use Rattle.reason.specs.Numbers.{refusal_told}
+use Rattle.reason.proofs.Told.{refusal_some}
 use Rattle.laws.specs.Reasons.{when, first_of}
 use Rattle.footprint.specs.Footprint.{width_of, height_of}
 use Rattle.interpolation.specs.declared.Kind.{Kind}
@@ -158,6 +163,15 @@ module _ (fp w h : ℕ) (s : List ℕ) (kind : Kind) (x y : ℕ) where
     pub asked_inside : x < w → y < h → asked_in fp w s kind x y ≡ asked_at fp w h s kind x y
     unfolding asked_at may_ask
     asked_inside l k = rw (eq-eqb (view_refusal fp w h (length s)) 0 e, lt-ltb x w l, lt-ltb y h k)
+
+-- whether making was refused
+pub was_refused : (r : Result Unit Refusal) (n : ℕ) → refusal_told r ≡ n → is_err r ≡ true → n ≡ 0 → ⊥
+was_refused (Err refusal) n e q z = let p = refusal_some refusal in omega (arith, e, z)
+was_refused (Ok x) n e q z = true≢false (sym q)
+
+pub was_taken : (r : Result Unit Refusal) (n : ℕ) → refusal_told r ≡ n → is_err r ≡ false → n ≡ 0
+was_taken (Err refusal) n e q = absurd (true≢false q)
+was_taken (Ok x) n e q = sym e
 
 -- a view with no sides
 pub no_sides : (fp : ℕ) (s : List ℕ) (kind : Kind) (x y : ℕ) → asked_at fp 0 0 s kind x y ≡ refused_asking

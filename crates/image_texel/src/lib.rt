@@ -1,12 +1,14 @@
-// One texel of an image (02, f), asked with plain numbers and the lent blocks: a view (crate `view`) is taken apart for it.
+// One texel of an image, asked with plain numbers and the lent blocks: a view (crate `view`) is taken apart for it.
 #![tactic(auto)]
 
 ghost use Rattle.std.specs.Prelude.{◌≡◌, ◌<◌, length};
+ghost use Rattle.reason.specs.Numbers.{refusal_told};
 ghost use Rattle.image_texel.specs.Making.{view_refusal, view_sides};
 ghost use Rattle.image_texel.specs.Asking.{asked_in, asked_at, refused_asking};
 ghost use Rattle.image_texel.specs.inner.Fits.{shown_texel, Fits};
 
 use interpolation::{Kind, Texel};
+use reason::Refusal;
 
 // The sides that a view is made with, and the refusal of making it, 0 for none.
 #[derive(Clone, Copy)]
@@ -24,37 +26,33 @@ pub struct Asked {
     pub texel: Texel,
 }
 
-// Refusals 1, 3 and 4 of so many block bytes, 0 for none.
-pub fn view_refusal(bytes: usize, footprint: u8, width: u32, height: u32) -> u8
-    ensures { result ≡ view_refusal footprint width height bytes }
+// Refuses a footprint, then a side, then so many block bytes.
+pub fn check_view(bytes: usize, footprint: u8, width: u32, height: u32) -> Result<(), Refusal>
+    ensures { refusal_told result ≡ view_refusal footprint width height bytes }
 {
-    let size = image_size::size_refusal(footprint, width, height);
-    if size != 0 {
-        return size;
-    }
+    image_size::check_size(footprint, width, height)?;
     let count = image_size::blocks_of(footprint, width, height);
     if bytes != 16 * (count as usize) {
-        return 4;
+        return Err(Refusal::Bytes);
     }
-    0
+    Ok(())
 }
 
 // The sides of a view: those given, or 0 where it is refused.
 pub fn sides_for(blocks: &[u8], footprint: u8, width: u32, height: u32) -> Sides
     ensures { result ≡ view_sides (length blocks.now) footprint width height }
 {
-    let refusal = view_refusal(blocks.len(), footprint, width, height);
-    if refusal != 0 {
-        return Sides {
+    match check_view(blocks.len(), footprint, width, height) {
+        Err(refusal) => Sides {
             width: 0,
             height: 0,
-            refusal,
-        };
-    }
-    Sides {
-        width,
-        height,
-        refusal: 0,
+            refusal: refusal.into(),
+        },
+        Ok(()) => Sides {
+            width,
+            height,
+            refusal: 0,
+        },
     }
 }
 
@@ -131,7 +129,7 @@ pub fn asked_at(
 ) -> Asked
     ensures { (result ≡ asked_at footprint width height blocks.now kind x y) × Fits kind result.texel }
 {
-    if view_refusal(blocks.len(), footprint, width, height) != 0 {
+    if check_view(blocks.len(), footprint, width, height).is_err() {
         return refused_asking();
     }
     if width <= x {

@@ -284,13 +284,7 @@ pub extern "C" fn stallbrook_astc_canonical_block(footprint: u8, block: &[u8], o
 }
 
 // The first refusal of an image's rewriting, else 5.
-fn refusal_or_5(
-    footprint: u8,
-    width: u32,
-    height: u32,
-    bytes: usize,
-    places: usize,
-) -> Refusal
+fn refusal_or_5(footprint: u8, width: u32, height: u32, bytes: usize, places: usize) -> Refusal
     ensures { refusal_number result ≡ refusal_or5 (canonical_refusal footprint width height bytes places) }
 {
     match canonical_image::check_image(footprint, width, height, bytes, places) {

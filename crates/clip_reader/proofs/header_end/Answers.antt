@@ -1,6 +1,4 @@
-use Rattle.std.proofs.Common.{le-ltb, lt-ltb, eq-eqb, ne_eqb}
-use Rattle.clip_reader.proofs.header_end.Reads as reads
-use Rattle.clip_reader.proofs.header_end.Lts as lts
+use Rattle.std.proofs.Common.{eq-eqb, ne_eqb}
 use Rattle.clip_reader.proofs.header_end.Goals as goal
 
 -- src/lib.rt:401:1

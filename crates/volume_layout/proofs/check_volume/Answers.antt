@@ -56,8 +56,7 @@ returns-then-places-texels c = let k = c.before in
 pub returns : goal.returns
 returns c = let k = c.before in
     let p = k.before.before in
-    let t = p.before.before in
-    (
+    let t = p.before.before in (
       refused_none _ _ _ _ _ _ (low t) (fine t) (k.if-bytes-blocks.false ∙ ap (λ (n : ℕ). 16 * n) (blocks p)) (c.if-places-texels.false ∙ ap (λ (n : ℕ). 4 * n) (texels k)),
       p.grid_of-g.ensures,
     )

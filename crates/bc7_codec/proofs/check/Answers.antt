@@ -1,7 +1,7 @@
 use mathlib.Core.Path.{sym, ◌∙◌}
 use native.Mathlib.Omega.{arith}
 use Rattle.bc7_codec.proofs.Whole.{all_fields, refused_mode, refused_none, refused_field}
-use Rattle.bc7_codec.proofs.refusal.Goals as goal
+use Rattle.bc7_codec.proofs.check.Goals as goal
 
 pub returns-then-s-gt7 : goal.returns-then-s-gt7
 returns-then-s-gt7 c = refused_mode _ c.if-s-gt7.true

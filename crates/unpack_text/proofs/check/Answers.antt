@@ -1,6 +1,6 @@
 use borrow.Author.Tests.{eq-eqb, ne_eqb, lt-ltb, le-ltb}
 use Rattle.unpack_text.specs.Text.{program_refusal}
-use Rattle.unpack_text.proofs.refusal.Goals as goal
+use Rattle.unpack_text.proofs.check.Goals as goal
 
 pub returns-then-bytes-ne18 : goal.returns-then-bytes-ne18
 unfolding program_refusal

@@ -3,8 +3,8 @@ use mathlib.Core.Bool.{false}
 use Prim.Native.Nat.{ℕ, ◌*◌}
 use Rattle.pvrtc_texel.specs.Image.{bad_pvrtc_side}
 use Rattle.pvrtc_texel.proofs.Sides.{side_most, refused_width, refused_height, refused_bytes, refused_places, accepted}
-use Rattle.pvrtc_texel.proofs.refusal.Goals as goal
-use Rattle.pvrtc_texel.proofs.refusal.Goals.{Else-bad_side-2}
+use Rattle.pvrtc_texel.proofs.check_image.Goals as goal
+use Rattle.pvrtc_texel.proofs.check_image.Goals.{Else-bad_side-2}
 
 -- what is known past the tests of the sides
 wide : (c : Else-bad_side-2) → bad_pvrtc_side c.args.width ≡ false

@@ -1,5 +1,5 @@
 use Rattle.bc7_calls.proofs.Laws.{bytes_wrong, places_wrong, none_wrong}
-use Rattle.bc7_calls.proofs.refusal.Goals as goal
+use Rattle.bc7_calls.proofs.check.Goals as goal
 
 pub returns-then-bytes-ne16 : goal.returns-then-bytes-ne16
 returns-then-bytes-ne16 c = bytes_wrong _ _ c.if-bytes-ne16.true
