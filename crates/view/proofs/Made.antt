@@ -9,7 +9,7 @@ use denote.Ref.{Bor}
 use Rattle.interpolation.specs.declared.Kind.{Kind}
 use Rattle.image_texel.specs.declared.Asked.{Asked}
 use Rattle.image_texel.specs.declared.Sides.{Sides}
-use Rattle.image_texel.specs.Making.{view_refusal, view_sides}
+use Rattle.image_texel.specs.Making.{view_refusal}
 use Rattle.image_texel.specs.Asking.{refused_asking, asked_at}
 use Rattle.image_texel.proofs.Ask.{sides_taken, sides_refused, no_sides}
 use Rattle.view.specs.View.{view_of}

@@ -8,7 +8,7 @@ use Rattle.stallbrook_faults.proofs.stallbrook_astc_image_blocks.Goals as goal
 
 pub returns-in-Err : goal.returns-in-Err
 unfolding image_block_count
-returns-in-Err c = rw (← c.in-Err.ensures, ne_eqb _ 0 (λ z. let p = refusal_some c.in-Err.field-0 in omega arith))
+returns-in-Err c = rw (← c.in-Err.ensures, ne_eqb (refusal_number c.in-Err.field-0) 0 (λ z. let p = refusal_some c.in-Err.field-0 in omega arith))
 
 pub blocks_of-requires : goal.blocks_of-requires
 blocks_of-requires c = sym c.in-Ok.ensures
