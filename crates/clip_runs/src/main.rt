@@ -134,6 +134,7 @@ fn fed<W: Write>(output: &mut W, clip: &[u8], cut: usize) -> io::Result<()> {
     let mut c = clip_reader::fresh();
     let mut at: usize = 0;
     let mut left = cut;
+    // Kept a while: a step goes on by as many bytes as the reader takes.
     while at < clip.len() {
         let end = piece_end(at, left, clip.len());
         let place = step(output, c, clip, at, end)?;

@@ -153,12 +153,7 @@ fn show_rows(s: &[u8], xb: u32, yb: u32, out: &mut [u8])
 }
 
 // An image of words to four bytes for each texel. On a refusal nothing is written.
-pub fn decode_image(
-    width: u32,
-    height: u32,
-    words: &[u8],
-    out: &mut [u8],
-) -> Result<(), Refusal>
+pub fn decode_image(width: u32, height: u32, words: &[u8], out: &mut [u8]) -> Result<(), Refusal>
     ensures answer { refusal_told result ≡ image_refusal width height (length words.now) (length out.old) }
     ensures image { out.new ≡ image_out width height words.now out.old }
 {

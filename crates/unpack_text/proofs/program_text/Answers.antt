@@ -28,7 +28,7 @@ returns-in-Err c =
     let s = a.input.now in
     let e = ap (λ (n : ℕ). program_refusal n (get_or s 0 0) (get_or s 1 0)) c.if-input-ne18.false ∙ sym (c.into.ensures ∙ c.in-Err.ensures) in
     let it = promised s a.out.now _ _ c.if-out-ne5200.false
-        (puts_as (refused_text s _ e (λ z. omega (arith, refusal_some c.in-Err.refusal, c.into.ensures, z))) c.put_told-in-Err.ensures.puts) in
+    (puts_as (refused_text s _ e (λ z. omega (arith, refusal_some c.in-Err.refusal, c.into.ensures, z))) c.put_told-in-Err.ensures.puts) in
     record { value = it.0; out_after = it.1.0; upper_bound = it.1.1 }
 
 pub put_block-requires : goal.put_block-requires
@@ -43,7 +43,7 @@ returns-in-Ok c =
     let s = a.input.now in
     let e = ap (λ (n : ℕ). program_refusal n (get_or s 0 0) (get_or s 1 0)) c.if-input-ne18.false ∙ sym c.in-Ok.ensures in
     let it = promised s a.out.now _ _ c.if-out-ne5200.false
-        (puts_as (ap (λ k. block_text (get_or s 0 0) k (number_of (take 16 (drop 2 s)))) c.kind_of.ensures ∙ shown_text s e) c.put_block.ensures) in
+    (puts_as (ap (λ k. block_text (get_or s 0 0) k (number_of (take 16 (drop 2 s)))) c.kind_of.ensures ∙ shown_text s e) c.put_block.ensures) in
     record { value = it.0; out_after = it.1.0; upper_bound = it.1.1 }
 
 pub shape_of-out-then-input-ne18 : goal.shape_of-out-then-input-ne18

@@ -1,9 +1,9 @@
 use mathlib.Core.Path.{◌≡◌, ap, ◌∙◌}
-use Prim.Native.Nat.{ℕ, ◌-◌}
+use Prim.Native.Nat.{ℕ}
 use native.Mathlib.Omega.{arith}
 use lib.ListN.{get_or}
 use Rattle.footprint.specs.Footprint.{width_of, texels_of}
-use Rattle.footprint.proofs.Laws.{flat_bounds, texels_le}
+use Rattle.footprint.proofs.Laws.{flat_bounds}
 use Rattle.interpolation.specs.Expansion.{shown_of}
 use Rattle.line_text.specs.Lines.{texel_line, lines_of}
 use Rattle.line_text.proofs.Laws.{puts_none, puts_then, puts_as, lines_more}

@@ -1,4 +1,4 @@
-use Prim.Native.Nat.{◌+◌, ◌-◌, ◌*◌, ◌≤◌}
+use Prim.Native.Nat.{◌+◌, ◌*◌, ◌≤◌}
 use lib.ListN.{get_or}
 use Rattle.interpolation.specs.Expansion.{shown_of}
 use Rattle.line_text.specs.Lines.{texel_line, lines_of}
