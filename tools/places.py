@@ -81,6 +81,12 @@ for path, text in sources:
         fields = re.findall(r"^    (?:pub )?(\w+): (.*),", found[2], re.M)
         if len(fields) > 1 and any(it[0] in ("refusal", "fault", "answer", "number", "told", "event", "verdict") for it in fields):
             told[1].append(f"{crate}: struct {found[1]} ({', '.join(it[0] for it in fields)})")
+    inside = ""
+    for line in text.split("\n"):
+        head = HEAD.match(line)
+        inside = head[3] if head else inside
+        if re.match(r" *(?:while|loop)\b", line):
+            told[3].append(f"{crate}: {inside}: {line.strip()}")
     for name, is_public, parameters, result, clauses, body in functions(text):
         where = f"{crate}: {name}"
         is_export = "extern" in text and crate.startswith("stallbrook_")
@@ -92,8 +98,6 @@ for path, text in sources:
             bodies[normal(f"({parameters}) {body}")].append(where)
         elif re.fullmatch(r"\s*(\w+) as \w+\s*", body):
             told[4].append(f"{where}: {' '.join(body.split())}")
-        for line in re.findall(r"^ *(?:while|loop)\b.*", body, re.M):
-            told[3].append(f"{where}: {line.strip()}")
         if re.search(r"^\s*(?:if \w+ == \d+ \{\s*return \w+::\w+;\s*\}\s*){2,}", body):
             told[4].append(f"{where}: an enum of a number, by hand")
         for kind, clause in clauses:
