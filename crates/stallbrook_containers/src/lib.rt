@@ -78,7 +78,5 @@ pub extern "C" fn stallbrook_clip_write_frame(
     ensures value { result ≡ write_refusal (record { footprint = footprint; kind = kind; width = width; height = height }) (length blocks.now) (length out.old) }
     ensures out_after { out.new ≡ frame_out (record { footprint = footprint; kind = kind; width = width; height = height }) blocks.now out.old }
 {
-    reason::refusal_told(clip_writer::write_frame(
-        footprint, kind, width, height, blocks, out,
-    ))
+    reason::refusal_told(clip_writer::write_frame(footprint, kind, width, height, blocks, out))
 }
