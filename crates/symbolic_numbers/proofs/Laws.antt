@@ -169,15 +169,3 @@ module _ (fp : ℕ) (numbers old : List ℕ) where
       pub block_written : (writing_of fp (block_from numbers)).bytes ≡ write_block fp numbers old
       unfolding write_block
       block_written = rw (eq-eqb _ _ e, eq-eqb _ _ l)
-
--- the sixteen bytes written are the table of themselves
-written_length : (fp : ℕ) (s : SymbolicBlock) → length (writing_of fp s).bytes ≡ 16
-unfolding writing_of
-written_length fp s = go (eqb (refusal_of fp s) 0) where
-  go : (t : Bool) → length (pick t (wrote fp s) (wrote_nothing (refusal_of fp s))).bytes ≡ 16
-  go true = bytes_length 16 (block_of fp s)
-  go false = length_tab {A = ℕ} (λ i. 0) 16
-
-pub whole_block_lem : (fp : ℕ) (s : SymbolicBlock) → tab (λ k. get_or (writing_of fp s).bytes k 0) 16 ≡ (writing_of fp s).bytes
-unfolding Filled
-whole_block_lem fp s = sym (filled_all (λ k. get_or (writing_of fp s).bytes k 0) 0 (writing_of fp s).bytes 16 (written_length fp s) (λ k h. refl))

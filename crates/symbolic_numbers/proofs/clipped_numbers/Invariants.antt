@@ -1,6 +1,5 @@
-use mathlib.Core.Path.{◌≡◌}
-use Prim.Native.Nat.{◌-◌, ◌≤◌, min}
-use lib.ListN.{length, get_or}
+use Prim.Native.Nat.{min}
+use lib.ListN.{get_or}
 use Rattle.laws.proofs.Filling.{Filling}
 use Rattle.symbolic_numbers.proofs.clipped_numbers.Given as goal
 

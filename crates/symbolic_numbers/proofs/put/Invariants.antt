@@ -1,5 +1,4 @@
 use mathlib.Core.Path.{◌≡◌}
-use Prim.Native.Nat.{◌-◌, ◌≤◌}
 use lib.ListN.{length, get_or}
 use Rattle.symbolic_block.specs.Fields.{stored_in}
 use Rattle.symbolic_numbers.proofs.Laid.{Laid}
