@@ -1,28 +1,24 @@
 -- A symbolic block's numbers by position, and what each call comes to in each event.
 -- Assumes nothing.
-use mathlib.Core.Path.{◌≡◌, refl, sym, ap, ◌∙◌}
+use mathlib.Core.Path.{◌≡◌, refl, ap, ◌∙◌}
 use mathlib.Core.List.{List}
 use mathlib.Core.Logic.{◌⊎◌, inl, inr}
 use mathlib.Core.Bool.{Bool, true, false}
 use Prim.Native.Nat.{ℕ}
 use native.Mathlib.Omega.{arith}
 use lib.Dec.{eqb}
-use lib.ListN.{length, get_or}
+use lib.ListN.{length}
 use borrow.Author.Tests.{eq-eqb, ne_eqb}
 use Rattle.laws.specs.Choice.{pick, both}
 use Rattle.laws.specs.Table.{tab, tab_from}
-use Rattle.laws.specs.inner.Filled.{Filled}
-use Rattle.laws.proofs.Filling.{filled_all, length_tab}
-use Rattle.bits.proofs.Blocks.{bytes_length}
 use Rattle.integer_sequence.specs.Reading.{stored}
 use Rattle.block_answer.specs.Told.{number_told}
 use Rattle.spare_bits.specs.Spare.{spare_numbers}
 use Rattle.symbolic_block.specs.declared.SymbolicBlock.{SymbolicBlock}
 use Rattle.symbolic_block.specs.Fields.{colour_in, extent_in, mode_in, endpoint_in, weight_in, Sized}
-use Rattle.symbolic_block.specs.Refusals.{unknown_footprint, refusal_of}
-use Rattle.symbolic_block.specs.Writing.{block_of}
+use Rattle.symbolic_block.specs.Refusals.{unknown_footprint}
 use Rattle.symbolic_block.proofs.Lists.{tab_back, stored_back}
-use Rattle.symbolic_calls.specs.Writing.{wrote, wrote_nothing, writing_of}
+use Rattle.symbolic_calls.specs.Writing.{writing_of}
 use Rattle.symbolic_calls.proofs.Laws.{told_number}
 use Rattle.symbolic_reader.specs.declared.SymbolicReading.{SymbolicReading}
 use Rattle.symbolic_numbers.specs.Numbers.{settings_with, setting_numbers, added_of, flat_of, block_over, block_from}

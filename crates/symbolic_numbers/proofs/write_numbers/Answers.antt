@@ -1,11 +1,10 @@
 use mathlib.Core.Path.{◌≡◌, ap, ◌∙◌}
-use lib.ListN.{get_or}
 use Rattle.laws.specs.Table.{tab}
 use Rattle.block_answer.specs.Told.{number_told}
 use Rattle.symbolic_calls.specs.declared.Writing.{Writing}
 use Rattle.symbolic_calls.specs.Writing.{writing_of}
 use Rattle.symbolic_numbers.specs.Numbers.{block_from}
-use Rattle.symbolic_numbers.proofs.Laws.{write_4, kept_4, write_5, zeros_5, write_told, block_written, whole_block_lem}
+use Rattle.symbolic_numbers.proofs.Laws.{write_4, kept_4, write_5, zeros_5, write_told, block_written}
 use Rattle.symbolic_numbers.proofs.write_numbers.Goals as goal
 
 pub returns-then-block-ne16 : goal.returns-then-block-ne16
