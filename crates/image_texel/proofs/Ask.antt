@@ -12,7 +12,7 @@ use lib.ListN.{length}
 use borrow.Author.Tests.{eq-eqb, ne_eqb, lt-ltb, le-ltb}
 use Rattle.std.specs.Prelude.{Result, Ok, Err}
 use Rattle.std.specs.Result.{is_err}
-use Rattle.laws.specs.Choice.{pick, either, both}
+use Rattle.laws.specs.Choice.{pick, either}
 use Rattle.reason.specs.declared.Refusal.{Refusal}
 use Rattle.reason.specs.Numbers.{refusal_told}
 use Rattle.reason.proofs.Told.{refusal_some}
@@ -24,7 +24,7 @@ use Rattle.interpolation.specs.declared.Texel.{Texel}
 use Rattle.texel.specs.Meaning.{channel, shown_channel}
 use Rattle.texel.specs.BlockTexel.{block_texel}
 use Rattle.block_reading.specs.Shown.{number_at_in}
-use Rattle.image_size.specs.Sides.{side_limit, bad_side, size_refusal, blocks_across, blocks_of}
+use Rattle.image_size.specs.Sides.{bad_side, size_refusal, blocks_across, blocks_of}
 use Rattle.image_size.proofs.Laws.{limit_le, sized, side_fine, across_le, product_most}
 use Rattle.footprint.proofs.Laws.{flat_bounds}
 use Rattle.image_layout.specs.Geometry.{block_index}
@@ -32,11 +32,9 @@ use Rattle.image_layout.proofs.Independence.{index_in}
 use Rattle.image_layout.specs.Numbers.{block_at, fault_at, fault_at_in, image_number_at_in}
 use Rattle.one_texel.specs.declared.OneTexel.{OneTexel}
 use Rattle.one_texel.specs.Texel.{one_texel}
-use Rattle.image_texel.specs.declared.Sides.{Sides}
-use Rattle.image_texel.specs.declared.Asked.{Asked}
-use Rattle.image_texel.specs.Making.{view_refusal, view_sides}
+use Rattle.image_texel.specs.Making.{MadeSides, view_refusal, view_sides}
 use Rattle.image_texel.specs.inner.Fits.{Fits, shown_texel}
-use Rattle.image_texel.specs.Asking.{may_ask, asked_in, refused_asking, asked_at}
+use Rattle.image_texel.specs.Asking.{Asked, may_ask, asked_in, refused_asking, asked_at}
 
 -- ---- making
 
@@ -71,12 +69,12 @@ module _ (bytes fp w h : ℕ) where
   unfolding view_sides
   sides_refused e = rw (ne_eqb (view_refusal fp w h bytes) 0 e)
 
-  pub refused_sides : (e : ℕ) → e ≡ view_refusal fp w h bytes → (e ≡ 0 → ⊥) → ◌≡◌ {A = Sides} (record { width = 0; height = 0; refusal = e }) (view_sides bytes fp w h)
+  pub refused_sides : (e : ℕ) → e ≡ view_refusal fp w h bytes → (e ≡ 0 → ⊥) → ◌≡◌ {A = MadeSides} (record { width = 0; height = 0; refusal = e }) (view_sides bytes fp w h)
   refused_sides e q z = ap none q ∙ sym (sides_refused (λ k. z (q ∙ k))) where
-    none : ℕ → Sides
+    none : ℕ → MadeSides
     none n = record { width = 0; height = 0; refusal = n }
 
-  pub taken_sides : (e : ℕ) → e ≡ view_refusal fp w h bytes → e ≡ 0 → ◌≡◌ {A = Sides} (record { width = w; height = h; refusal = 0 }) (view_sides bytes fp w h)
+  pub taken_sides : (e : ℕ) → e ≡ view_refusal fp w h bytes → e ≡ 0 → ◌≡◌ {A = MadeSides} (record { width = w; height = h; refusal = 0 }) (view_sides bytes fp w h)
   taken_sides e q z = sym (sides_taken (sym q ∙ z))
 
 -- what a view that is not refused has

@@ -7,7 +7,7 @@ use native.Mathlib.Omega.{arith}
 use lib.ListN.{length}
 use borrow.Author.Tests.{eq-eqb, ne_eqb}
 use Rattle.laws.specs.inner.Filled.{put_four}
-use Rattle.image_texel.specs.declared.Asked.{Asked}
+use Rattle.image_texel.specs.Asking.{Asked}
 use Rattle.texel_numbers.specs.Calls.{texel_told, texel_out}
 
 module _ (a : Asked) (n : ℕ) where
