@@ -8,7 +8,8 @@ ghost use Rattle.clip_frame.specs.inner.Frame.{own_refusal};
 
 use reason::Refusal;
 
-// What a frame says of itself.
+// What a frame says of itself. Its kind is a number and no `Kind`: the ten bytes may tell one above 2, which is refused (2), and after a wrong
+// footprint (1); so may the numbers of a state that C lends (`clip_numbers: frame_from`).
 #[derive(Clone, Copy)]
 pub struct Frame {
     pub footprint: u8,

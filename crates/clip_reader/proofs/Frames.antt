@@ -21,8 +21,8 @@ module _ (c : Clip) (s : List ℕ) (f : Frame) (len : ℕ) where
       eb ∙ ap quiet (ea ∙ ap (begun c) ef) ∙ rw (eq-eqb (frame_refusal (frame_in s) (length_in s)) 0 q)
 
   pub checked_stopped : (b : Step) → f ≡ frame_in s → len ≡ length_in s → (r : Refusal) → refusal_number r ≡ frame_refusal f len
-      → {n : ℕ} → n ≡ refusal_number r → b ≡ over c n → b ≡ checked c s
+      → b ≡ over c (refusal_number r) → b ≡ checked c s
   unfolding checked
-  checked_stopped b ef el r e en eb =
+  checked_stopped b ef el r e eb =
       let q = e ∙ refused ef el in
-      eb ∙ ap (over c) (en ∙ q) ∙ rw (ne_eqb (frame_refusal (frame_in s) (length_in s)) 0 (λ z. omega (arith, refusal_some r, q, z)))
+      eb ∙ ap (over c) q ∙ rw (ne_eqb (frame_refusal (frame_in s) (length_in s)) 0 (λ z. omega (arith, refusal_some r, q, z)))

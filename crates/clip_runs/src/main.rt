@@ -61,11 +61,17 @@ fn told<W: Write>(output: &mut W, name: &[u8], n: u8, at: usize) -> io::Result<(
     end_line(output)
 }
 
-fn event<W: Write>(output: &mut W, e: Event, f: Frame, of: [u8; 16], at: usize) -> io::Result<()> {
+fn event<W: Write>(output: &mut W, e: Option<Event>, f: Frame, at: usize) -> io::Result<()> {
     match e {
-        Event::Nothing => Ok(()),
-        Event::Block(i, j) => block(output, i, j, f, of, at),
-        Event::Told(n) => told(output, b"told ", n, at),
+        None => Ok(()),
+        Some(
+            Event::Block {
+                frame_index,
+                block_index,
+                bytes,
+            },
+        ) => block(output, frame_index, block_index, f, bytes, at),
+        Some(Event::Told(n)) => told(output, b"told ", n, at),
     }
 }
 
@@ -86,14 +92,10 @@ fn piece_end(at: usize, left: usize, n: usize) -> usize
 // The end, and an empty piece after it.
 fn finish<W: Write>(output: &mut W, c: Clip, clip: &[u8]) -> io::Result<()> {
     let f = clip_reader::finish(c);
-    let over = f.clip;
-    let again = clip_reader::feed(over, &clip[0..0]);
+    let again = clip_reader::feed(f.clip, &clip[0..0]);
     word(output, b"end ", f.number as u64)?;
-    let e = again.event;
-    let frame = over.frame;
-    let none = again.block;
     output.write_all(b" ")?;
-    event(output, e, frame, none, again.taken)
+    event(output, again.event, f.clip.frame, again.taken)
 }
 
 // A reader, and how many bytes of the clip it has taken.
@@ -111,18 +113,13 @@ fn step<W: Write>(output: &mut W, c: Clip, clip: &[u8], at: usize, end: usize) -
     ensures end { IfOk result (λ place. place.at ≤ end) }
 {
     let empty = clip_reader::feed(c, &clip[at..at]);
-    let before = empty.clip;
-    let f = clip_reader::feed(before, &clip[at..end]);
-    let after = f.clip;
-    let e = f.event;
-    let of = f.block;
-    let frame = after.frame;
+    let f = clip_reader::feed(empty.clip, &clip[at..end]);
     let next = piece_end(at, f.taken, end);
     if at < next {
-        event(output, e, frame, of, next)?;
+        event(output, f.event, f.clip.frame, next)?;
     }
     Ok(Place {
-        clip: after,
+        clip: f.clip,
         at: next,
     })
 }
@@ -138,9 +135,8 @@ fn fed<W: Write>(output: &mut W, clip: &[u8], cut: usize) -> io::Result<()> {
     while at < clip.len() {
         let end = piece_end(at, left, clip.len());
         let place = step(output, c, clip, at, end)?;
-        let k = place.clip;
         let next = place.at;
-        c = k;
+        c = place.clip;
         if next == at {
             break;
         }

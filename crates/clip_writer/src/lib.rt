@@ -9,21 +9,21 @@ use clip_frame::Frame;
 use reason::Refusal;
 
 // The ten bytes before a frame's blocks, n being the length that they tell.
-fn head_of(n: u64, footprint: u8, kind: u8, width: u32, height: u32) -> [u8; 10]
-    requires { (n < 2 ^ 32) × (width < 65536) × (height < 65536) }
-    ensures { result ≡ head_bytes n (record { footprint = footprint; kind = kind; width = width; height = height }) }
+fn head_of(n: u64, f: Frame) -> [u8; 10]
+    requires { (n < 2 ^ 32) × (f.width < 65536) × (f.height < 65536) }
+    ensures { result ≡ head_bytes n f }
 {
     [
         (n / 256 / 256 / 256) as u8,
         (n / 256 / 256 % 256) as u8,
         (n / 256 % 256) as u8,
         (n % 256) as u8,
-        footprint,
-        kind,
-        (width / 256) as u8,
-        (width % 256) as u8,
-        (height / 256) as u8,
-        (height % 256) as u8,
+        f.footprint,
+        f.kind,
+        (f.width / 256) as u8,
+        (f.width % 256) as u8,
+        (f.height / 256) as u8,
+        (f.height % 256) as u8,
     ]
 }
 
@@ -37,7 +37,8 @@ fn fill(head: &[u8; 10], blocks: &[u8], out: &mut [u8])
     rest.copy_from_slice(blocks);
 }
 
-// A frame's bytes, after the caller's version byte or the frame before. On a refusal the buffer stays as it was.
+// A frame's bytes, after the caller's version byte or the frame before. On a refusal the buffer stays as it was. The kind comes by its number,
+// since one above 2 is refused here, after a wrong footprint.
 pub fn write_frame(
     footprint: u8,
     kind: u8,
@@ -56,7 +57,7 @@ pub fn write_frame(
         height,
     };
     clip_frame::check_written(frame, blocks.len(), out.len())?;
-    let head = head_of(6 + blocks.len() as u64, footprint, kind, width, height);
+    let head = head_of(6 + blocks.len() as u64, frame);
     fill(&head, blocks, out);
     Ok(())
 }

@@ -12,4 +12,4 @@ returns c = let s = c.args.state.now in
 
 pub returns-then-state-ne26 : goal.returns-then-state-ne26
 unfolding finish_numbered finish_state
-returns-then-state-ne26 c = let s = c.args.state.now in record { value = rw (ne_eqb (length s) 26 c.if-state-ne26.true); state_after = rw (ne_eqb (length s) 26 c.if-state-ne26.true) }
+returns-then-state-ne26 c = let s = c.args.state.now in record { value = rw (ne_eqb (length s) 26 c.if-state-ne26.true, c.into.ensures); state_after = rw (ne_eqb (length s) 26 c.if-state-ne26.true) }

@@ -10,4 +10,4 @@ pub returns-in-Ok : goal.returns-in-Ok
 returns-in-Ok c = checked_passed _ _ _ _ _ _ c.frame_in-f.ensures c.length_in.ensures c.in-Ok.ensures c.begin.ensures c.quiet.ensures
 
 pub returns-in-Err : goal.returns-in-Err
-returns-in-Err c = checked_stopped _ _ _ _ _ c.frame_in-f.ensures c.length_in.ensures _ c.in-Err.ensures c.into.ensures c.stop.ensures
+returns-in-Err c = checked_stopped _ _ _ _ _ c.frame_in-f.ensures c.length_in.ensures _ c.in-Err.ensures c.stop.ensures

@@ -7,4 +7,4 @@ returns-then-have-eq0 c = rw (eq-eqb c.args.have 0 c.if-have-eq0.true)
 
 -- src/lib.rt:401:1
 pub returns-else-have-eq0 : goal.returns-else-have-eq0
-returns-else-have-eq0 c = rw (ne_eqb c.args.have 0 c.if-have-eq0.false)
+returns-else-have-eq0 c = rw (ne_eqb c.args.have 0 c.if-have-eq0.false, c.into.ensures)
