@@ -46,7 +46,7 @@ texel_of-t-requires c =
 
 pub returns : goal.returns
 returns c = (
-    asked_told _ _ c.args.blocks.now c.args.kind c.args.x c.args.y c.texel_of-t.result c.width-columns.ensures c.height-rows.ensures c.blocks_across-across.ensures.0
-        (rw (c.in_block-row.ensures.0, c.in_block-column.ensures.0) refl) c.block_of-block.ensures c.in_block-column.ensures.1 c.in_block-row.ensures.1 c.texel_of-t.ensures c.shown.ensures.0,
-    c.shown.ensures.1,
-  )
+  asked_told _ _ c.args.blocks.now c.args.kind c.args.x c.args.y c.texel_of-t.result c.width-columns.ensures c.height-rows.ensures c.blocks_across-across.ensures.0
+      (rw (c.in_block-row.ensures.0, c.in_block-column.ensures.0) refl) c.block_of-block.ensures c.in_block-column.ensures.1 c.in_block-row.ensures.1 c.texel_of-t.ensures c.shown.ensures.0,
+  c.shown.ensures.1,
+)
