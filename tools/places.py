@@ -110,7 +110,7 @@ for path, text in sources:
                 groups[", ".join(words[i : i + size])].append(where)
         for array in re.findall(r"(\w+): &?(?:mut )?\[[^\]]*; ?\d+\], (\w+): (?:usize|u8)\b", parameters):
             told[6].append(f"{where}: {array[0]} with {array[1]} beside it")
-        for line in re.findall(r"^ *match \w*(?:phase|step|state)\b.*", body, re.M):
+        for line in re.findall(r"^ *match [\w.]*(?:phase|step|state)\b.*", body, re.M):
             told[7].append(f"{where}: {line.strip()}")
 for body, names in sorted(bodies.items(), key=lambda it: -len(it[1])):
     if len(names) > 1:
