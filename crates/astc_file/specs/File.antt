@@ -1,20 +1,22 @@
 -- 02, a: what a call that decodes a whole .astc file answers and leaves in the result buffer, for every file.
 -- Assumes nothing.
-use Rattle.std.specs.Prelude.{ℕ, ◌*◌, ◌≡◌, not, List, [], ◌∷◌, eqb, length, drop}
+use Rattle.std.specs.Prelude.{ℕ, ◌*◌, ◌≡◌, not, List, [], ◌∷◌, eqb, length, drop, Result}
 use Rattle.laws.specs.Choice.{pick, either}
 use Rattle.laws.specs.Reasons.{when, first_of}
 use Rattle.interpolation.specs.declared.Kind.{Kind}
 use Rattle.image_size.specs.Sides.{bad_side}
-use Rattle.image_layout.specs.declared.ImageAnswer.{ImageAnswer}
-use Rattle.image_layout.specs.declared.ImageAnswer.TheVariants.{Refused}
-use Rattle.image_layout.specs.Call.{Told, image_answer, image_told, image_out}
+use Rattle.reason.specs.declared.Refusal.{Refusal}
+use Rattle.reason.specs.Answers.{Answers}
+use Rattle.image_layout.specs.declared.Tally.{Tally}
+use Rattle.image_layout.specs.Call.{Told, image_refusal, image_tally, image_told, image_out}
 use Rattle.astc_header.specs.Header.{header_in, blocks_in, file_reasons, header_refusal}
 
--- a refused file is told by its number; for any other the answer is the image call's, of its header and of the bytes behind it
-unfoldable pub file_answer : Kind → List ℕ → ℕ → ImageAnswer
+-- a file is refused by its header; any other as the image call refuses what its header says and the bytes behind it, and answers that call's faults
+abbrev pub file_answer : Kind → List ℕ → ℕ → Result Tally Refusal → Type 0
 file_answer kind s places =
     let h = header_in s in
-    pick (eqb (header_refusal s) 0) (image_answer h.footprint kind h.width h.height (drop 16 s) places) (Refused (header_refusal s))
+    Answers (pick (eqb (header_refusal s) 0) (image_refusal h.footprint h.width h.height (length (drop 16 s)) places) (header_refusal s))
+    (image_tally h.footprint kind h.width h.height (drop 16 s))
 
 -- the numbers told, alike
 unfoldable pub file_told : Kind → List ℕ → ℕ → Told

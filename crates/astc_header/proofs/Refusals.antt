@@ -1,6 +1,6 @@
 -- The refusals of a file one by one, and what holds once none does.
 -- Assumes nothing.
-use Prim.Native.Nat.{ℕ, ◌+◌, ◌-◌, ◌*◌, ◌≤◌, ◌<◌}
+use Prim.Native.Nat.{ℕ, ◌-◌, ◌*◌, ◌≤◌, ◌<◌}
 use native.Mathlib.Omega.{arith}
 use native.Mathlib.Decide.{dec_le, ℕ_discrete}
 use mathlib.Core.Path.{◌≡◌, refl, sym, ap, ◌∙◌}
@@ -9,15 +9,15 @@ use mathlib.Core.List.{List, []}
 use lib.Dec.{eqb, ltb}
 use lib.ListN.{length, take, drop, length-drop}
 use lib.Seq.{take_all}
-use borrow.Author.Tests.{eq-eqb, ne_eqb, eqb-true, lt-ltb, le-ltb}
-use Rattle.laws.specs.Choice.{pick, both, either}
-use Rattle.footprint.specs.Footprint.{width_of, height_of}
-use Rattle.image_size.specs.Sides.{bad_side, blocks_of, size_refusal}
-use Rattle.image_size.proofs.Laws.{fine}
+use borrow.Author.Tests.{eq-eqb, ne_eqb, lt-ltb, le-ltb}
+use Rattle.std.specs.Prelude.{Ok, Err}
+use Rattle.laws.specs.Choice.{pick, either}
+use Rattle.reason.specs.declared.Refusal.{Refusal}
+use Rattle.reason.specs.Numbers.{refusal_number}
+use Rattle.reason.proofs.Told.{refusal_some}
+use Rattle.image_size.specs.Sides.{bad_side, size_refusal}
 use Rattle.astc_header.specs.declared.FileHeader.{FileHeader}
-use Rattle.astc_header.specs.declared.HeaderAnswer.{HeaderAnswer}
-use Rattle.astc_header.specs.declared.HeaderAnswer.TheVariants.{Refused, Accepted}
-use Rattle.astc_header.specs.Header.{has_start, header_in, blocks_in, known_shape, header_refusal, header_answer, file_blocks, told_of, header_told}
+use Rattle.astc_header.specs.Header.{has_start, header_in, blocks_in, known_shape, header_refusal, header_answer, file_blocks, told_refused, told_of, header_told}
 use Rattle.astc_header.specs.inner.Parts.{form_refusal}
 use Rattle.astc_header.specs.Theorems.{Never1}
 use Rattle.laws.proofs.Computed.{both_true}
@@ -87,8 +87,11 @@ refused_form s n =
     form_first (ltb (length s) 16) (has_start s) (known_shape s) (either (bad_side (header_in s).width) (bad_side (header_in s).height))
     (eqb (length (drop 16 s)) (16 * blocks_in (header_in s))) n
 
+abbrev size_of : FileHeader → ℕ
+size_of h = size_refusal h.footprint h.width h.height
+
 abbrev sides : List ℕ → ℕ
-sides s = size_refusal (header_in s).footprint (header_in s).width (header_in s).height
+sides s = size_of (header_in s)
 
 module _ (s : List ℕ) (f : Formed s) where
   -- what is left behind the header
@@ -166,25 +169,41 @@ taken s z =
 
 -- ---- the answer, its numbers, and the blocks
 
-module _ (s : List ℕ) (n : header_refusal s ≡ 0 → ⊥) where
-  pub answer_refused : Refused (header_refusal s) ≡ header_answer s
-  unfolding header_answer
-  answer_refused = rw (ne_eqb (header_refusal s) 0 n)
+-- a refusal told is that of the form, of the sides, or of the whole
+module _ (s : List ℕ) (r : Refusal) where
+  some : {n : ℕ} → refusal_number r ≡ n → n ≡ 0 → ⊥
+  some q z = omega (arith, refusal_some r, q, z)
 
-  pub told_refused_lem : told_of (Refused (header_refusal s)) ≡ header_told s
+  pub by_form : refusal_number r ≡ form_refusal s → refusal_number r ≡ header_refusal s
+  by_form q = q ∙ refused_form s (some q)
+
+  pub by_sides : Formed s → {h : FileHeader} → h ≡ header_in s → refusal_number r ≡ size_of h → refusal_number r ≡ header_refusal s
+  by_sides f e q = let z = q ∙ ap size_of e in z ∙ refused_3 s f (some z)
+
+  pub told_refused_lem : refusal_number r ≡ header_refusal s → told_of (Err r) ≡ header_told s
   unfolding header_told
-  told_refused_lem = rw (ne_eqb (header_refusal s) 0 n)
+  told_refused_lem q = rw (ne_eqb (header_refusal s) 0 (some q)) (ap told_refused q)
 
-  pub no_blocks : [] ≡ file_blocks s
+  pub no_blocks : header_answer s (Err r) → [] ≡ file_blocks s
   unfolding file_blocks
-  no_blocks = rw (ne_eqb (header_refusal s) 0 n)
+  no_blocks q = rw (ne_eqb (header_refusal s) 0 (some q))
+
+-- the last refusal, by how many blocks the header asks for
+module _ (s : List ℕ) (f : Formed s) {h : FileHeader} (e : h ≡ header_in s) (z : 0 ≡ size_of h) {n : ℕ} (b : n ≡ blocks_in h) where
+  fine_size : sides s ≡ 0
+  fine_size = ap size_of (sym e) ∙ sym z
+
+  blocks : n ≡ blocks_in (header_in s)
+  blocks = b ∙ ap blocks_in e
+
+  pub other_length : (length s - 16 ≡ 16 * n → ⊥) → 4 ≡ header_refusal s
+  other_length d = refused_4 s f fine_size (λ q. d (q ∙ ap (λ (k : ℕ). 16 * k) (sym blocks)))
+
+  pub own_length : length s - 16 ≡ 16 * n → header_refusal s ≡ 0
+  own_length d = sym (refused_none s f fine_size (d ∙ ap (λ (k : ℕ). 16 * k) blocks))
 
 module _ (s : List ℕ) (z : header_refusal s ≡ 0) where
-  pub answer_accepted : Accepted (header_in s) ≡ header_answer s
-  unfolding header_answer
-  answer_accepted = rw z
-
-  pub told_accepted_lem : told_of (Accepted (header_in s)) ≡ header_told s
+  pub told_accepted_lem : told_of (Ok (header_in s)) ≡ header_told s
   unfolding header_told
   told_accepted_lem = rw z
 
@@ -201,20 +220,12 @@ pub record Stopped (s : List ℕ) (e : ℕ) : Type 0 where
   pub told : header_refusal s ≡ e
   pub some : header_refusal s ≡ 0 → ⊥
 
-pub stopped : (s : List ℕ) (e : ℕ) → header_answer s ≡ Refused e → Stopped s e
-stopped s e q =
-    elim (ℕ_discrete (header_refusal s) 0) [
-      | yes z ↦ let k : ◌≡◌ {A = HeaderAnswer} (Accepted (header_in s)) (Refused e) = answer_accepted s z ∙ q in let z2 : ◌≡◌ {A = ℕ} 0 1 = cc in absurd (omega arith)
-      | no n ↦ let k : ◌≡◌ {A = HeaderAnswer} (Refused (header_refusal s)) (Refused e) = answer_refused s n ∙ q in record { told = cc; some = n }
-    ]
+pub stopped : (s : List ℕ) (r : Refusal) → header_answer s (Err r) → Stopped s (refusal_number r)
+stopped s r q = record { told = sym q; some = some s r q }
 
 pub record Passed (s : List ℕ) (h : FileHeader) : Type 0 where
   pub none : header_refusal s ≡ 0
   pub says : h ≡ header_in s
 
-pub passed : (s : List ℕ) (h : FileHeader) → header_answer s ≡ Accepted h → Passed s h
-passed s h q =
-    elim (ℕ_discrete (header_refusal s) 0) [
-      | yes z ↦ let k : ◌≡◌ {A = HeaderAnswer} (Accepted (header_in s)) (Accepted h) = answer_accepted s z ∙ q in record { none = z; says = cc }
-      | no n ↦ let k : ◌≡◌ {A = HeaderAnswer} (Refused (header_refusal s)) (Accepted h) = answer_refused s n ∙ q in let z2 : ◌≡◌ {A = ℕ} 0 1 = cc in absurd (omega arith)
-    ]
+pub passed : (s : List ℕ) (h : FileHeader) → header_answer s (Ok h) → Passed s h
+passed s h q = record { none = q.0; says = q.1 }

@@ -1,28 +1,26 @@
 -- 02, a: "What we write, with its blocks behind it, must read back as it was, and any accepted header is written again byte for byte."
 -- Assumes nothing.
-use Prim.Native.Nat.{ℕ, zero, suc, ◌+◌, ◌-◌, ◌*◌, ◌/◌, ◌%◌, ◌≤◌, ◌<◌}
+use Prim.Native.Nat.{ℕ, ◌+◌, ◌-◌, ◌*◌, ◌/◌, ◌%◌, ◌≤◌, ◌<◌}
 use native.Mathlib.Nat.{div-add-mod'}
 use native.Mathlib.Omega.{arith}
-use mathlib.Core.Path.{◌≡◌, refl, sym, ap, ◌∙◌}
-use mathlib.Core.Bool.{Bool, true}
+use mathlib.Core.Path.{◌≡◌, refl, sym, ◌∙◌}
 use mathlib.Core.List.{List, [], ◌∷◌, ◌++◌}
 use lib.Dec.{eqb, ltb}
-use lib.ListN.{length, get_or, take, length-append, length-take}
+use lib.ListN.{length, get_or, take, length-take}
 use lib.Seq.{get_or-take, ext_get_or}
-use borrow.Author.Tests.{eq-eqb, eqb-true, lt-ltb}
+use borrow.Author.Tests.{eqb-true, lt-ltb}
 use Rattle.laws.specs.Choice.{both}
 use Rattle.laws.specs.Table.{tab, tab_from}
 use Rattle.laws.proofs.Filling.{length_tab, get_or_tab}
 use Rattle.footprint.specs.Footprint.{width_of, height_of}
-use Rattle.image_size.specs.Sides.{blocks_of, size_refusal}
+use Rattle.image_size.specs.Sides.{size_refusal}
 use Rattle.image_size.proofs.Laws.{sized}
 use Rattle.astc_header.specs.declared.FileHeader.{FileHeader}
-use Rattle.astc_header.specs.declared.HeaderAnswer.TheVariants.{Accepted}
-use Rattle.astc_header.specs.Header.{has_start, footprint_for, size_at, header_in, blocks_in, known_shape, header_refusal, header_answer, file_blocks, header_bytes, written_header}
+use Rattle.astc_header.specs.Header.{has_start, footprint_for, size_at, header_in, blocks_in, known_shape, header_refusal, header_bytes}
 use Rattle.astc_header.specs.Theorems.{ReadsBack, AllReadBack, AllWrittenAgain}
 use Rattle.astc_header.proofs.Search.{footprint_back, found}
 use Rattle.laws.proofs.Computed.{both_true}
-use Rattle.astc_header.proofs.Refusals.{Formed, refused_none, answer_accepted, its_blocks, less, taken, passed}
+use Rattle.astc_header.proofs.Refusals.{Formed, refused_none, its_blocks, less, taken, passed}
 
 -- ---- written, then read
 
@@ -51,20 +49,11 @@ module _ (h : FileHeader) (s : List ℕ) (z : size_refusal h.footprint h.width h
   unfolding file
   over = omega arith
 
-  as_written : header_bytes h.footprint h.width h.height ≡ (written_header h.footprint h.width h.height).bytes
-  unfolding written_header
-  as_written = rw z
-
   header_read : length s ≡ 16 * blocks_in h → ReadsBack h s
   unfolding file
   header_read n =
       let none : 0 ≡ header_refusal file = refused_none file form (rw says z) (over ∙ rw says n) in
-      let b : List ℕ = (written_header h.footprint h.width h.height).bytes in
-      let e : b ++ s ≡ file = ap (λ (l : List ℕ). l ++ s) (sym as_written) in
-      record {
-        header_back = ap header_answer e ∙ sym (answer_accepted file (sym none)) ∙ ap Accepted says;
-        blocks_back = ap file_blocks e ∙ sym (its_blocks file (sym none));
-      }
+      record { header_back = (sym none, sym says); blocks_back = sym (its_blocks file (sym none)) }
 
 pub reads_back : AllReadBack
 reads_back = header_read
@@ -124,8 +113,7 @@ again s bytes f =
     (spelt s fp w.0 w.1 bytes))
 
 pub written_again : AllWrittenAgain
-unfolding written_header
 written_again s h bytes q =
     let p = passed s h q in
     let t = taken s p.none in
-    rw p.says (record { not_refused = rw t.sized; same_bytes = rw t.sized (again s bytes t.form) })
+    rw p.says (record { not_refused = t.sized; same_bytes = again s bytes t.form })

@@ -3,10 +3,10 @@
 use Prim.Native.Nat.{ℕ, zero, suc, ◌+◌, ◌-◌, ◌≤◌, ◌<◌}
 use native.Mathlib.Omega.{arith}
 use native.Mathlib.Numerals.{add-one}
-use mathlib.Core.Path.{◌≡◌, refl, sym, ap, ◌∙◌}
+use mathlib.Core.Path.{◌≡◌, refl, sym, ◌∙◌}
 use mathlib.Core.Bool.{Bool, true, false}
 use lib.Dec.{T, eqb, eqb→eq}
-use borrow.Author.Tests.{eqb-true}
+use borrow.Author.Tests.{eqb-true, eq-eqb, ne_eqb}
 use Rattle.laws.specs.Choice.{pick, both, all}
 use Rattle.laws.proofs.Computed.{both_true, each}
 use Rattle.footprint.specs.Footprint.{footprints, width_of, height_of}
@@ -17,16 +17,26 @@ abbrev pub here : ℕ → ℕ → ℕ → Bool
 here w h fp = both (eqb (width_of fp) w) (eqb (height_of fp) h)
 
 module _ (w h fp : ℕ) (l : fp < 14) where
-  pub found_here : here w h fp ≡ true → footprint_from w h fp (14 - fp) ≡ fp
+  found_here : here w h fp ≡ true → footprint_from w h fp (14 - fp) ≡ fp
   unfolding footprint_from
   found_here e = let n : 14 - fp ≡ suc (13 - fp) = omega arith in rw (n, e)
 
-  pub not_here : here w h fp ≡ false → footprint_from w h fp (14 - fp) ≡ footprint_from w h (fp + 1) (14 - (fp + 1))
+  not_here : here w h fp ≡ false → footprint_from w h fp (14 - fp) ≡ footprint_from w h (fp + 1) (14 - (fp + 1))
   unfolding footprint_from
   not_here e =
       let n : 14 - fp ≡ suc (13 - fp) = omega arith in
       let m : 14 - (fp + 1) ≡ 13 - fp = omega arith in
       rw (m, n, e, add-one fp)
+
+  module _ {a b : ℕ} (ea : a ≡ width_of fp) (eb : b ≡ height_of fp) where
+    pub found_at : a ≡ w → b ≡ h → footprint_from w h fp (14 - fp) ≡ fp
+    found_at u v = found_here (rw (eq-eqb (width_of fp) w (sym ea ∙ u), eq-eqb (height_of fp) h (sym eb ∙ v)))
+
+    pub not_high : a ≡ w → (b ≡ h → ⊥) → footprint_from w h fp (14 - fp) ≡ footprint_from w h (fp + 1) (14 - (fp + 1))
+    not_high u v = not_here (rw (eq-eqb (width_of fp) w (sym ea ∙ u), ne_eqb (height_of fp) h (λ e. v (eb ∙ e))))
+
+  pub not_wide : {a : ℕ} → a ≡ width_of fp → (a ≡ w → ⊥) → footprint_from w h fp (14 - fp) ≡ footprint_from w h (fp + 1) (14 - (fp + 1))
+  not_wide ea u = not_here (rw (ne_eqb (width_of fp) w (λ e. u (ea ∙ e))))
 
 pub nowhere : (w h fp : ℕ) → 14 ≤ fp → footprint_from w h fp (14 - fp) ≡ 14
 unfolding footprint_from

@@ -1,15 +1,14 @@
 -- 02, a: the 16-byte header of .astc files: what it says, and why a reader and a writer refuse it.
 -- Assumes nothing.
-use Rattle.std.specs.Prelude.{ℕ, zero, suc, ◌+◌, ◌*◌, ◌/◌, ◌%◌, Bool, not, List, [], ◌∷◌, ◌++◌, eqb, ltb, length, get_or, drop}
+use Rattle.std.specs.Prelude.{ℕ, zero, suc, ◌+◌, ◌*◌, ◌/◌, ◌%◌, Bool, not, List, [], ◌∷◌, ◌++◌, eqb, ltb, length, get_or, drop, Result, Ok, Err}
 use Rattle.laws.specs.Choice.{pick, both, either}
 use Rattle.laws.specs.Reasons.{Reason, when, first_of}
-use Rattle.laws.specs.Table.{tab}
 use Rattle.footprint.specs.Footprint.{width_of, height_of}
 use Rattle.image_size.specs.Sides.{bad_side, blocks_of, size_refusal}
 use Rattle.astc_header.specs.declared.FileHeader.{FileHeader}
-use Rattle.astc_header.specs.declared.HeaderAnswer.{HeaderAnswer}
-use Rattle.astc_header.specs.declared.HeaderAnswer.TheVariants.{Refused, Accepted}
-use Rattle.astc_header.specs.declared.WrittenHeader.{WrittenHeader}
+use Rattle.reason.specs.declared.Refusal.{Refusal}
+use Rattle.reason.specs.Numbers.{refusal_number}
+use Rattle.reason.specs.Answers.{Answers}
 
 -- ---- the header's parts
 
@@ -68,9 +67,9 @@ header_refusal s =
     ∷ when (not (eqb (length (drop 16 s)) (16 * blocks_in h))) 4
     ∷ []))
 
--- the answer for every file, lent whole
-unfoldable pub header_answer : List ℕ → HeaderAnswer
-header_answer s = pick (eqb (header_refusal s) 0) (Accepted (header_in s)) (Refused (header_refusal s))
+-- what is answered for every file, lent whole: the refusal, or what the header says
+abbrev pub header_answer : List ℕ → Result FileHeader Refusal → Type 0
+header_answer s = Answers (header_refusal s) (header_in s)
 
 -- the blocks' bytes: all that stands behind the header; none on a refusal
 unfoldable pub file_blocks : List ℕ → List ℕ
@@ -91,9 +90,9 @@ abbrev pub told_refused : ℕ → HeaderTold
 told_refused e = record { refusal = e; footprint = 0; width = 0; height = 0 }
 
 -- the numbers of each case of the answer
-abbrev pub told_of : HeaderAnswer → HeaderTold
-told_of (Refused e) = told_refused e
-told_of (Accepted h) = told_accepted h
+abbrev pub told_of : Result FileHeader Refusal → HeaderTold
+told_of (Err refusal) = told_refused (refusal_number refusal)
+told_of (Ok h) = told_accepted h
 
 -- what the reader tells of a file
 unfoldable pub header_told : List ℕ → HeaderTold
@@ -109,8 +108,6 @@ size_bytes n = n % 256 ∷ n / 256 % 256 ∷ n / 256 / 256 ∷ []
 abbrev pub header_bytes : ℕ → ℕ → ℕ → List ℕ
 header_bytes fp w h = start_bytes ++ (width_of fp ∷ height_of fp ∷ 1 ∷ []) ++ size_bytes w ++ size_bytes h ++ size_bytes 1
 
--- "The header writer refuses by 1 and 3, with sixteen zeros."
-unfoldable pub written_header : ℕ → ℕ → ℕ → WrittenHeader
-written_header fp w h =
-    pick (eqb (size_refusal fp w h) 0) (record { refusal = 0; bytes = header_bytes fp w h })
-    (record { refusal = size_refusal fp w h; bytes = tab (λ k. 0) 16 })
+-- what the writer answers: refused by 1 and 3, or the header's bytes
+abbrev pub written_header : ℕ → ℕ → ℕ → Result (List ℕ) Refusal → Type 0
+written_header fp w h = Answers (size_refusal fp w h) (header_bytes fp w h)

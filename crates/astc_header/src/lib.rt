@@ -1,10 +1,13 @@
-// The header of .astc files (02, a): read from a whole file, and written.
+// The header of .astc files: read from a whole file, and written.
 #![tactic(auto)]
 
 ghost use Rattle.std.specs.Prelude.{◌≡◌, ◌+◌, ◌^◌, ◌≤◌, ◌<◌, length};
 ghost use Rattle.laws.specs.Choice.{both};
-ghost use Rattle.astc_header.specs.Header.{same_four, has_start, footprint_for, size_at, header_in, known_shape, header_refusal, header_answer, file_blocks, told_of, header_told, written_header};
+ghost use Rattle.astc_header.specs.Header.{same_four, has_start, footprint_for, size_at, header_in, known_shape, header_answer, file_blocks, told_of, header_told, written_header};
 ghost use Rattle.astc_header.specs.inner.Parts.{form_refusal, header_bytes_with};
+ghost use Rattle.reason.specs.Numbers.{refusal_told};
+
+use reason::Refusal;
 
 // What a header says: the footprint of the blocks, and the image's sides.
 #[derive(Clone, Copy)]
@@ -12,20 +15,6 @@ pub struct FileHeader {
     pub footprint: u8,
     pub width: u32,
     pub height: u32,
-}
-
-// The answer of the reader: refused by its number, or what the header says.
-#[derive(Clone, Copy)]
-pub enum HeaderAnswer {
-    Refused(u8),
-    Accepted(FileHeader),
-}
-
-// What the writer answers: the refusal, 0 for none, and the header's bytes.
-#[derive(Clone, Copy)]
-pub struct WrittenHeader {
-    pub refusal: u8,
-    pub bytes: [u8; 16],
 }
 
 // ---- reading
@@ -65,15 +54,10 @@ fn has_start(s: &[u8]) -> bool
 fn footprint_for(columns: u8, rows: u8) -> u8
     ensures { result ≡ footprint_for columns rows }
 {
-    let mut fp: u8 = 0;
-    while fp < 14 {
-        if both(
-            footprint::width(fp) == columns,
-            footprint::height(fp) == rows,
-        ) {
+    for fp in 0..14u8 {
+        if footprint::width(fp) == columns && footprint::height(fp) == rows {
             return fp;
         }
-        fp += 1;
     }
     14
 }
@@ -107,60 +91,45 @@ fn known_shape(s: &[u8]) -> bool
     both(h.footprint < 14, both(s[6] == 1, size_at(s, 13) == 1))
 }
 
-// 41, 42 and 43, 0 for none.
-fn form_refusal(s: &[u8]) -> u8
-    ensures { result ≡ form_refusal s.now }
+// Refuses a file of the wrong form: by its length, its start, then its shape.
+fn check_form(s: &[u8]) -> Result<(), Refusal>
+    ensures { refusal_told result ≡ form_refusal s.now }
 {
     if s.len() < 16 {
-        return 41;
+        return Err(Refusal::ShortFile);
     }
-    if has_start(s) {
-        if known_shape(s) { 0 } else { 43 }
-    } else {
-        42
+    if !has_start(s) {
+        return Err(Refusal::FileStart);
     }
-}
-
-// The refusals in their order, 0 for none.
-fn refusal(s: &[u8]) -> u8
-    ensures { result ≡ header_refusal s.now }
-{
-    let form = form_refusal(s);
-    if form != 0 {
-        return form;
+    if !known_shape(s) {
+        return Err(Refusal::FileShape);
     }
-    let h = header_in(s);
-    let sides = image_size::size_refusal(h.footprint, h.width, h.height);
-    if sides != 0 {
-        return sides;
-    }
-    let blocks = image_size::blocks_of(h.footprint, h.width, h.height);
-    if s.len() - 16 != 16 * (blocks as usize) {
-        return 4;
-    }
-    0
+    Ok(())
 }
 
 // What the header of a whole file says.
-pub fn read_header(file: &[u8]) -> HeaderAnswer
-    ensures answer { result ≡ header_answer file.now }
+pub fn read_header(file: &[u8]) -> Result<FileHeader, Refusal>
+    ensures answer { header_answer file.now result }
     ensures told { told_of result ≡ header_told file.now }
 {
-    let e = refusal(file);
-    if e != 0 {
-        return HeaderAnswer::Refused(e);
+    check_form(file)?;
+    let h = header_in(file);
+    image_size::check_size(h.footprint, h.width, h.height)?;
+    let blocks = image_size::blocks_of(h.footprint, h.width, h.height);
+    if file.len() - 16 != 16 * (blocks as usize) {
+        return Err(Refusal::Bytes);
     }
-    HeaderAnswer::Accepted(header_in(file))
+    Ok(h)
 }
 
 // The blocks' bytes of a whole file: the part from byte 16 on; none on a refusal.
 pub fn file_blocks(file: &[u8]) -> &[u8]
     ensures { result.now ≡ file_blocks file.now }
 {
-    if refusal(file) != 0 {
-        return &file[..0];
+    match read_header(file) {
+        Err(_) => &file[..0],
+        Ok(_) => &file[16..],
     }
-    &file[16..]
 }
 
 // ---- writing
@@ -190,19 +159,12 @@ fn header_with(start: &[u8; 4], columns: u8, rows: u8, width: u32, height: u32) 
     ]
 }
 
-// The header of an image's file: sixteen zeros on a refusal.
-pub fn write_header(footprint: u8, width: u32, height: u32) -> WrittenHeader
-    ensures { result ≡ written_header footprint width height }
+// The header of an image's file.
+pub fn write_header(footprint: u8, width: u32, height: u32) -> Result<[u8; 16], Refusal>
+    ensures { written_header footprint width height result }
 {
-    let refusal = image_size::size_refusal(footprint, width, height);
-    if refusal != 0 {
-        return WrittenHeader {
-            refusal,
-            bytes: [0u8; 16],
-        };
-    }
+    image_size::check_size(footprint, width, height)?;
     let columns = footprint::width(footprint);
     let rows = footprint::height(footprint);
-    let bytes = header_with(b"\x13\xAB\xA1\x5C", columns, rows, width, height);
-    WrittenHeader { refusal, bytes }
+    Ok(header_with(b"\x13\xAB\xA1\x5C", columns, rows, width, height))
 }

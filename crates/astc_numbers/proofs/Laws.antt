@@ -1,37 +1,23 @@
 -- What the two calls answer and leave in each event.
 -- Assumes nothing.
 use Prim.Native.Nat.{ℕ}
-use native.Mathlib.Decide.{ℕ_discrete}
-use mathlib.Core.Path.{◌≡◌, refl, sym, ap, ◌∙◌}
+use native.Mathlib.Omega.{arith}
+use mathlib.Core.Path.{◌≡◌, sym, ap, ◌∙◌}
 use mathlib.Core.List.{List}
 use lib.ListN.{length}
 use borrow.Author.Tests.{eq-eqb, ne_eqb}
+use Rattle.std.specs.Prelude.{Result, Ok, Err}
+use Rattle.std.specs.Result.{result_unwrap_or}
+use Rattle.laws.specs.Table.{tab}
+use Rattle.reason.specs.declared.Refusal.{Refusal}
+use Rattle.reason.specs.Numbers.{refusal_told}
+use Rattle.reason.proofs.Told.{refusal_some}
+use Rattle.astc_header.specs.declared.FileHeader.{FileHeader}
 use Rattle.image_size.specs.Sides.{size_refusal}
-use Rattle.astc_header.specs.Header.{header_refusal, header_told, written_header}
-use Rattle.astc_numbers.specs.Numbers.{then_five, header_numbers, read_number, read_numbers, write_number, write_bytes}
-
--- ---- the refusal, then 5
-
-module _ (e n m : ℕ) where
-  pub first_refusal : (e ≡ 0 → ⊥) → e ≡ then_five e n m
-  first_refusal k = rw (ne_eqb e 0 k)
-
-  pub length_right : e ≡ 0 → n ≡ m → 0 ≡ then_five e n m
-  length_right z k = rw (eq-eqb e 0 z, eq-eqb n m k)
-
-  pub length_wrong : e ≡ 0 → (n ≡ m → ⊥) → 5 ≡ then_five e n m
-  length_wrong z k = rw (eq-eqb e 0 z, ne_eqb n m k)
+use Rattle.astc_header.specs.Header.{header_refusal, header_answer, header_told, written_header}
+use Rattle.astc_numbers.specs.Numbers.{then_five, header_numbers, read_number, read_numbers, written_bytes, write_number, write_bytes}
 
 -- ---- reading
-
--- the refusal is among the numbers told
-pub told_refusal : (s : List ℕ) → (header_told s).refusal ≡ header_refusal s
-unfolding header_told
-told_refusal s = elim (ℕ_discrete (header_refusal s) 0) [ yes z ↦ rw z | no n ↦ rw (ne_eqb (header_refusal s) 0 n) ]
-
-pub read_number_lem : (s old : List ℕ) → then_five (header_told s).refusal (length old) 3 ≡ read_number s (length old)
-unfolding read_number
-read_number_lem s old = ap (λ (e : ℕ). then_five e (length old) 3) (told_refusal s)
 
 module _ (s old : List ℕ) where
   pub read_kept : (length old ≡ 3 → ⊥) → old ≡ read_numbers s old
@@ -44,19 +30,33 @@ module _ (s old : List ℕ) where
 
 -- ---- writing
 
-pub written_refusal : (fp w h : ℕ) → (written_header fp w h).refusal ≡ size_refusal fp w h
-unfolding written_header
-written_refusal fp w h = elim (ℕ_discrete (size_refusal fp w h) 0) [ yes z ↦ rw z | no n ↦ rw (ne_eqb (size_refusal fp w h) 0 n) ]
-
-pub write_number_lem : (fp w h n : ℕ) → then_five (written_header fp w h).refusal n 16 ≡ write_number fp w h n
-unfolding write_number
-write_number_lem fp w h n = ap (λ (e : ℕ). then_five e n 16) (written_refusal fp w h)
-
 module _ (fp w h : ℕ) (old : List ℕ) where
   pub write_kept : (length old ≡ 16 → ⊥) → old ≡ write_bytes fp w h old
   unfolding write_bytes
   write_kept n = rw (ne_eqb (length old) 16 n)
 
-  pub write_bytes_lem : length old ≡ 16 → (written_header fp w h).bytes ≡ write_bytes fp w h old
+  pub write_bytes_lem : length old ≡ 16 → written_bytes fp w h ≡ write_bytes fp w h old
   unfolding write_bytes
   write_bytes_lem e = rw (eq-eqb (length old) 16 e)
+
+-- the answers of both calls, told as numbers
+read_told_number : (s : List ℕ) (r : Result FileHeader Refusal) → header_answer s r → refusal_told r ≡ header_refusal s
+read_told_number s (Ok h) q = sym q.0
+read_told_number s (Err e) q = q
+
+write_told_number : (fp w h : ℕ) (r : Result (List ℕ) Refusal) → written_header fp w h r → refusal_told r ≡ size_refusal fp w h
+write_told_number fp w h (Ok b) q = sym q.0
+write_told_number fp w h (Err e) q = q
+
+pub told_bytes : (fp w h : ℕ) (r : Result (List ℕ) Refusal) → written_header fp w h r → result_unwrap_or r (tab (λ k. 0) 16) ≡ written_bytes fp w h
+unfolding written_bytes
+told_bytes fp w h (Ok b) q = rw q.0 q.1
+told_bytes fp w h (Err e) q = rw (ne_eqb (size_refusal fp w h) 0 (λ z. omega (arith, refusal_some e, q, z)))
+
+pub read_value : (s : List ℕ) (n : ℕ) (r : Result FileHeader Refusal) → header_answer s r → {k : ℕ} → k ≡ then_five (refusal_told r) n 3 → k ≡ read_number s n
+unfolding read_number
+read_value s n r q e = e ∙ ap (λ (k : ℕ). then_five k n 3) (read_told_number s r q)
+
+pub write_value : (fp w h n : ℕ) (r : Result (List ℕ) Refusal) → written_header fp w h r → {k : ℕ} → k ≡ then_five (refusal_told r) n 16 → k ≡ write_number fp w h n
+unfolding write_number
+write_value fp w h n r q e = e ∙ ap (λ (k : ℕ). then_five k n 16) (write_told_number fp w h r q)

@@ -2,8 +2,9 @@
 -- Assumes nothing.
 use Rattle.std.specs.Prelude.{ℕ, List, [], ◌∷◌, eqb, length}
 use Rattle.laws.specs.Choice.{pick}
+use Rattle.laws.specs.Table.{tab}
 use Rattle.image_size.specs.Sides.{size_refusal}
-use Rattle.astc_header.specs.Header.{HeaderTold, header_refusal, header_told, written_header}
+use Rattle.astc_header.specs.Header.{HeaderTold, header_refusal, header_told, header_bytes}
 
 -- the first refusal; after it 5, where the list lent is of n elements and not of m
 abbrev pub then_five : ℕ → ℕ → ℕ → ℕ
@@ -25,6 +26,10 @@ read_numbers s old = pick (eqb (length old) 3) (header_numbers (header_told s)) 
 unfoldable pub write_number : ℕ → ℕ → ℕ → ℕ → ℕ
 write_number fp w h n = then_five (size_refusal fp w h) n 16
 
+-- "The header writer refuses by 1 and 3, with sixteen zeros."
+unfoldable pub written_bytes : ℕ → ℕ → ℕ → List ℕ
+written_bytes fp w h = pick (eqb (size_refusal fp w h) 0) (header_bytes fp w h) (tab (λ k. 0) 16)
+
 -- the list after the call: the header, zeros on a refusal; as it was where it is not of sixteen bytes
 unfoldable pub write_bytes : ℕ → ℕ → ℕ → List ℕ → List ℕ
-write_bytes fp w h old = pick (eqb (length old) 16) (written_header fp w h).bytes old
+write_bytes fp w h old = pick (eqb (length old) 16) (written_bytes fp w h) old

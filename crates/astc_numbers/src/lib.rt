@@ -2,42 +2,32 @@
 #![tactic(auto)]
 
 ghost use Rattle.std.specs.Prelude.{◌≡◌, [], ◌∷◌, length};
+ghost use Rattle.reason.specs.Numbers.{refusal_told};
 ghost use Rattle.astc_header.specs.Header.{told_of};
 ghost use Rattle.astc_numbers.specs.Numbers.{then_five, header_numbers, read_number, read_numbers, write_number, write_bytes};
 
-use astc_header::{FileHeader, HeaderAnswer};
+use astc_header::FileHeader;
+use reason::Refusal;
 
 // The refusal, or 5 after it where a list has another length.
-fn then_five(refusal: u8, n: usize, wanted: usize) -> u8
-    ensures { result ≡ then_five refusal n wanted }
+fn then_five<T: Drop>(answer: Result<T, Refusal>, n: usize, wanted: usize) -> u8
+    ensures { result ≡ then_five (refusal_told answer) n wanted }
 {
-    if refusal != 0 {
-        return refusal;
-    }
-    if n == wanted { 0 } else { 5 }
-}
-
-fn refusal_told(a: HeaderAnswer) -> u8
-    ensures { result ≡ (told_of a).refusal }
-{
-    match a {
-        HeaderAnswer::Refused(e) => e,
-        HeaderAnswer::Accepted(_) => 0,
+    match answer {
+        Err(refusal) => refusal.into(),
+        Ok(_) => { if n == wanted { 0 } else { 5 } }
     }
 }
 
 // What is told of the header: zeros on a refusal.
-fn header_told(a: HeaderAnswer) -> FileHeader
-    ensures { result.footprint ∷ result.width ∷ result.height ∷ [] ≡ header_numbers (told_of a) }
+fn header_told(answer: Result<FileHeader, Refusal>) -> FileHeader
+    ensures { result.footprint ∷ result.width ∷ result.height ∷ [] ≡ header_numbers (told_of answer) }
 {
-    match a {
-        HeaderAnswer::Refused(_) => FileHeader {
-            footprint: 0,
-            width: 0,
-            height: 0,
-        },
-        HeaderAnswer::Accepted(h) => h,
-    }
+    answer.unwrap_or(FileHeader {
+        footprint: 0,
+        width: 0,
+        height: 0,
+    })
 }
 
 fn put_header(h: FileHeader, header: &mut [u32])
@@ -55,7 +45,7 @@ pub fn read_numbers(file: &[u8], header: &mut [u32]) -> u8
     ensures header_after { header.new ≡ read_numbers file.now header.old }
 {
     let answer = astc_header::read_header(file);
-    let number = then_five(refusal_told(answer), header.len(), 3);
+    let number = then_five(answer, header.len(), 3);
     if header.len() != 3 {
         return number;
     }
@@ -69,11 +59,10 @@ pub fn write_numbers(footprint: u8, width: u32, height: u32, header: &mut [u8]) 
     ensures header_after { header.new ≡ write_bytes footprint width height header.old }
 {
     let written = astc_header::write_header(footprint, width, height);
-    let number = then_five(written.refusal, header.len(), 16);
+    let number = then_five(written, header.len(), 16);
     if header.len() != 16 {
         return number;
     }
-    let bytes = written.bytes;
-    byte_list::put_block(bytes, header);
+    byte_list::put_block(written.unwrap_or([0u8; 16]), header);
     number
 }

@@ -1,13 +1,10 @@
 -- 02, a: "any accepted header is written again byte for byte", of what the reader's and the writer's call return.
 -- Assumes nothing.
-use Rattle.std.specs.Prelude.{ℕ, List, eqb, take}
-use Rattle.laws.specs.Choice.{pick}
-use Rattle.laws.specs.Table.{tab}
-use Rattle.astc_header.specs.declared.WrittenHeader.{WrittenHeader}
+use Rattle.std.specs.Prelude.{ℕ, List, take, Result}
+use Rattle.reason.specs.declared.Refusal.{Refusal}
+use Rattle.reason.specs.Answers.{Answers}
 use Rattle.astc_header.specs.Header.{header_refusal}
 
--- the file's own first sixteen bytes; sixteen zeros where the reader refuses
-unfoldable pub rewritten : List ℕ → WrittenHeader
-rewritten s =
-    pick (eqb (header_refusal s) 0) (record { refusal = 0; bytes = take 16 s })
-    (record { refusal = header_refusal s; bytes = tab (λ k. 0) 16 })
+-- the file's own first sixteen bytes; the reader's refusal where it refuses
+abbrev pub rewritten : List ℕ → Result (List ℕ) Refusal → Type 0
+rewritten s = Answers (header_refusal s) (take 16 s)

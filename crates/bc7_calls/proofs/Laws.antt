@@ -1,20 +1,18 @@
 -- What the calls' stages give.
 -- Assumes nothing.
-use mathlib.Core.Path.{◌≡◌, refl, sym, ap, subst, ◌∙◌}
+use mathlib.Core.Path.{◌≡◌, refl, sym, ap, ◌∙◌}
 use mathlib.Core.Bool.{Bool, true, false}
 use mathlib.Core.List.{List}
-use Prim.Native.Nat.{ℕ, ◌/◌, ◌%◌, ◌≤◌, ◌<◌}
+use Prim.Native.Nat.{ℕ, ◌/◌, ◌%◌}
 use native.Mathlib.Omega.{arith}
 use lib.Dec.{eqb}
 use lib.ListN.{length, get_or}
 use borrow.Author.Tests.{eqb-true, eqb-false, eq-eqb, ne_eqb}
 use Rattle.laws.specs.Choice.{pick}
 use Rattle.laws.specs.Table.{tab, Bytes}
-use Rattle.laws.specs.inner.Filled.{Filled}
-use Rattle.laws.proofs.Filling.{length_tab, get_or_tab, filled_all, Filling, filling_done}
+use Rattle.laws.proofs.Filling.{length_tab, get_or_tab}
 use Rattle.bits.specs.Field.{field}
 use Rattle.bits.specs.Block.{number_of, bytes_of}
-use Rattle.block_answer.specs.declared.Answer.{Answer}
 use Rattle.block_answer.specs.declared.Answer.TheVariants.{Refused, Faulty, Done}
 use Rattle.block_answer.specs.Told.{answer_for, number_told}
 use Rattle.bits.proofs.Halves.{loaded}
@@ -168,15 +166,8 @@ writing_told s w e = ap (λ (x : Bc7Writing). number_told x.answer) e ∙ go (eq
   go true q = sym (eqb-true (refusal_of s) 0 q)
   go false q = refl
 
--- ---- the copy of the texels
-
-own : (from : List ℕ) → Filled (λ k. get_or from k 0) 0 from 64
-unfolding Filled
-own from k h = refl
+-- ---- the texels
 
 pub texels_length : (B : ℕ) (l : List ℕ) → l ≡ shown_bytes B → length l ≡ 64
 unfolding shown_bytes texel_bytes
 texels_length B l e = ap length e ∙ length_tab (λ n. block_texel B (n / 4) (n % 4)) 64
-
-pub copied : (from : List ℕ) {out : List ℕ} {n : ℕ} → n ≡ 64 → Filling (λ k. get_or from k 0) 0 64 out n → length from ≡ 64 → out ≡ from
-copied from {out} {n} e w h = filling_done (λ k. get_or from k 0) 0 64 out n e w ∙ sym (filled_all (λ k. get_or from k 0) 0 from 64 h (own from))

@@ -3,6 +3,7 @@
 
 ghost use Rattle.std.specs.Prelude.{◌≡◌, length};
 ghost use Rattle.bits.specs.Block.{block_number};
+ghost use Rattle.reason.specs.Numbers.{refusal_told};
 ghost use Rattle.block_answer.specs.Told.{number_told};
 ghost use Rattle.bc7_block.specs.Refusals.{refusal_of};
 ghost use Rattle.bc7_block.specs.Reading.{zero_block};
@@ -11,6 +12,7 @@ ghost use Rattle.bc7_calls.specs.Calls.{decode_refusal, decode_answer, decode_to
 use bc7_block::Bc7Block;
 use bits::PhysicalBlock;
 use block_answer::Answer;
+use reason::Refusal;
 
 // What the reader of sheets answers, with the sheet.
 #[derive(Clone, Copy)]
@@ -28,28 +30,17 @@ pub struct Bc7Writing {
 
 // ---- the one-block call
 
-// 4, 5, or 0 for none.
-fn refusal(bytes: usize, places: usize) -> u8
-    ensures { result ≡ decode_refusal bytes places }
+// Refuses other than 16 bytes, then other than 64 places.
+fn check(bytes: usize, places: usize) -> Result<(), Refusal>
+    ensures { refusal_told result ≡ decode_refusal bytes places }
 {
     if bytes != 16 {
-        return 4;
+        return Err(Refusal::Bytes);
     }
     if places != 64 {
-        return 5;
+        return Err(Refusal::Places);
     }
-    0
-}
-
-fn copy(from: &[u8; 64], out: &mut [u8])
-    requires { (length from.now ≡ 64) × (length out.old ≡ 64) }
-    ensures { out.new ≡ from.now }
-{
-    let mut k: usize = 0;
-    while k < 64 {
-        out[k] = from[k];
-        k += 1;
-    }
+    Ok(())
 }
 
 // The texels of a block: sixteen, rows first, each of four bytes R, G, B, A.
@@ -58,14 +49,15 @@ pub fn decode_bc7(block: &[u8], out: &mut [u8]) -> Answer
     ensures out_after { out.new ≡ decode_out block.now out.old }
     ensures result_value { number_told result ≡ decode_told block.now (length out.old) }
 {
-    let n = refusal(block.len(), out.len());
-    if n != 0 {
-        return Answer::Refused(n);
+    match check(block.len(), out.len()) {
+        Err(refusal) => Answer::Refused(refusal.into()),
+        Ok(()) => {
+            let mut texels = [0u8; 64];
+            let fault = bc7_core::decode_into(bits::load(block), &mut texels);
+            out.copy_from_slice(&texels);
+            block_answer::answer_for(fault)
+        }
     }
-    let mut texels = [0u8; 64];
-    let fault = bc7_core::decode_into(bits::load(block), &mut texels);
-    copy(&texels, out);
-    block_answer::answer_for(fault)
 }
 
 // ---- sheets
@@ -133,13 +125,11 @@ pub fn write_bc7(s: Bc7Block) -> Bc7Writing
     ensures value { result ≡ writing_of s }
     ensures answer_value { number_told result.answer ≡ refusal_of s }
 {
-    let n = bc7_codec::refusal(s);
-    if n != 0 {
-        return refused(n);
-    }
-    let bytes = bits::store(bc7_codec::block_of(s));
-    Bc7Writing {
-        answer: Answer::Done,
-        bytes,
+    match bc7_codec::check(s) {
+        Err(refusal) => refused(refusal.into()),
+        Ok(()) => Bc7Writing {
+            answer: Answer::Done,
+            bytes: bits::store(bc7_codec::block_of(s)),
+        },
     }
 }

@@ -1,20 +1,16 @@
 -- Steps of the loops that read and write fields.
 -- Assumes nothing.
-use mathlib.Core.Path.{◌≡◌, refl, sym, ap, ap₂, subst, ◌∙◌}
-use mathlib.Core.Bool.{Bool, true, false}
+use mathlib.Core.Path.{◌≡◌, refl, sym, ap, subst, ◌∙◌}
 use mathlib.Core.List.{List}
-use Prim.Native.Nat.{ℕ, zero, suc, ◌+◌, ◌-◌, ◌*◌, ◌/◌, ◌%◌, ◌^◌, ◌≤◌, ◌<◌, min}
-use native.Mathlib.Nat.{mod-eq_of_lt, add_comm, lt_of_lt_of_le, div-one, min-eq_left}
+use Prim.Native.Nat.{ℕ, zero, suc, ◌+◌, ◌*◌, ◌%◌, ◌^◌, ◌≤◌, ◌<◌}
+use native.Mathlib.Nat.{mod-eq_of_lt, add_comm, lt_of_lt_of_le, div-one}
 use native.Mathlib.Numerals.{add-one}
 use native.Mathlib.Omega.{arith}
-use lib.Dec.{eqb}
 use lib.ListN.{get_or}
 use lib.Pow.{pow_mono}
-use borrow.Author.Tests.{ne_eqb, eq-eqb}
-use Rattle.laws.specs.Choice.{pick}
 use Rattle.bits.specs.Field.{field, stream}
-use Rattle.bits.proofs.Fields.{field_lt, pos_mono, stream_lt}
-use Rattle.bc7_layout.specs.Layout.{field_width, place_of, lowest_one, first_byte, mode_at}
+use Rattle.bits.proofs.Fields.{pos_mono, stream_lt}
+use Rattle.bc7_layout.specs.Layout.{field_width, place_of}
 use Rattle.bc7_layout.proofs.Tables.{filled_block, width_most}
 use Rattle.bc7_codec.specs.inner.Pieces.{FieldsFit}
 

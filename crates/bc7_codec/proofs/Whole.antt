@@ -1,7 +1,7 @@
 -- Whole lists of fields: of a block, and of a sheet.
 -- Assumes nothing.
 use mathlib.Core.Path.{◌≡◌, refl, sym, ap, ap₂, subst, ◌∙◌}
-use mathlib.Core.Bool.{Bool, true, false, not}
+use mathlib.Core.Bool.{Bool, true, false}
 use mathlib.Core.List.{List}
 use Prim.Native.Nat.{ℕ, zero, suc, ◌+◌, ◌^◌, ◌≤◌, ◌<◌}
 use native.Mathlib.Omega.{arith}
@@ -21,7 +21,7 @@ use Rattle.bc7_block.specs.declared.Bc7Block.{Bc7Block}
 use Rattle.bc7_block.specs.Fields.{value_in}
 use Rattle.bc7_block.specs.Refusals.{unknown_mode, fits_at, some_misfit, refusals, refusal_of}
 use Rattle.bc7_block.specs.Writing.{block_of}
-use Rattle.bc7_block.proofs.Fits.{Fitting, fitting}
+use Rattle.bc7_block.proofs.Fits.{fitting}
 use Rattle.bc7_codec.specs.Numbers.{sheet_number}
 use Rattle.bc7_codec.specs.inner.Pieces.{FieldsFit}
 

@@ -5,6 +5,7 @@
 ghost use Rattle.std.specs.Prelude.{◌≡◌, false, ◌+◌, ◌^◌, ◌≤◌, ◌<◌, ltb, get_or};
 ghost use Rattle.laws.specs.Choice.{both, all};
 ghost use Rattle.laws.specs.Table.{tab};
+ghost use Rattle.reason.specs.Numbers.{refusal_told};
 ghost use Rattle.bits.specs.Field.{field, stream};
 ghost use Rattle.bits.specs.Block.{block_number};
 ghost use Rattle.bc7_layout.specs.Modes.{subsets};
@@ -19,6 +20,7 @@ ghost use Rattle.bc7_codec.specs.inner.Pieces.{FieldsFit};
 
 use bc7_block::Bc7Block;
 use bits::PhysicalBlock;
+use reason::Refusal;
 
 // The plan of partition p of a mode.
 fn plan_for(m: u8, p: u8) -> u64
@@ -35,12 +37,10 @@ fn fields_in(b: PhysicalBlock, m: u8, p: u8, plan: u64) -> [u8; 60]
 {
     let mut f = [0u8; 60];
     let mut at: u32 = 0;
-    let mut k: usize = 0;
-    while k < 60 {
+    for k in 0..60usize {
         let w = bc7_layout::width_of(m, p, plan, k);
         f[k] = bc7_layout::small_field(b, at, w);
         at = w + at;
-        k += 1;
     }
     f
 }
@@ -56,39 +56,14 @@ pub fn read_fields(b: PhysicalBlock, m: u8) -> [u8; 60]
 
 // ---- fields and sheets
 
-fn endpoints_of(f: [u8; 60]) -> [u8; 18]
-    ensures { result ≡ tab (λ j. get_or f (4 + j) 0) 18 }
+// The N fields from `from` on.
+fn run_of<const N: usize>(f: [u8; 60], from: usize) -> [u8; N]
+    requires { from + N ≤ 60 }
+    ensures { result ≡ tab (λ j. get_or f (from + j) 0) N }
 {
-    let mut xs = [0u8; 18];
-    let mut j: usize = 0;
-    while j < 18 {
-        xs[j] = f[4 + j];
-        j += 1;
-    }
-    xs
-}
-
-fn pbits_of(f: [u8; 60]) -> [u8; 6]
-    ensures { result ≡ tab (λ j. get_or f (22 + j) 0) 6 }
-{
-    let mut xs = [0u8; 6];
-    let mut j: usize = 0;
-    while j < 6 {
-        xs[j] = f[22 + j];
-        j += 1;
-    }
-    xs
-}
-
-fn indices_of(f: [u8; 60], from: usize) -> [u8; 16]
-    requires { from ≤ 44 }
-    ensures { result ≡ tab (λ j. get_or f (from + j) 0) 16 }
-{
-    let mut xs = [0u8; 16];
-    let mut j: usize = 0;
-    while j < 16 {
+    let mut xs = [0u8; N];
+    for j in 0..N {
         xs[j] = f[from + j];
-        j += 1;
     }
     xs
 }
@@ -97,10 +72,10 @@ fn indices_of(f: [u8; 60], from: usize) -> [u8; 16]
 pub fn sheet_of(m: u8, f: [u8; 60]) -> Bc7Block
     ensures { result ≡ bc7_block m (λ k. get_or f k 0) }
 {
-    let endpoints = endpoints_of(f);
-    let pbits = pbits_of(f);
-    let primary = indices_of(f, 28);
-    let secondary = indices_of(f, 44);
+    let endpoints = run_of(f, 4);
+    let pbits = run_of(f, 22);
+    let primary = run_of(f, 28);
+    let secondary = run_of(f, 44);
     Bc7Block {
         mode: m,
         partition: f[1],
@@ -170,10 +145,8 @@ pub fn fields_of(s: Bc7Block) -> [u8; 60]
     ensures { result ≡ tab (value_in s) 60 }
 {
     let mut f = [0u8; 60];
-    let mut k: usize = 0;
-    while k < 60 {
+    for k in 0..60usize {
         f[k] = value_in(s, k);
-        k += 1;
     }
     f
 }
@@ -199,28 +172,26 @@ fn all_fit(f: [u8; 60], m: u8, p: u8, plan: u64) -> bool
     ensures { result ≡ all (λ k. ltb (get_or f k 0) (2 ^ field_width m p k)) 60 }
 {
     let mut ok = true;
-    let mut k: usize = 0;
-    while k < 60 {
+    for k in 0..60usize {
         let w = bc7_layout::width_of(m, p, plan, k);
         ok = both(fits_width(f[k], w), ok);
-        k += 1;
     }
     ok
 }
 
-// 72, 73, or 0 for none.
-pub fn refusal(s: Bc7Block) -> u8
-    ensures { result ≡ refusal_of s }
+// Refuses a mode above 7, then a field that does not fit its bits.
+pub fn check(s: Bc7Block) -> Result<(), Refusal>
+    ensures { refusal_told result ≡ refusal_of s }
 {
     if 7 < s.mode {
-        return 72;
+        return Err(Refusal::Bc7Mode);
     }
     let f = fields_of(s);
     let plan = plan_for(s.mode, s.partition);
     if all_fit(f, s.mode, s.partition, plan) {
-        return 0;
+        return Ok(());
     }
-    73
+    Err(Refusal::Bc7Field)
 }
 
 fn no_bits() -> PhysicalBlock
@@ -242,11 +213,9 @@ fn pile(f: [u8; 60], m: u8, p: u8, plan: u64) -> PhysicalBlock
 {
     let mut b = no_bits();
     let mut at: u32 = 0;
-    let mut k: usize = 0;
-    while k < 60 {
+    for k in 0..60usize {
         b = bits::append(b, at, wide(f[k]));
         at = bc7_layout::width_of(m, p, plan, k) + at;
-        k += 1;
     }
     b
 }

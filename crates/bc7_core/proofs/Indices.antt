@@ -3,11 +3,11 @@
 use mathlib.Core.Path.{◌≡◌, refl, sym, ap, ap₂, ◌∙◌}
 use mathlib.Core.Bool.{Bool, true, false, not}
 use Prim.Native.Nat.{ℕ, zero, suc, ◌+◌, ◌-◌, ◌*◌, ◌/◌, ◌%◌, ◌^◌, ◌≤◌, ◌<◌}
-use native.Mathlib.Nat.{add-zero, add-suc, add_comm, sub_self}
+use native.Mathlib.Nat.{add-zero, add-suc, add_comm}
 use native.Mathlib.Numerals.{add-one}
 use native.Mathlib.Omega.{arith}
 use lib.Dec.{T, eqb, ltb, leb, eqb→eq, leb→le, ltb→lt}
-use borrow.Author.Tests.{ne_eqb, eq-eqb, eqb-true, eqb-false, ltb-true, lt-ltb, le-ltb}
+use borrow.Author.Tests.{ne_eqb, eq-eqb, eqb-true, ltb-true, lt-ltb, le-ltb}
 use Rattle.laws.specs.Choice.{pick, both, either, all}
 use Rattle.laws.proofs.Computed.{each, both_left, both_right, both_true}
 use Rattle.bits.specs.Field.{field}
@@ -21,7 +21,7 @@ use Rattle.bc7_layout.proofs.Rows.{width_primary, width_secondary}
 use Rattle.bc7_layout.proofs.Packing.{plan_anchor}
 use Rattle.bc7_block.specs.Picture.{factor_of, primary_factor, secondary_factor, colour_factor, alpha_factor}
 use Rattle.bc7_core.specs.declared.IndexSet.{IndexSet}
-use Rattle.bc7_core.specs.inner.Sets.{set_bits, colour_set, alpha_set, rest_of, set_of, SetIn, primary, secondary, behind_of}
+use Rattle.bc7_core.specs.inner.Sets.{set_bits, colour_set, alpha_set, rest_of, set_of, SetIn, primary, secondary}
 use Rattle.bc7_ends.proofs.Places.{place_any}
 
 -- ---- Table 13.1 as lines

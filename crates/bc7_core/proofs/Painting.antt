@@ -1,14 +1,14 @@
 -- One texel after the other.
 -- Assumes nothing.
-use mathlib.Core.Path.{◌≡◌, refl, sym, ap, ap₂, subst, ◌∙◌}
-use mathlib.Core.Bool.{Bool, true, false}
-use mathlib.Core.List.{List, []}
-use Prim.Native.Nat.{ℕ, zero, suc, ◌+◌, ◌-◌, ◌*◌, ◌/◌, ◌%◌, ◌^◌, ◌≤◌, ◌<◌}
+use mathlib.Core.Path.{◌≡◌, sym, ap, ap₂, subst, ◌∙◌}
+use mathlib.Core.Bool.{Bool}
+use mathlib.Core.List.{List}
+use Prim.Native.Nat.{ℕ, ◌+◌, ◌-◌, ◌*◌, ◌/◌, ◌%◌, ◌^◌, ◌≤◌, ◌<◌}
 use native.Mathlib.Nat.{not-suc-le-zero}
 use native.Mathlib.Decide.{dec_lt}
 use native.Mathlib.Omega.{arith}
 use lib.Dec.{eqb}
-use lib.ListN.{length, get_or, set}
+use lib.ListN.{length, set}
 use lib.Seq.{get_or-set_same, get_or-set_other}
 use Rattle.laws.specs.Choice.{pick}
 use Rattle.laws.specs.Table.{tab}
@@ -16,13 +16,12 @@ use Rattle.laws.specs.inner.Filled.{Filled, put_four}
 use Rattle.laws.proofs.Filling.{filled_four, filled_all, length_four, tab_ext}
 use Rattle.bc7_layout.specs.Modes.{subsets, secondary_bits}
 use Rattle.bc7_layout.specs.Partitions.{subset_of}
-use Rattle.bc7_layout.specs.Layout.{field_width, mode_at, partition_field_at, is_reserved, field_at}
+use Rattle.bc7_layout.specs.Layout.{mode_at, partition_field_at, field_at}
 use Rattle.bc7_layout.specs.inner.Plan.{plan_of}
 use Rattle.bc7_layout.proofs.Packing.{plan_subset}
 use Rattle.bc7_layout.proofs.Tables.{subset_lt, subsets_most}
 use Rattle.bc7_block.specs.Reading.{fault_of}
 use Rattle.bc7_block.specs.Picture.{mixed, rotated, factor_of, end_channel, colour_factor, alpha_factor, mixed_at, texel_of, block_texel}
-use Rattle.bc7_block.proofs.Bounds.{factor_most}
 use Rattle.bc7_block.proofs.Demand.{read_partition, partition_lt}
 use Rattle.bc7_block.proofs.Known.{reserved_mode, known-mode, sound}
 use Rattle.bc7_ends.specs.inner.Lanes.{subset_line, Line255, sum_on, lane_byte}
@@ -30,7 +29,7 @@ use Rattle.bc7_ends.proofs.Places.{end_byte, turned_lt}
 use Rattle.bc7_ends.proofs.Mixing.{mixed_byte, line_most}
 use Rattle.bc7_core.specs.declared.IndexSet.{IndexSet}
 use Rattle.bc7_core.specs.Bytes.{texel_bytes, shown_bytes}
-use Rattle.bc7_core.specs.inner.Sets.{set_bits, colour_set, alpha_set, rest_of, set_of, SetIn, behind_of, set_factor, Factors, SumShows}
+use Rattle.bc7_core.specs.inner.Sets.{set_bits, rest_of, set_of, SetIn, behind_of, set_factor, Factors, SumShows}
 use Rattle.bc7_core.proofs.Indices.{set_width, rest_index, rest_next, set_least, set_most, colour_by_set, alpha_by_set, same_set}
 
 module _ (B plan : ℕ) (h : mode_at B < 8) (ep : plan ≡ plan_of (subsets (mode_at B)) (partition_field_at B)) (i : ℕ) (l : i < 16) where

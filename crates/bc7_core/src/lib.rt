@@ -163,11 +163,9 @@ fn factors(b: PhysicalBlock, f: Bc7Frame, set: IndexSet) -> [u64; 16]
 {
     let mut r = [0u64; 16];
     let mut s = set;
-    let mut i: usize = 0;
-    while i < 16 {
+    for i in 0..16usize {
         r[i] = factor_at(b, f, s, i as u32);
         s = past(b, f, s, i as u32);
-        i += 1;
     }
     r
 }
@@ -233,14 +231,12 @@ fn paint(
     requires factors_2 { Factors (alpha_factor (mode_at (block_number b)) (field_at (block_number b))) alphas.now 16 }
     ensures { out.new ≡ texel_bytes (texel_of (mode_at (block_number b)) (field_at (block_number b))) }
 {
-    let mut i: usize = 0;
-    while i < 16 {
+    for i in 0..16usize {
         put(
             out,
             4 * i,
             sum_at(b, f, lines, colours[i], alphas[i], i as u32),
         );
-        i += 1;
     }
 }
 
@@ -248,11 +244,7 @@ fn clear(out: &mut [u8; 64])
     requires { length out.old ≡ 64 }
     ensures { out.new ≡ tab (λ n. 0) 64 }
 {
-    let mut n: usize = 0;
-    while n < 64 {
-        out[n] = 0;
-        n += 1;
-    }
+    *out = [0u8; 64];
 }
 
 // A block's texels, and its fault.

@@ -4,14 +4,13 @@ use mathlib.Core.Path.{◌≡◌, refl, sym, ap, ap₂, ◌∙◌}
 use mathlib.Core.Bool.{Bool, true, false}
 use mathlib.Core.List.{List, [], ◌∷◌}
 use Prim.Native.Nat.{ℕ, zero, suc, ◌+◌, ◌-◌, ◌*◌, ◌/◌, ◌%◌, ◌≤◌, ◌<◌}
-use native.Mathlib.Nat.{mul-le-mul_right, mul-le-mul, add-mul, mul_right_comm, zero-mul, div-div-eq-div-mul}
+use native.Mathlib.Nat.{mul-le-mul_right, add-mul, mul_right_comm, zero-mul, div-div-eq-div-mul}
 use native.Mathlib.Omega.{arith}
 use native.Mathlib.Decide.{ℕ_discrete}
 use lib.Dec.{eqb}
-use lib.ListN.{get_or}
-use borrow.Author.Tests.{eqb-true, eqb-false, eq-eqb, ne_eqb}
+use borrow.Author.Tests.{eqb-true, eqb-false}
 use Rattle.laws.specs.Choice.{pick}
-use Rattle.bc7_block.specs.Picture.{mixed, rotated, end_channel, mixed_at}
+use Rattle.bc7_block.specs.Picture.{mixed, rotated, end_channel}
 use Rattle.bc7_ends.specs.inner.Lanes.{four_lanes, by_lane, colour_lane, alpha_lane, three_of, subset_line, Line255, sum_on, lane_byte}
 
 -- ---- lanes

@@ -2,22 +2,21 @@
 -- Assumes nothing.
 use mathlib.Core.Path.{◌≡◌, refl, sym, ap, ap₂, ◌∙◌}
 use mathlib.Core.Bool.{Bool, true, false, not}
-use Prim.Native.Nat.{ℕ, zero, suc, ◌+◌, ◌-◌, ◌*◌, ◌/◌, ◌%◌, ◌^◌, ◌≤◌, ◌<◌}
+use Prim.Native.Nat.{ℕ, zero, suc, ◌+◌, ◌*◌, ◌/◌, ◌%◌, ◌≤◌, ◌<◌}
 use native.Mathlib.Nat.{mul-le-mul}
 use native.Mathlib.Omega.{arith}
 use native.Mathlib.Decide.{dec_lt}
 use lib.Dec.{T, eqb, ltb, leb, eqb→eq, leb→le, ltb→lt}
-use borrow.Author.Tests.{lt-ltb, le-ltb, eq-eqb, ne_eqb, eqb-true, eqb-false}
+use borrow.Author.Tests.{eq-eqb, ne_eqb}
 use Rattle.laws.specs.Choice.{pick, both, either, all}
 use Rattle.laws.proofs.Computed.{each, both_left, both_right}
 use Rattle.bits.specs.Field.{field}
-use Rattle.bits.proofs.Fields.{field_lt}
 use Rattle.bc7_layout.specs.declared.Mode.{Mode}
 use Rattle.bc7_layout.specs.Modes.{mode_row, subsets, partition_bits, rotation_bits, selection_bits, colour_bits, alpha_bits, endpoint_pbits, shared_pbits, p_bits}
-use Rattle.bc7_layout.specs.Layout.{endpoint_width, p_bit_width, field_width, place_of, mode_at, partition_field_at, field_at}
+use Rattle.bc7_layout.specs.Layout.{field_width, place_of, mode_at, partition_field_at, field_at}
 use Rattle.bc7_layout.specs.inner.Plan.{plan_of}
 use Rattle.bc7_layout.proofs.Rows.{width_header, width_endpoint, width_pbit}
-use Rattle.bc7_layout.proofs.Tables.{subsets_most, colour_most, alpha_most, partition_most, rotation_most, selection_most}
+use Rattle.bc7_layout.proofs.Tables.{subsets_most, colour_most, alpha_most, rotation_most, selection_most}
 use Rattle.bc7_block.specs.Picture.{stored_end, p_bit_of, has_pbit, widened_end, end_channel, rotated}
 use Rattle.bc7_block.proofs.Bounds.{end_most, rotation_here, rotated_lt}
 use Rattle.bc7_block.proofs.Known.{fits}

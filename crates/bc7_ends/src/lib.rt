@@ -264,10 +264,8 @@ pub fn lines_of(b: PhysicalBlock, f: Bc7Frame) -> [[u64; 4]; 3]
     let n = row.subsets as usize;
     let r = rotation(b, f);
     let mut q = [[0u64; 4]; 3];
-    let mut j: usize = 0;
-    while j < n {
+    for j in 0..n {
         q[j] = line_of(b, f, r, j);
-        j += 1;
     }
     q
 }

@@ -1,14 +1,14 @@
 -- Pictures of BC7 blocks in raster order: what the picture call refuses, answers and leaves in the result buffer. Beyond 02, l, which asks for
 -- one block; sides, order, refusals 3, 4 and 5 and the tally are those of ASTC's picture call at 4x4 (footprint 0).
 -- Assumes nothing.
-use Rattle.std.specs.Prelude.{ℕ, ◌+◌, ◌*◌, ◌/◌, ◌%◌, ◌≡◌, not, List, [], ◌∷◌, eqb, length}
+use Rattle.std.specs.Prelude.{ℕ, ◌+◌, ◌*◌, ◌/◌, ◌%◌, ◌≡◌, not, List, [], ◌∷◌, eqb, length, Result}
 use Rattle.laws.specs.Choice.{pick, either}
 use Rattle.laws.specs.Reasons.{when, first_of}
 use Rattle.laws.specs.Table.{tab}
 use Rattle.image_size.specs.Sides.{bad_side, blocks_of}
+use Rattle.reason.specs.declared.Refusal.{Refusal}
+use Rattle.reason.specs.Answers.{Answers}
 use Rattle.image_layout.specs.declared.Tally.{Tally}
-use Rattle.image_layout.specs.declared.ImageAnswer.{ImageAnswer}
-use Rattle.image_layout.specs.declared.ImageAnswer.TheVariants.{Refused, Decoded}
 use Rattle.image_layout.specs.Geometry.{block_index}
 use Rattle.image_layout.specs.Numbers.{block_at}
 use Rattle.image_layout.specs.Faulty.{tally_of}
@@ -46,11 +46,9 @@ ThreeFourFive w h bytes places =
 unfoldable pub bc7_tally : ℕ → ℕ → List ℕ → Tally
 bc7_tally w h s = tally_of (bc7_fault_at s) (blocks_of 0 w h)
 
--- the answer, for every input
-unfoldable pub bc7_answer : ℕ → ℕ → List ℕ → ℕ → ImageAnswer
-bc7_answer w h s places =
-    let e = bc7_refusal w h (length s) places in
-    pick (eqb e 0) (Decoded (bc7_tally w h s)) (Refused e)
+-- what is answered, for every input: the refusal, or the faults of the blocks
+abbrev pub bc7_answer : ℕ → ℕ → List ℕ → ℕ → Result Tally Refusal → Type 0
+bc7_answer w h s places = Answers (bc7_refusal w h (length s) places) (bc7_tally w h s)
 
 -- the numbers told
 unfoldable pub bc7_told : ℕ → ℕ → List ℕ → ℕ → Told

@@ -5,13 +5,13 @@ ghost use Rattle.std.specs.Prelude.{◌≡◌, ◌+◌, ◌*◌, ◌≤◌, ◌<
 ghost use Rattle.laws.specs.Table.{tab};
 ghost use Rattle.image_layout.specs.Faulty.{tally_of};
 ghost use Rattle.image_layout.specs.Call.{told_of};
-ghost use Rattle.image_layout.specs.inner.Checked.{checked_of};
 ghost use Rattle.image_layout.specs.inner.Rows.{flat_picture};
 ghost use Rattle.picture_regions.specs.inner.Regions.{Pasted, Tile};
 ghost use Rattle.image_layout.specs.inner.Parts.{SoundGrid, PartFits, RunFits, PlacedRows};
 ghost use Rattle.bc7_image.specs.Image.{bc7_fault_at, bc7_number_at, bc7_numbers, bc7_answer, bc7_told, bc7_out};
 
-use image_layout::{CheckedImage, ImageAnswer, ImageGrid, Part, Run, Tally};
+use image_layout::{ImageGrid, Part, Run, Tally};
+use reason::Refusal;
 
 // Room for a block's bytes.
 fn blank() -> [u8; 64]
@@ -26,10 +26,8 @@ fn row_from(src: &[u8; 64], from: usize) -> [u8; 16]
     ensures { result ≡ tab (λ k. get_or src.now (from + k) 0) 16 }
 {
     let mut row = [0u8; 16];
-    let mut i: usize = 0;
-    while i < 16 {
+    for i in 0..16usize {
         row[i] = src[from + i];
-        i += 1;
     }
     row
 }
@@ -126,31 +124,17 @@ fn decode(g: ImageGrid, s: &[u8], out: &mut [u8]) -> Tally
     t
 }
 
-// A picture, once it is checked.
-fn answer(
-    checked: CheckedImage,
+// A picture to four bytes R, G, B, A for each texel, rows first.
+pub fn decode_image_bc7(
     width: u32,
     height: u32,
     blocks: &[u8],
     out: &mut [u8],
-) -> ImageAnswer
-    requires { checked ≡ checked_of 0 width height (length blocks.now) (length out.old) }
-    ensures answer { result ≡ bc7_answer width height blocks.now (length out.old) }
+) -> Result<Tally, Refusal>
+    ensures answer { bc7_answer width height blocks.now (length out.old) result }
     ensures told { told_of result ≡ bc7_told width height blocks.now (length out.old) }
     ensures image { out.new ≡ bc7_out width height blocks.now out.old }
 {
-    match checked {
-        CheckedImage::Rejected(e) => ImageAnswer::Refused(e),
-        CheckedImage::Accepted(g) => ImageAnswer::Decoded(decode(g, blocks, out)),
-    }
-}
-
-// A picture to four bytes R, G, B, A for each texel, rows first.
-pub fn decode_image_bc7(width: u32, height: u32, blocks: &[u8], out: &mut [u8]) -> ImageAnswer
-    ensures answer { result ≡ bc7_answer width height blocks.now (length out.old) }
-    ensures told { told_of result ≡ bc7_told width height blocks.now (length out.old) }
-    ensures image { out.new ≡ bc7_out width height blocks.now out.old }
-{
-    let checked = image_layout::check_image(0, width, height, blocks.len(), out.len());
-    answer(checked, width, height, blocks, out)
+    let g = image_layout::check_image(0, width, height, blocks.len(), out.len())?;
+    Ok(decode(g, blocks, out))
 }

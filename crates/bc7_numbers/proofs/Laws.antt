@@ -1,6 +1,6 @@
 -- The answers of both calls in each case.
 -- Assumes nothing.
-use mathlib.Core.Path.{◌≡◌, refl, sym, ap, ◌∙◌}
+use mathlib.Core.Path.{◌≡◌, sym, ap, ◌∙◌}
 use mathlib.Core.Bool.{Bool, true, false}
 use mathlib.Core.List.{List}
 use Prim.Native.Nat.{ℕ}
@@ -9,16 +9,13 @@ use lib.ListN.{length, get_or}
 use borrow.Author.Tests.{eq-eqb, ne_eqb}
 use Rattle.laws.specs.Choice.{pick, both}
 use Rattle.laws.specs.Table.{tab}
-use Rattle.laws.proofs.Filling.{length_tab, filled_all, get_or_tab}
 use Rattle.block_answer.specs.Told.{number_told}
-use Rattle.block_answer.specs.declared.Answer.TheVariants.{Refused, Done}
 use Rattle.bc7_block.specs.declared.Bc7Block.{Bc7Block}
-use Rattle.bc7_block.specs.Refusals.{refusal_of}
 use Rattle.bc7_block.specs.Reading.{bc7_block}
 use Rattle.bc7_codec.specs.Numbers.{sheet_number}
 use Rattle.bc7_calls.specs.declared.Bc7Reading.{Bc7Reading}
 use Rattle.bc7_calls.specs.declared.Bc7Writing.{Bc7Writing}
-use Rattle.bc7_calls.specs.Calls.{reading_of, refused_with, writing_of}
+use Rattle.bc7_calls.specs.Calls.{reading_of, writing_of}
 use Rattle.bc7_numbers.specs.Calls.{read_number, read_numbers, sheet_from, write_number, write_block}
 
 -- ---- the reader

@@ -13,10 +13,8 @@ fn put(s: Bc7Block, numbers: &mut [u8])
     requires { length numbers.old ≡ 60 }
     ensures { numbers.new ≡ tab (sheet_number s) 60 }
 {
-    let mut k: usize = 0;
-    while k < 60 {
+    for k in 0..60usize {
         numbers[k] = bc7_codec::number_in(s, k);
-        k += 1;
     }
 }
 
@@ -41,19 +39,6 @@ pub fn read_numbers(block: &[u8], numbers: &mut [u8]) -> u8
     block_answer::number_told(answer)
 }
 
-fn array_of(numbers: &[u8]) -> [u8; 60]
-    requires { length numbers.now ≡ 60 }
-    ensures { result ≡ numbers.now }
-{
-    let mut f = [0u8; 60];
-    let mut k: usize = 0;
-    while k < 60 {
-        f[k] = numbers[k];
-        k += 1;
-    }
-    f
-}
-
 // The block of a sheet: 0, 72 or 73 with zeros, or 4, 5 with the block as it was where a length is wrong.
 pub fn write_numbers(numbers: &[u8], block: &mut [u8]) -> u8
     ensures value { result ≡ write_number numbers.now (length block.old) }
@@ -65,7 +50,8 @@ pub fn write_numbers(numbers: &[u8], block: &mut [u8]) -> u8
     if numbers.len() != 60 {
         return 5;
     }
-    let f = array_of(numbers);
+    let mut f = [0u8; 60];
+    f.copy_from_slice(numbers);
     let s = bc7_codec::sheet_of(f[0], f);
     let writing = bc7_calls::write_bc7(s);
     let answer = writing.answer;

@@ -4,7 +4,7 @@
 
 ghost use Rattle.std.specs.Prelude.{◌<◌};
 
-use image_layout::{ImageAnswer, Tally};
+use image_layout::Tally;
 use std::io;
 use std::io::{Read, Write};
 
@@ -63,8 +63,8 @@ fn picture<W: Write>(output: &mut W, width: u32, height: u32, blocks: &[u8]) -> 
     let mut texels = [7u8; 280];
     let answer = bc7_image::decode_image_bc7(width, height, blocks, &mut texels);
     match answer {
-        ImageAnswer::Refused(n) => word(output, b"refused ", n)?,
-        ImageAnswer::Decoded(t) => tally(output, t)?,
+        Err(refusal) => word(output, b"refused ", refusal.into())?,
+        Ok(t) => tally(output, t)?,
     }
     list(output, &texels)
 }

@@ -2,19 +2,18 @@
 -- Assumes nothing.
 use mathlib.Core.Path.{◌≡◌, refl, sym, ap, ap₂, ◌∙◌, subst}
 use mathlib.Core.List.{List}
-use Prim.Native.Nat.{ℕ, zero, suc, ◌+◌, ◌-◌, ◌*◌, ◌/◌, ◌%◌, ◌^◌, ◌≤◌, ◌<◌}
-use native.Mathlib.Nat.{mod-lt, mod-eq_of_lt, lt_of_lt_of_le, lt_of_le_of_lt, mul-mod_left, add-zero, zero-add, div-one, div-eq_of_lt}
+use Prim.Native.Nat.{ℕ, suc, ◌+◌, ◌-◌, ◌*◌, ◌/◌, ◌%◌, ◌^◌, ◌≤◌, ◌<◌}
+use native.Mathlib.Nat.{mod-eq_of_lt, lt_of_lt_of_le, mul-mod_left, add-zero, div-one}
 use native.Mathlib.Omega.{arith}
 use lib.Arith.{digits_lt}
-use lib.Pow.{pow_pos, pow-add, pow_mono, high, low, mod-pow-add, shr-shr, shr_lt, shr_le, shl-shr}
+use lib.Pow.{pow_mono, high, low, mod-pow-add, shr_lt, shl-shr}
 use lib.ListN.{length, get_or}
 use lib.Seq.{ext_get_or}
-use Rattle.laws.specs.Table.{tab, Bytes}
+use Rattle.laws.specs.Table.{Bytes}
 use Rattle.laws.proofs.Filling.{length_tab, get_or_tab}
 use Rattle.bits.specs.Field.{field, stream}
-use Rattle.bits.specs.Block.{number_of, bytes_of, block_number}
-use Rattle.bits.specs.declared.PhysicalBlock.{PhysicalBlock}
-use Rattle.bits.proofs.Fields.{field_lt, field_past, field_cut, field_below, byte_below, stream_lt, stream_at, restream, stream_ext}
+use Rattle.bits.specs.Block.{number_of, bytes_of}
+use Rattle.bits.proofs.Fields.{field_past, field_cut, field_below, byte_below, stream_lt, stream_at, restream, stream_ext}
 
 next_byte : (i : ℕ) → 8 * suc i ≡ 8 + 8 * i
 next_byte i = omega arith

@@ -1,6 +1,6 @@
 -- The laws of fields and of streams.
 -- Assumes nothing.
-use mathlib.Core.Path.{◌≡◌, refl, subst, sym, ap, ap₂, ◌∙◌}
+use mathlib.Core.Path.{◌≡◌, refl, sym, ap, ap₂, ◌∙◌}
 use mathlib.Core.Logic.{⊎_elim}
 use Prim.Native.Nat.{ℕ, zero, suc, ◌+◌, ◌-◌, ◌*◌, ◌/◌, ◌%◌, ◌^◌, ◌≤◌, ◌<◌}
 use native.Mathlib.Nat.{le_of_suc-le-suc, not-suc-le-zero, suc_inj, eq-or-lt_of_le, lt_of_lt_of_le, mod-lt, mod-eq_of_lt, zero-mod, div-eq_of_lt, mul-add-div_right, mul-add-mod_self_right, mul_assoc, mod-one, le_refl}

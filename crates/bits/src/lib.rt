@@ -46,9 +46,7 @@ fn cut_word(s: &[u8], k: usize) -> u64
     ensures { result ≡ field (number_of s.now) (8 * k) 64 }
 {
     let mut word: u64 = 0;
-    let mut left: usize = 8;
-    while 0 < left {
-        left -= 1;
+    for left in (0..8).rev() {
         word = word * 256 + byte_at(s, k + left);
     }
     word
@@ -206,10 +204,8 @@ pub fn store(b: PhysicalBlock) -> [u8; 16]
     ensures { result ≡ bytes_of 16 (block_number b) }
 {
     let mut s = [0u8; 16];
-    let mut k: usize = 0;
-    while k < 16 {
+    for k in 0..16 {
         s[k] = byte_of(b, k);
-        k += 1;
     }
     s
 }

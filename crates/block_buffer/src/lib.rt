@@ -30,9 +30,7 @@ pub fn flood(t: Texel, count: usize, out: &mut [u16; 864])
     requires { count ≤ 216 }
     ensures { (width : ℕ) → length out.old ≡ 864 → out.new ≡ painted width (λ x y. t) count out.old }
 {
-    let mut i: usize = 0;
-    while i < count {
+    for i in 0..count {
         put(out, 4 * i, t.r, t.g, t.b, t.a);
-        i += 1;
     }
 }

@@ -64,11 +64,10 @@ use Rattle.volume_mode.proofs.Modes.{mode_deep}
 use Rattle.bits.specs.Field.{field}
 use Rattle.bits.proofs.Fields.{field_lt}
 use Rattle.void_extent.specs.Layout.{colour_at, hdr_void_extent}
-use Rattle.block_fault.specs.declared.Settings.{Settings}
 use Rattle.block_fault.specs.Bits.{mode_at, is_void, grid_in, header_with, header_at, endpoint_at, weight_at}
 use Rattle.block_fault.specs.Faults.{fault_of}
-use Rattle.block_fault.proofs.Stages.{settled_reserved}
-use Rattle.block_fault.proofs.Verdicts.{settings_verdict, told_fault, coded_limits}
+use Rattle.block_fault.proofs.Stages.{reserved_fault}
+use Rattle.block_fault.proofs.Sound.{coded_limits}
 use Rattle.texel.specs.Meaning.{endpoint_levels, weight_levels, plane_weight, second_weight, second_component, partition_texel, mixed_texel, texel_from, solid_texel, error_texel, channel}
 use Rattle.texel.specs.BlockTexel.{sound_texel, block_texel, in_row, block_channel, block_into}
 use Rattle.block_core.specs.declared.FlatFrame.{FlatFrame}
@@ -360,7 +359,7 @@ module _ (hdr : Bool) (fp B : ℕ) where
   coded_deep e v = go (block_mode_in (is_volume fp) (field B 0 11)) refl v where
     go : (m : BlockMode) → block_mode_in (is_volume fp) (field B 0 11) ≡ m → is_void m ≡ false → is_deep (grid_in (block_mode_in (is_volume fp) (field B 0 11))) ≡ is_volume fp
     go VoidExtent q w = absurd (let k : ◌≡◌ {A = Bool} true false = w in let k2 : ◌≡◌ {A = ℕ} 0 1 = cc in omega arith)
-    go Reserved q w = absurd (let k = told_fault hdr fp B 11 (sym (settings_verdict hdr fp B) ∙ sym (ap (λ (s : Settings). s.verdict) (settled_reserved hdr fp B q))) in omega (arith, k.0, e))
+    go Reserved q w = absurd (omega (arith, reserved_fault hdr fp B q, e))
     go (Grid g) q w = rw q (mode_deep (is_volume fp) (field B 0 11) (field_lt B 0 11) g q)
 
   pub flat_grid_lem : fault_of hdr fp B ≡ 0 → is_void (mode_at fp B) ≡ false → is_volume fp ≡ false → (header_at fp B).grid.depth ≡ 1

@@ -20,7 +20,7 @@ ghost use Rattle.weight_grid.specs.inner.Pairs.{OnePlane};
 
 use bits::PhysicalBlock;
 use block_buffer::{place, put};
-use block_fault::{Settings, Verdict};
+use block_fault::{Contents, Settings};
 use block_mode::WeightGrid;
 use encoding::LevelPair;
 use interpolation::{Kind, Texel};
@@ -105,14 +105,12 @@ fn paint(
 {
     let row = g.width as usize;
     let columns = weight_grid::columns(f.across, g.width, f.width);
-    let mut y: u8 = 0;
-    while y < f.height {
+    for y in 0..f.height {
         let gt = weight_grid::grid_place(f.down, y, g.height);
         let upper = ((gt / 16) as usize) * row;
         let lower = upper + weight_grid::step(gt, g.height, row);
         let which = partition::row_partitions(seeds, partitions, y);
-        let mut x: u8 = 0;
-        while x < f.width {
+        for x in 0..f.width {
             let c = columns[x as usize];
             let left = c.at as usize;
             let right = c.next as usize;
@@ -124,9 +122,7 @@ fn paint(
             let line = lines[which[x as usize] as usize];
             let t = half_line::mix(kind, line, both, component);
             put(out, place(f.width, x, y), t.r, t.g, t.b, t.a);
-            x += 1;
         }
-        y += 1;
     }
 }
 
@@ -148,16 +144,14 @@ fn paint_single(
     let places = weight_grid::places(f.across, g.width, f.width);
     let pairs = weight_grid::pairs(points);
     let line = lines[0];
-    let mut y: u8 = 0;
-    while y < f.height {
+    for y in 0..f.height {
         let gt = weight_grid::grid_place(f.down, y, g.height);
         let from = ((gt / 16) as usize) * row;
         let next = from + weight_grid::step(gt, g.height, row);
         let mut upper: [u16; 16] = [0; 16];
         let mut lower: [u16; 16] = [0; 16];
         weight_grid::factor_pairs(&places, gt, &mut upper, &mut lower);
-        let mut x: u8 = 0;
-        while x < f.width {
+        for x in 0..f.width {
             let i = x as usize;
             let at = (places[i] / 16) as usize;
             let above = pairs[from + at];
@@ -172,9 +166,7 @@ fn paint_single(
                 texel.b,
                 texel.a,
             );
-            x += 1;
         }
-        y += 1;
     }
 }
 
@@ -214,11 +206,9 @@ fn paint_points(
     ensures { (width : ℕ) (texel : ℕ → ℕ → Texel) → ((t : ℕ) → t < count → point_texel kind component points lines.now t ≡ texel (t % width) (t / width)) → length out.old ≡ 864 → out.new ≡ painted width texel count out.old }
 {
     let line = lines[0];
-    let mut i: usize = 0;
-    while i < count {
+    for i in 0..count {
         let t = half_line::mix(kind, line, points[i], component);
         put(out, 4 * i, t.r, t.g, t.b, t.a);
-        i += 1;
     }
 }
 
@@ -321,18 +311,16 @@ fn decode_halves(
     ensures { Shows (fault_of (takes_hdr kind) fp (block_number (halves lo hi))) (block_into fp kind (block_number (halves lo hi))) fp result out.old out.new }
 {
     let block = PhysicalBlock { lo, hi };
-    let s = block_fault::read_settings(interpolation::takes_hdr(kind), volume, block, fp);
-    let v = s.verdict;
-    match v {
-        Verdict::Fault(fault) => {
-            let texel = error_texel(kind);
-            Decoded::Uniform(UniformBlock { texel, fault })
-        }
-        Verdict::VoidExtent => {
-            let texel = block_levels::colours(kind, block);
-            Decoded::Uniform(UniformBlock { texel, fault: 0 })
-        }
-        Verdict::Coded => {
+    match block_fault::read_settings(interpolation::takes_hdr(kind), volume, block, fp) {
+        Err(fault) => Decoded::Uniform(UniformBlock {
+            texel: error_texel(kind),
+            fault: fault.into(),
+        }),
+        Ok(Contents::VoidExtent) => Decoded::Uniform(UniformBlock {
+            texel: block_levels::colours(kind, block),
+            fault: 0,
+        }),
+        Ok(Contents::Coded(s)) => {
             paint_coded(block, s, fp, volume, kind, out);
             Decoded::Buffered
         }

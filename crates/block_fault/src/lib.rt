@@ -8,65 +8,32 @@ ghost use Rattle.bits.specs.Block.{block_number};
 ghost use Rattle.block_header.specs.Counts.{weight_bits};
 ghost use Rattle.block_mode.specs.declared.BlockMode.TheVariants.{Grid};
 ghost use Rattle.laws.specs.Reasons.{first_of};
-ghost use Rattle.block_fault.specs.Bits.{mode_at, mode_of, header_with, selector_at, endpoints_from};
-ghost use Rattle.block_fault.specs.Faults.{void_reasons};
+ghost use Rattle.block_fault.specs.Bits.{mode_at, mode_of, header_with, selector_at, endpoints_from, header_at};
+ghost use Rattle.block_fault.specs.Faults.{void_reasons, fault_of};
 ghost use Rattle.footprint.specs.Footprint.{is_volume};
 ghost use Rattle.void_extent.specs.Layout.{hdr_void_extent};
-ghost use Rattle.block_header.specs.inner.Stages.{stage_of};
-ghost use Rattle.block_fault.specs.inner.Settings.{bare_of, settings_of};
-ghost use Rattle.block_fault.specs.inner.Stages.{verdict_from, stage_in, void_settings};
+ghost use Rattle.reason.specs.Numbers.{fault_in};
+ghost use Rattle.reason.specs.Answers.{Reads};
+ghost use Rattle.block_fault.specs.inner.Settings.{settings_of, contents_of};
 
 use bits::PhysicalBlock;
-use block_header::{BlockHeader, Stage};
+use block_header::BlockHeader;
 use block_mode::{BlockMode, WeightGrid};
+use reason::Fault;
 
-// What a block is: coded, of one colour (01: solid), or with a fault, 01's number of it.
-#[derive(Clone, Copy)]
-pub enum Verdict {
-    Coded,
-    VoidExtent,
-    Fault(u8),
-}
-
-// The settings of a coded block without fault, how many endpoint numbers it has and their quantisation range; all 0 for any other.
+// What the bits of a coded block without fault say: its settings, how many endpoint numbers it has and their quantisation range.
 #[derive(Clone, Copy)]
 pub struct Settings {
-    pub verdict: Verdict,
     pub header: BlockHeader,
     pub numbers: u8,
     pub range: u8,
 }
 
-fn bare(verdict: Verdict) -> Settings
-    ensures { result ≡ bare_of verdict }
-{
-    let grid = WeightGrid {
-        width: 0,
-        height: 0,
-        depth: 0,
-        range: 0,
-        planes: 0,
-    };
-    let header = BlockHeader {
-        grid,
-        component: 0,
-        partitions: 0,
-        index: 0,
-        selector: 0,
-        modes: [0u8; 4],
-    };
-    Settings {
-        verdict,
-        header,
-        numbers: 0,
-        range: 0,
-    }
-}
-
-fn both(a: bool, b: bool) -> bool
-    ensures { result ≡ both a b }
-{
-    if a { b } else { false }
+// A block without fault: of one colour everywhere, or coded.
+#[derive(Clone, Copy)]
+pub enum Contents {
+    VoidExtent,
+    Coded(Settings),
 }
 
 // Whether a void extent is refused for its bit 9, HDR taken or not.
@@ -79,18 +46,18 @@ fn hdr_refused(hdr: bool, b: PhysicalBlock) -> bool
     void_extent::hdr_void_extent(b)
 }
 
-// The stage of a void extent: 12, then 13.
-fn void_stage(hdr: bool, volume: bool, b: PhysicalBlock, fp: u8) -> Stage
+// What makes a void extent faulty: 12, then 13.
+fn void_stage(hdr: bool, volume: bool, b: PhysicalBlock, fp: u8) -> Result<(), Fault>
     requires { volume ≡ is_volume fp }
-    ensures { result ≡ stage_of (first_of (void_reasons hdr fp (block_number b))) }
+    ensures { fault_in result ≡ first_of (void_reasons hdr fp (block_number b)) }
 {
     if void_extent::bad_void_extent(volume, b) {
-        return Stage::Stopped(12);
+        return Err(Fault::VoidExtent);
     }
     if hdr_refused(hdr, b) {
-        return Stage::Stopped(13);
+        return Err(Fault::HdrVoidExtent);
     }
-    Stage::Passed
+    Ok(())
 }
 
 // The mode of partition i, of the mode bits past the selector; 0 past the last partition.
@@ -165,25 +132,14 @@ fn header_with(
     }
 }
 
-// What a stage that stops makes of a block.
-fn verdict_of(s: Stage) -> Verdict
-    ensures { result ≡ verdict_from s }
+// 17: two planes with four partitions.
+fn planes_stage(planes: u8, partitions: u8) -> Result<(), Fault>
+    ensures { fault_in result ≡ pick (both (eqb planes 2) (eqb partitions 4)) 17 0 }
 {
-    match s {
-        Stage::Passed => Verdict::Coded,
-        Stage::Stopped(n) => Verdict::Fault(n),
+    if (planes == 2) & (partitions == 4) {
+        return Err(Fault::FourWithTwoPlanes);
     }
-}
-
-// The stage of 17: two planes with four partitions.
-fn planes_stage(planes: u8, partitions: u8) -> Stage
-    ensures { result ≡ stage_of (pick (both (eqb planes 2) (eqb partitions 4)) 17 0) }
-{
-    if both(planes == 2, partitions == 4) {
-        Stage::Stopped(17)
-    } else {
-        Stage::Passed
-    }
+    Ok(())
 }
 
 // The header of a block whose mode is the grid g.
@@ -196,72 +152,37 @@ fn header_at(b: PhysicalBlock, g: WeightGrid, weights: u32, partitions: u8) -> B
     header_with(b, g, weights, partitions, selector)
 }
 
-// The settings of a block whose mode is the grid g: each stage's fault is told at once.
-fn coded(hdr: bool, b: PhysicalBlock, fp: u8, g: WeightGrid) -> Settings
+// The settings of a block whose mode is the grid g: the first stage that stops tells its fault.
+fn coded(hdr: bool, b: PhysicalBlock, fp: u8, g: WeightGrid) -> Result<Settings, Fault>
     requires { mode_at fp (block_number b) ≡ Grid g }
-    ensures { result ≡ settings_of hdr fp (block_number b) }
+    ensures { Reads (fault_of hdr fp (block_number b)) (settings_of (header_at fp (block_number b))) result }
 {
     let weights = block_header::weight_bits(g);
-    let grid = block_header::grid_stage(fp, g, weights);
-    let Stage::Passed = grid else {
-        return bare(verdict_of(grid));
-    };
+    block_header::grid_stage(fp, g, weights)?;
     let partitions = bits::field_at(b, 11, 2) as u8 + 1;
-    let planes = planes_stage(g.planes, partitions);
-    let Stage::Passed = planes else {
-        return bare(verdict_of(planes));
-    };
-    let h = header_at(b, g, weights as u32, partitions);
-    let count = block_header::endpoint_count(h);
-    let left = block_header::bits_left_with(h, weights);
-    let ends = block_header::endpoint_stage(hdr, h, count, left);
-    let Stage::Passed = ends else {
-        return bare(verdict_of(ends));
-    };
-    let numbers = count as u8;
-    let range = quantization::endpoint_range(count, left);
-    Settings {
-        verdict: Verdict::Coded,
-        header: h,
-        numbers,
-        range,
-    }
+    planes_stage(g.planes, partitions)?;
+    let header = header_at(b, g, weights as u32, partitions);
+    let count = block_header::endpoint_count(header);
+    let left = block_header::bits_left_with(header, weights);
+    block_header::endpoint_stage(hdr, header, count, left)?;
+    Ok(Settings {
+        header,
+        numbers: count as u8,
+        range: quantization::endpoint_range(count, left),
+    })
 }
 
-// The settings of a block, HDR taken or not, read once. Whether the footprint is a volume is said beside it: a caller that knows says so once.
-pub fn read_settings(hdr: bool, volume: bool, b: PhysicalBlock, fp: u8) -> Settings
+// What a block comes to, HDR taken or not, read once. Whether the footprint is a volume is said beside it: a caller that knows says so once.
+pub fn read_settings(hdr: bool, volume: bool, b: PhysicalBlock, fp: u8) -> Result<Contents, Fault>
     requires { volume ≡ is_volume fp }
-    ensures { result ≡ settings_of hdr fp (block_number b) }
+    ensures { Reads (fault_of hdr fp (block_number b)) (contents_of fp (block_number b)) result }
 {
-    let mode = volume_mode::block_mode_in(volume, bits::field_at(b, 0, 11) as u16);
-    if let BlockMode::VoidExtent = mode {
-        return void_settings(hdr, volume, b, fp);
-    }
-    let BlockMode::Grid(g) = mode else {
-        return bare(Verdict::Fault(11));
-    };
-    coded(hdr, b, fp, g)
-}
-
-// A void extent, once its stage has passed.
-fn void_settings(hdr: bool, volume: bool, b: PhysicalBlock, fp: u8) -> Settings
-    requires { volume ≡ is_volume fp }
-    ensures { result ≡ void_settings hdr fp (block_number b) }
-{
-    let stage = void_stage(hdr, volume, b, fp);
-    let Stage::Passed = stage else {
-        return bare(verdict_of(stage));
-    };
-    bare(Verdict::VoidExtent)
-}
-
-// The fault of a block whose settings are read, as a stage.
-pub fn stage_in(v: Verdict) -> Stage
-    ensures { result ≡ stage_in v }
-{
-    match v {
-        Verdict::Coded => Stage::Passed,
-        Verdict::VoidExtent => Stage::Passed,
-        Verdict::Fault(n) => Stage::Stopped(n),
+    match volume_mode::block_mode_in(volume, bits::field_at(b, 0, 11) as u16) {
+        BlockMode::Reserved => Err(Fault::ReservedMode),
+        BlockMode::VoidExtent => {
+            void_stage(hdr, volume, b, fp)?;
+            Ok(Contents::VoidExtent)
+        }
+        BlockMode::Grid(g) => Ok(Contents::Coded(coded(hdr, b, fp, g)?)),
     }
 }

@@ -17,9 +17,9 @@ use lib.Dec.{ltb}
 use Rattle.laws.specs.Choice.{pick, either}
 use Rattle.block_mode.specs.declared.WeightGrid.{WeightGrid}
 use Rattle.block_header.specs.declared.BlockHeader.{BlockHeader}
-use Rattle.block_header.specs.Counts.{weight_count, weight_bits, endpoint_count, bits_left}
+use Rattle.block_header.specs.Counts.{weight_bits, endpoint_count, bits_left}
 use Rattle.color_endpoint.specs.Modes.{is_hdr}
-use Rattle.block_header.specs.Reasons.{grid_too_large, too_many_weights, weight_bits_outside, too_many_endpoints, too_few_endpoint_bits, some_hdr, hdr_refused}
+use Rattle.block_header.specs.Reasons.{grid_too_large, too_many_weights, weight_bits_outside, too_many_endpoints, too_few_endpoint_bits, hdr_refused}
 use Rattle.block_header.specs.inner.Stages.{grid_fault, endpoint_fault}
 use Rattle.laws.specs.Reasons.{some}
 

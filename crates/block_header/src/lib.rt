@@ -2,13 +2,15 @@
 #![tactic(auto)]
 
 ghost use Rattle.std.specs.Prelude.{◌≡◌, ◌≤◌, min, eqb};
-ghost use Rattle.laws.specs.Choice.{pick, either};
+ghost use Rattle.laws.specs.Choice.{pick};
 ghost use Rattle.color_endpoint.specs.Table.{number_count};
 ghost use Rattle.block_header.specs.Reasons.{some_hdr, hdr_refused};
-ghost use Rattle.block_header.specs.inner.Stages.{grid_fault, endpoint_fault, stage_of, stage_told};
+ghost use Rattle.block_header.specs.inner.Stages.{grid_fault, endpoint_fault};
+ghost use Rattle.reason.specs.Numbers.{fault_in};
 ghost use Rattle.block_header.specs.Counts.{weight_count, weight_bits, component_bits, partition_index_bits, selector_bits, extra_bits, endpoint_count, bits_left, endpoint_range_of};
 
 use block_mode::WeightGrid;
+use reason::Fault;
 
 // The settings of a block that is no void extent: 01's fields of a mode sheet, without its numbers.
 #[derive(Clone, Copy)]
@@ -19,23 +21,6 @@ pub struct BlockHeader {
     pub index: u16,
     pub selector: u8,
     pub modes: [u8; 4],
-}
-
-// What a stage of reading a block comes to: it passes, or stops with 01's number.
-#[derive(Clone, Copy)]
-pub enum Stage {
-    Passed,
-    Stopped(u8),
-}
-
-// 01's number of a stage's answer, 0 for none.
-pub fn stage_told(s: Stage) -> u8
-    ensures { result ≡ stage_told s }
-{
-    match s {
-        Stage::Passed => 0,
-        Stage::Stopped(n) => n,
-    }
 }
 
 fn wide(x: u8) -> u32
@@ -156,50 +141,35 @@ pub fn endpoint_range_of(h: BlockHeader) -> u8
     quantization::endpoint_range(endpoint_count(h), bits_left(h))
 }
 
-fn either(a: bool, b: bool) -> bool
-    ensures { result ≡ either a b }
-{
-    if a { true } else { b }
-}
-
-// One of two values that are both ready: a branch at a block's bits would be guessed.
-fn choose(first: bool, x: u8, y: u8) -> u8
-    ensures { result ≡ pick first x y }
-{
-    if first { x } else { y }
-}
-
-// The first of 14 to 16 that holds, 0 where none does, once the weight bits are known.
-fn grid_number(fp: u8, g: WeightGrid, weights: u64) -> u8
+// The first of 14 to 16 that holds, once the weight bits are known.
+pub fn grid_stage(fp: u8, g: WeightGrid, weights: u64) -> Result<(), Fault>
     requires { weights ≡ weight_bits g }
-    ensures { result ≡ grid_fault fp g }
+    ensures { fault_in result ≡ grid_fault fp g }
 {
     let wide = footprint::width(fp) < g.width;
     let high = footprint::height(fp) < g.height;
     let deep = footprint::depth(fp) < g.depth;
-    let large = either(wide, either(high, deep));
+    let large = wide | (high | deep);
     let many = 64 < weight_count(g);
-    let outside = either(weights < 24, 96 < weights);
-    choose(large, 14, choose(many, 15, choose(outside, 16, 0)))
-}
-
-// The same as a stage.
-pub fn grid_stage(fp: u8, g: WeightGrid, weights: u64) -> Stage
-    requires { weights ≡ weight_bits g }
-    ensures { result ≡ stage_of (grid_fault fp g) }
-{
-    let n = grid_number(fp, g, weights);
-    if n == 0 {
-        return Stage::Passed;
+    let outside = (weights < 24) | (96 < weights);
+    if !(large | (many | outside)) {
+        return Ok(());
     }
-    Stage::Stopped(n)
+    // of a faulty block by values: a branch at its bits would be guessed
+    Err(if large {
+        Fault::GridTooLarge
+    } else if many {
+        Fault::TooManyWeights
+    } else {
+        Fault::WeightBits
+    })
 }
 
-// The first of 14 to 16 that holds, 0 where none does.
-pub fn grid_fault(fp: u8, g: WeightGrid) -> u8
-    ensures { result ≡ grid_fault fp g }
+// The first of 14 to 16 that holds.
+pub fn grid_fault(fp: u8, g: WeightGrid) -> Result<(), Fault>
+    ensures { fault_in result ≡ grid_fault fp g }
 {
-    grid_number(fp, g, weight_bits(g))
+    grid_stage(fp, g, weight_bits(g))
 }
 
 // Whether some partition has an HDR mode; past the fourth a mode is 0, which is none.
@@ -224,25 +194,25 @@ fn hdr_refused(hdr: bool, h: BlockHeader) -> bool
 
 // The first of 18 to 20 that holds, HDR taken or not, once the endpoint numbers and the bits left for them are known: 19 before 20,
 // whatever partition is HDR.
-pub fn endpoint_stage(hdr: bool, h: BlockHeader, count: u32, left: u32) -> Stage
+pub fn endpoint_stage(hdr: bool, h: BlockHeader, count: u32, left: u32) -> Result<(), Fault>
     requires { (count ≡ endpoint_count h) × (count ≤ 32640) × (left ≡ bits_left h) }
-    ensures { result ≡ stage_of (endpoint_fault hdr h) }
+    ensures { fault_in result ≡ endpoint_fault hdr h }
 {
     if 18 < count {
-        return Stage::Stopped(18);
+        return Err(Fault::TooManyEndpoints);
     }
     if left < (13 * count + 4) / 5 {
-        return Stage::Stopped(19);
+        return Err(Fault::EndpointBits);
     }
     if hdr_refused(hdr, h) {
-        return Stage::Stopped(20);
+        return Err(Fault::HdrEndpoints);
     }
-    Stage::Passed
+    Ok(())
 }
 
-// The first of 18 to 20 that holds, 0 where none does.
-pub fn endpoint_fault(hdr: bool, h: BlockHeader) -> u8
-    ensures { result ≡ endpoint_fault hdr h }
+// The first of 18 to 20 that holds.
+pub fn endpoint_fault(hdr: bool, h: BlockHeader) -> Result<(), Fault>
+    ensures { fault_in result ≡ endpoint_fault hdr h }
 {
-    stage_told(endpoint_stage(hdr, h, endpoint_count(h), bits_left(h)))
+    endpoint_stage(hdr, h, endpoint_count(h), bits_left(h))
 }

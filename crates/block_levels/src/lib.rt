@@ -49,10 +49,8 @@ fn endpoint_levels(range: u8, xs: [Stored; 64], n: usize) -> [Level; 18]
 {
     let rule = quantization::endpoint_rule(range);
     let mut out = [Level(0); 18];
-    let mut i: usize = 0;
-    while i < n {
+    for i in 0..n {
         out[i] = level_by(rule, xs[i]);
-        i += 1;
     }
     out
 }
@@ -90,10 +88,8 @@ fn pair_lines(t: [EndpointPair; 4], n: usize) -> [[u16; 10]; 4]
 {
     let none = interpolation::line_of(endpoint_arithmetic::zero_pair());
     let mut out = [none; 4];
-    let mut p: usize = 0;
-    while p < n {
+    for p in 0..n {
         out[p] = interpolation::line_of(t[p]);
-        p += 1;
     }
     out
 }

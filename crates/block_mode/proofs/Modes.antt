@@ -1,5 +1,6 @@
 -- The block mode both ways, by one test over all modes and one over all grids.
 -- Assumes nothing.
+use Rattle.std.specs.Prelude.{None, Option, Some}
 use mathlib.Core.Path.{◌≡◌, refl, subst, sym, ap, ◌∙◌}
 use mathlib.Core.Bool.{Bool, true, false}
 use Prim.Native.Nat.{ℕ, ◌+◌, ◌-◌, ◌/◌, ◌%◌, ◌^◌, ◌<◌}
@@ -12,8 +13,6 @@ use Rattle.laws.proofs.Computed.{both_left, both_right, each}
 use Rattle.block_mode.specs.declared.WeightGrid.{WeightGrid}
 use Rattle.block_mode.specs.declared.BlockMode.{BlockMode}
 use Rattle.block_mode.specs.declared.BlockMode.TheVariants.{VoidExtent, Reserved, Grid}
-use Rattle.block_mode.specs.declared.FoundMode.{FoundMode}
-use Rattle.block_mode.specs.declared.FoundMode.TheVariants.{Mode, NoMode}
 use Rattle.block_mode.specs.Mode2D.{block_mode}
 use Rattle.block_mode.specs.OneMode.{OneMode}
 use Rattle.block_mode.specs.Back2D.{is_side, in_limits, Limits, flat_mode_of}
@@ -21,9 +20,9 @@ use Rattle.block_mode.specs.Back2D.{is_side, in_limits, Limits, flat_mode_of}
 -- ---- tests
 
 -- the answer is the mode m
-unfoldable pub is_mode : FoundMode → ℕ → Bool
-is_mode (Mode n) m = eqb n m
-is_mode NoMode m = false
+unfoldable pub is_mode : Option ℕ → ℕ → Bool
+is_mode (Some n) m = eqb n m
+is_mode None m = false
 
 -- the answer is the grid g
 unfoldable pub is_grid : BlockMode → WeightGrid → Bool
@@ -38,9 +37,9 @@ read_back Reserved m = true
 read_back (Grid g) m = both (in_limits g) (is_mode (flat_mode_of g) m)
 
 -- bits that are written are read as the grid
-written_back : FoundMode → WeightGrid → Bool
-written_back (Mode m) g = both (ltb m 2048) (is_grid (block_mode m) g)
-written_back NoMode g = true
+written_back : Option ℕ → WeightGrid → Bool
+written_back (Some m) g = both (ltb m 2048) (is_grid (block_mode m) g)
+written_back None g = true
 
 abbrev grid : ℕ → ℕ → ℕ → ℕ → WeightGrid
 grid w h r p = record { width = w; height = h; depth = 1; range = r; planes = p }
@@ -59,10 +58,10 @@ test_written = tt
 
 -- ---- what the tests say
 
-is_mode_lem : (x : FoundMode) (m : ℕ) → T (is_mode x m) → x ≡ Mode m
+is_mode_lem : (x : Option ℕ) (m : ℕ) → T (is_mode x m) → x ≡ Some m
 unfolding is_mode
-is_mode_lem (Mode n) m t = ap (λ (k : ℕ). Mode k) (eqb→eq n m t)
-is_mode_lem NoMode m t = absurd t
+is_mode_lem (Some n) m t = ap (λ (k : ℕ). Some k) (eqb→eq n m t)
+is_mode_lem None m t = absurd t
 
 pub same_grid : (k g : WeightGrid) → k.width ≡ g.width → k.height ≡ g.height → k.depth ≡ g.depth → k.range ≡ g.range → k.planes ≡ g.planes → k ≡ g
 same_grid k g w h d r p = λ i. record { width = w i; height = h i; depth = d i; range = r i; planes = p i }
@@ -142,14 +141,14 @@ module _ (m : ℕ) (h : m < 2048) (g : WeightGrid) (e : block_mode m ≡ Grid g)
   mode_flat = flat_depth g (both_left (in_limits g) (is_mode (flat_mode_of g) m) read)
 
   -- and its bits are found again
-  pub mode_found : flat_mode_of g ≡ Mode m
+  pub mode_found : flat_mode_of g ≡ Some m
   mode_found = is_mode_lem (flat_mode_of g) m (both_right (in_limits g) (is_mode (flat_mode_of g) m) read)
 
-past_limits : (g : WeightGrid) → in_limits g ≡ false → flat_mode_of g ≡ NoMode
+past_limits : (g : WeightGrid) → in_limits g ≡ false → flat_mode_of g ≡ None
 unfolding flat_mode_of
 past_limits g e = rw e
 
-pub never : (m : ℕ) → NoMode ≡ Mode m → ⊥
+pub never : (m : ℕ) → None ≡ Some m → ⊥
 never m e = let z : ◌≡◌ {A = ℕ} 0 1 = cc in omega arith
 
 -- the test over all grids, at one within the limits
@@ -166,7 +165,7 @@ written g l one =
     (same_grid (grid (w + 2) (h + 2) r (p + 1)) g (omega arith) (omega arith) (omega (arith, one)) refl (omega arith)) t
 
 -- bits that are found for a grid are a mode that is this grid
-pub found_mode : (g : WeightGrid) (m : ℕ) → flat_mode_of g ≡ Mode m → (m < 2048) × (block_mode m ≡ Grid g)
+pub found_mode : (g : WeightGrid) (m : ℕ) → flat_mode_of g ≡ Some m → (m < 2048) × (block_mode m ≡ Grid g)
 unfolding written_back
 found_mode g m e = go (in_limits g) refl where
   back : T (both (ltb m 2048) (is_grid (block_mode m) g)) → (m < 2048) × (block_mode m ≡ Grid g)
@@ -188,11 +187,11 @@ one_mode = record {
   one_mode = λ m n g hm hn em en. let a = mode_found m hm g em in let b = mode_found n hn g en in cc;
 }
   where
-    not_found : (g : WeightGrid) → ((m : ℕ) → m < 2048 → block_mode m ≡ Grid g → ⊥) → flat_mode_of g ≡ NoMode
+    not_found : (g : WeightGrid) → ((m : ℕ) → m < 2048 → block_mode m ≡ Grid g → ⊥) → flat_mode_of g ≡ None
     not_found g n = go (flat_mode_of g) refl where
-      go : (x : FoundMode) → flat_mode_of g ≡ x → x ≡ NoMode
-      go (Mode m) e = let f = found_mode g m e in absurd (n m f.0 f.1)
-      go NoMode e = refl
+      go : (x : Option ℕ) → flat_mode_of g ≡ x → x ≡ None
+      go (Some m) e = let f = found_mode g m e in absurd (n m f.0 f.1)
+      go None e = refl
 
 -- a field of d + w + p bits is one of the number
 pub under : (m d w p : ℕ) → m % 2 ^ (d + w + p) / 2 ^ p % 2 ^ w ≡ m / 2 ^ p % 2 ^ w

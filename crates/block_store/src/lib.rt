@@ -9,9 +9,5 @@ pub fn put(out: &mut [u8], at: usize, bytes: [u8; 16])
     requires { at + 16 ≤ length out.old }
     ensures { Put at 16 bytes out.old out.new }
 {
-    let mut k: usize = 0;
-    while k < 16 {
-        out[at + k] = bytes[k];
-        k += 1;
-    }
+    out[at..at + 16].copy_from_slice(&bytes);
 }

@@ -8,9 +8,5 @@ pub fn put_block(from: [u8; 16], block: &mut [u8])
     requires { length block.old ≡ 16 }
     ensures { block.new ≡ from }
 {
-    let mut i: usize = 0;
-    while i < 16 {
-        block[i] = from[i];
-        i += 1;
-    }
+    block.copy_from_slice(&from);
 }

@@ -9,7 +9,11 @@ use native.Mathlib.Omega.{arith}
 use lib.Dec.{eqb, ltb}
 use lib.ListN.{length, get_or}
 use borrow.Author.Tests.{lt-ltb, le-ltb, ltb-false, eq-eqb, ne_eqb, eqb-true}
+use Rattle.std.specs.Prelude.{Result, Ok, Err}
 use Rattle.laws.specs.Choice.{pick, either}
+use Rattle.reason.specs.declared.Refusal.{Refusal}
+use Rattle.reason.specs.Numbers.{refusal_number}
+use Rattle.reason.proofs.Told.{refusal_some}
 use Rattle.laws.specs.Table.{tab}
 use Rattle.laws.specs.inner.Filled.{Filled}
 use Rattle.laws.proofs.Filling.{length_tab, get_or_tab, filled_all}
@@ -25,16 +29,15 @@ use Rattle.block_answer.specs.declared.Answer.TheVariants.{Refused}
 use Rattle.block_answer.specs.Told.{answer_for}
 use Rattle.block_store.specs.inner.Places.{Put}
 use Rattle.image_layout.specs.declared.Tally.{Tally}
-use Rattle.image_layout.specs.declared.ImageAnswer.TheVariants.{Refused as Rejected, Decoded}
 use Rattle.image_layout.specs.inner.Noted.{noted}
 use Rattle.image_layout.specs.Numbers.{block_bytes, block_at, fault_at, fault_at_in}
 use Rattle.image_layout.specs.Faulty.{tally_of}
-use Rattle.image_layout.specs.Call.{image_tally, image_tally_in}
-use Rattle.image_layout.specs.inner.Checked.{image_grid}
+use Rattle.image_layout.specs.Call.{told_of, image_tally_in}
+use Rattle.image_layout.specs.inner.Grid.{image_grid}
 use Rattle.image_layout.proofs.Calls.{sound, sizes}
 use Rattle.image_layout.proofs.Independence.{same_bytes}
 use Rattle.image_layout.proofs.Tallies.{tally_start, tally_more}
-use Rattle.canonical_image.specs.Frames.{one_refusal, one_answer, one_out, canonical_byte, canonical_bytes, canonical_refusal, canonical_answer, canonical_out}
+use Rattle.canonical_image.specs.Frames.{one_refusal, one_answer, one_out, canonical_byte, canonical_bytes, canonical_refusal, canonical_answer, canonical_told, canonical_out}
 
 -- ---- refusals of one block
 
@@ -143,18 +146,23 @@ counted fp w h bytes places a =
     let m = (sizes (image_grid fp w h) (sound fp w h (omega (arith, a.known)) a.wide a.high)).blocks in
     record { sixteens = omega (arith, a.exact_bytes); most = omega (arith, a.exact_bytes, m); count = omega (arith, a.exact_bytes) }
 
+-- what a call promises: its answer, the numbers told of it, and the buffer
+pub record Promised (fp w h : ℕ) (s old : List ℕ) (r : Result Tally Refusal) (new : List ℕ) : Type 0 where
+  pub answer : canonical_answer fp w h s (length old) r
+  pub told : told_of r ≡ canonical_told fp w h s (length old)
+  pub out : new ≡ canonical_out fp w h s old
+
 module _ (fp w h : ℕ) (s old : List ℕ) where
-  pub frame_refused : (canonical_refusal fp w h (length s) (length old) ≡ 0 → ⊥) → (n : ℕ) → n ≡ canonical_refusal fp w h (length s) (length old)
-      → (Rejected n ≡ canonical_answer fp w h s (length old)) × (old ≡ canonical_out fp w h s old)
-  unfolding canonical_answer canonical_out
-  frame_refused k n e =
-      (ap Rejected e ∙ rw (ne_eqb (canonical_refusal fp w h (length s) (length old)) 0 k), rw (ne_eqb (canonical_refusal fp w h (length s) (length old)) 0 k))
+  pub frame_refused : (refusal : Refusal) → refusal_number refusal ≡ canonical_refusal fp w h (length s) (length old) → Promised fp w h s old (Err refusal) old
+  unfolding canonical_told canonical_out
+  frame_refused refusal q =
+      let n : refusal_number refusal ≡ 0 → ⊥ = λ z. let p = refusal_some refusal in omega arith in
+      record { answer = q; told = rw (← q, ne_eqb (refusal_number refusal) 0 n); out = rw (← q, ne_eqb (refusal_number refusal) 0 n) }
 
   pub frame_done : canonical_refusal fp w h (length s) (length old) ≡ 0 → (t : Tally) (new : List ℕ) → t ≡ tally_of (fault_at fp Float16 s) (blocks_of fp w h)
-      → new ≡ canonical_bytes fp s → (Decoded t ≡ canonical_answer fp w h s (length old)) × (new ≡ canonical_out fp w h s old)
-  unfolding canonical_answer canonical_out image_tally_in
-  frame_done z t new e p =
-      (ap Decoded e ∙ rw (eq-eqb (canonical_refusal fp w h (length s) (length old)) 0 z), p ∙ rw (eq-eqb (canonical_refusal fp w h (length s) (length old)) 0 z))
+      → new ≡ canonical_bytes fp s → Promised fp w h s old (Ok t) new
+  unfolding canonical_told canonical_out image_tally_in
+  frame_done z t new e p = record { answer = (z, e); told = rw (z, e); out = rw z p }
 
 -- ---- block by block
 

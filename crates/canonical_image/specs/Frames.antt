@@ -1,7 +1,7 @@
 -- Beyond 02, b: "one agreed form of each frame". A block, and all blocks of an image (01: picture), rewritten in their canonical form: what the calls
 -- refuse, answer and leave. 02, i: faults are those of kind 2's list, `Float16`.
 -- Assumes nothing.
-use Rattle.std.specs.Prelude.{ℕ, ◌*◌, ◌/◌, ◌%◌, true, not, List, [], ◌∷◌, eqb, ltb, length}
+use Rattle.std.specs.Prelude.{ℕ, ◌*◌, ◌/◌, ◌%◌, true, not, List, [], ◌∷◌, eqb, ltb, length, Result}
 use Rattle.laws.specs.Choice.{pick, either}
 use Rattle.laws.specs.Reasons.{when, first_of}
 use Rattle.laws.specs.Table.{tab}
@@ -14,10 +14,11 @@ use Rattle.block_reading.specs.Canonical.{canonical_in}
 use Rattle.block_answer.specs.declared.Answer.{Answer}
 use Rattle.block_answer.specs.declared.Answer.TheVariants.{Refused}
 use Rattle.block_answer.specs.Told.{answer_for}
-use Rattle.image_layout.specs.declared.ImageAnswer.{ImageAnswer}
-use Rattle.image_layout.specs.declared.ImageAnswer.TheVariants.{Refused as Rejected, Decoded}
+use Rattle.reason.specs.declared.Refusal.{Refusal}
+use Rattle.reason.specs.Answers.{Answers}
+use Rattle.image_layout.specs.declared.Tally.{Tally}
 use Rattle.image_layout.specs.Numbers.{block_at}
-use Rattle.image_layout.specs.Call.{image_tally}
+use Rattle.image_layout.specs.Call.{Told, told_decoded, image_tally}
 
 -- ---- one block
 
@@ -52,11 +53,15 @@ canonical_refusal fp w h bytes places =
     ∷ when (not (eqb places bytes)) 5
     ∷ [])
 
--- the answer tells the count of blocks with a fault, and the first one's raster index and fault
-unfoldable pub canonical_answer : ℕ → ℕ → ℕ → List ℕ → ℕ → ImageAnswer
-canonical_answer fp w h s places =
+-- what is answered: the refusal, or the count of blocks with a fault, and the first one's raster index and fault
+abbrev pub canonical_answer : ℕ → ℕ → ℕ → List ℕ → ℕ → Result Tally Refusal → Type 0
+canonical_answer fp w h s places = Answers (canonical_refusal fp w h (length s) places) (image_tally fp Float16 w h s)
+
+-- the numbers told of it: on a refusal all others are 0
+unfoldable pub canonical_told : ℕ → ℕ → ℕ → List ℕ → ℕ → Told
+canonical_told fp w h s places =
     let e = canonical_refusal fp w h (length s) places in
-    pick (eqb e 0) (Decoded (image_tally fp Float16 w h s)) (Rejected e)
+    pick (eqb e 0) (told_decoded (image_tally fp Float16 w h s)) (record { refusal = e; count = 0; first = 0; fault = 0 })
 
 -- the result buffer, on a refusal what it held; rewriting in place the buffer is the blocks' own: `canonical_out fp w h s s`
 unfoldable pub canonical_out : ℕ → ℕ → ℕ → List ℕ → List ℕ → List ℕ

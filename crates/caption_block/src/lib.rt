@@ -105,10 +105,8 @@ fn weights_of(shades: [u8; 4], wanted: [u8; 16]) -> [Stored; 64]
     ensures { result ≡ padded 64 16 (λ i. stored (least_at (λ w. squared (get_or shades w 0) (get_or wanted i 0)) 3)) (stored 0) }
 {
     let mut out = no_weights();
-    let mut i: usize = 0;
-    while i < 16 {
+    for i in 0..16usize {
         out[i] = best_weight(shades, wanted[i]);
-        i += 1;
     }
     out
 }

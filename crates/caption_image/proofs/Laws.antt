@@ -3,7 +3,7 @@
 use mathlib.Core.Path.{◌≡◌, refl, sym, ap, ◌∙◌}
 use mathlib.Core.Bool.{Bool, true, false, not}
 use mathlib.Core.List.{List}
-use Prim.Native.Nat.{ℕ, ◌+◌, ◌-◌, ◌*◌, ◌/◌, ◌%◌, ◌<◌, min}
+use Prim.Native.Nat.{ℕ, ◌+◌, ◌-◌, ◌*◌, ◌/◌, ◌%◌, ◌≤◌, ◌<◌, min}
 use native.Mathlib.Decide.{dec_lt}
 use native.Mathlib.Nat.{div-lt_iff_lt-mul, mod-lt, zero-add}
 use native.Mathlib.Omega.{arith}
@@ -17,7 +17,7 @@ use Rattle.laws.specs.inner.Filled.{Filled}
 use Rattle.laws.proofs.Filling.{Filling, filled_all}
 use Rattle.laws.proofs.Reasons.{none_either}
 use Rattle.image_size.specs.Sides.{bad_side, size_refusal, blocks_across, blocks_of}
-use Rattle.image_size.proofs.Laws.{limit_le, side_fine, sized, across_inside, across_pos}
+use Rattle.image_size.proofs.Laws.{limit_le, side_fine, sized, across_inside, across_pos, product_most}
 use Rattle.picture_regions.proofs.Covering.{below_row}
 use Rattle.footprint.specs.Footprint.{footprints, width_of, height_of}
 use Rattle.grey_caption.specs.Caption.{footprint, caption_of}
@@ -28,12 +28,12 @@ use Rattle.block_store.specs.inner.Places.{Put}
 -- ---- refusals
 
 module _ (w h bytes greys : ℕ) where
-  pub refused_3 : (size_refusal footprint w h ≡ 0 → ⊥) → 3 ≡ caption_image_refusal w h bytes greys
+  pub refused_3 : (n : ℕ) → 0 < n → n ≡ size_refusal footprint w h → n ≡ caption_image_refusal w h bytes greys
   unfolding caption_image_refusal size_refusal
-  refused_3 n = go (either (bad_side w) (bad_side h)) n where
-    go : (b : Bool) → (◌≡◌ {A = ℕ} (pick b 3 0) 0 → ⊥) → ◌≡◌ {A = ℕ} 3 (pick b 3 (pick (not (eqb bytes (16 * blocks_of footprint w h))) 4 (pick (not (eqb greys (h * w))) 5 0)))
-    go true n = refl
-    go false n = absurd (n refl)
+  refused_3 n p e = go (either (bad_side w) (bad_side h)) e where
+    go : (b : Bool) → n ≡ pick b 3 0 → n ≡ pick b 3 (pick (not (eqb bytes (16 * blocks_of footprint w h))) 4 (pick (not (eqb greys (h * w))) 5 0))
+    go true e = e
+    go false e = absurd (omega arith)
 
   module _ (z : size_refusal footprint w h ≡ 0) where
     sides : either (bad_side w) (bad_side h) ≡ false
@@ -51,6 +51,12 @@ module _ (w h bytes greys : ℕ) where
       pub refused_none : greys ≡ h * w → 0 ≡ caption_image_refusal w h bytes greys
       unfolding caption_image_refusal
       refused_none g = rw (sides, eq-eqb _ _ b, eq-eqb _ _ g)
+
+-- no image has too many texels to count
+pub area : (w h : ℕ) → size_refusal footprint w h ≡ 0 → h * w ≤ 268435456
+area w h z =
+    let s = sized footprint w h z in
+    product_most _ _ (omega (arith, (side_fine _ s.high).1, limit_le)) (omega (arith, (side_fine _ s.wide).1, limit_le))
 
 -- what is known of a call that is not refused
 pub record Accepted (w h bytes greys : ℕ) : Type 0 where

@@ -43,7 +43,7 @@ fn show<W: Write>(output: &mut W, block: &[u8]) -> io::Result<()> {
 // One record, of eighteen bytes.
 fn caption<W: Write>(output: &mut W, e0: u8, e1: u8, wanted: &[u8]) -> io::Result<()> {
     let mut block = [7u8; 16];
-    caption_image::caption_into(e0, e1, wanted, &mut block);
+    let _ = caption_image::caption_into(e0, e1, wanted, &mut block);
     output.write_all(b"block")?;
     numbers(output, &block)?;
     end_line(output)?;
@@ -69,7 +69,7 @@ fn refused<W: Write>(
 ) -> io::Result<()> {
     let answer = caption_image::caption_image(1, 2, width, height, wanted, blocks);
     output.write_all(b"refused")?;
-    number(output, answer)?;
+    number(output, reason::refusal_told(answer))?;
     if all_seven(blocks) {
         output.write_all(b" kept")?;
     }
@@ -80,7 +80,7 @@ fn image<W: Write>(output: &mut W, e0: u8, e1: u8, wanted: &[u8]) -> io::Result<
     let mut blocks = [7u8; 64];
     let answer = caption_image::caption_image(e0, e1, 6, 5, wanted, &mut blocks);
     output.write_all(b"image")?;
-    number(output, answer)?;
+    number(output, reason::refusal_told(answer))?;
     numbers(output, &blocks)?;
     end_line(output)
 }

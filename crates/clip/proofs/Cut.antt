@@ -7,15 +7,15 @@ use mathlib.Core.Path.{◌≡◌, refl, sym, ap, ◌∙◌}
 use mathlib.Core.Bool.{Bool, true, false, not, true≢false}
 use mathlib.Core.List.{List, [], ◌∷◌, ◌++◌}
 use lib.ListN.{length, take, drop, take-append-drop, length-drop}
+use Rattle.std.specs.Prelude.{Option, None, Some}
 use Rattle.laws.specs.Choice.{pick, either}
 use Rattle.clip.specs.declared.Phase.{Phase}
 use Rattle.clip.specs.declared.Phase.TheVariants.{Version, Header, Blocks, Over}
 use Rattle.clip.specs.declared.Event.{Event}
-use Rattle.clip.specs.declared.Event.TheVariants.{Nothing, Told}
 use Rattle.clip.specs.declared.Clip.{Clip}
 use Rattle.clip.specs.declared.Fed.{Fed}
-use Rattle.clip.specs.Step.{zeros, is_handed, step_in, step_of}
-use Rattle.clip.specs.Feed.{Handed, handed_out, run, told, used_up, fed_by, one_more, go_on, feed_in, feed_of}
+use Rattle.clip.specs.Step.{is_handed, step_in, step_of}
+use Rattle.clip.specs.Feed.{handed_out, run, told, used_up, fed_by, one_more, go_on, feed_in, feed_of}
 use Rattle.clip.specs.Pieces.{is_over_in, is_over, end_by, taken_by, out_by, Reading, after, piece_read, pieces_read, joined}
 use Rattle.clip.specs.Theorems.{OneFeed, Cut, Fixed}
 
@@ -44,19 +44,23 @@ pub told_cut : (c : Clip) (a b : List ℕ) → told c (a ++ b) ≡ told c a ++ t
 unfolding run told
 told_cut c [] b = refl
 told_cut c (x ∷ a) b =
-    ap (λ l. handed_out (step_of c x).event (step_of c x).block ++ l) (told_cut (step_of c x).clip a b)
-    ∙ sym (regroup (handed_out (step_of c x).event (step_of c x).block) (told (step_of c x).clip a) (told (run (step_of c x).clip a) b))
+    ap (λ l. handed_out (step_of c x).event ++ l) (told_cut (step_of c x).clip a b)
+    ∙ sym (regroup (handed_out (step_of c x).event) (told (step_of c x).clip a) (told (run (step_of c x).clip a) b))
 
 -- ---- a feed and the bytes that it took
 
 -- of a reader that still takes bytes
 record Fair (c : Clip) (s : List ℕ) (f : Fed) : Type 0 where
   state : f.clip ≡ run c (take f.taken s)
-  out : handed_out f.event f.block ≡ told c (take f.taken s)
+  out : handed_out f.event ≡ told c (take f.taken s)
   within : f.taken ≤ length s
   stops : is_handed f.event ≡ false → f.taken ≡ length s
   moves : is_handed f.event ≡ true → 0 < f.taken
   not_before : (n : ℕ) → n < f.taken → told c (take n s) ≡ []
+
+nothing_handed : (e : Option Event) → is_handed e ≡ false → handed_out e ≡ []
+nothing_handed None h = refl
+nothing_handed (Some e) h = absurd (true≢false h)
 
 -- fewer bytes than one, and fewer than one more
 none_before : (c : Clip) (b : ℕ) (s : List ℕ) (n : ℕ) → n < 1 → told c (take n (b ∷ s)) ≡ []
@@ -69,14 +73,14 @@ more_before : (c : Clip) (b : ℕ) (s : List ℕ) (m : ℕ) → is_handed (step_
 unfolding told
 more_before c b s m e w zero h = refl
 more_before c b s m e w (suc n) h =
-    ap (λ q. pick q (record { event = (step_of c b).event; block = (step_of c b).block } ∷ []) [] ++ told (step_of c b).clip (take n s)) e ∙ w n (omega (arith, h))
+    ap (λ l. l ++ told (step_of c b).clip (take n s)) (nothing_handed (step_of c b).event e) ∙ w n (omega (arith, h))
 
 fair_step : (c : Clip) (b : ℕ) (s : List ℕ) (g : Fed) (t : Bool) → is_handed (step_of c b).event ≡ t → Fair (step_of c b).clip s g
     → Fair c (b ∷ s) (pick t (fed_by (step_of c b) 1) (one_more g))
 unfolding run told
 fair_step c b s g true e w = record {
   state = refl;
-  out = sym (nothing_after (handed_out (step_of c b).event (step_of c b).block));
+  out = sym (nothing_after (handed_out (step_of c b).event));
   within = omega arith;
   stops = λ h. absurd (true≢false (sym e ∙ h));
   moves = λ h. omega arith;
@@ -84,7 +88,7 @@ fair_step c b s g true e w = record {
 }
 fair_step c b s g false e w = record {
   state = w.state;
-  out = w.out ∙ ap (λ q. pick q (record { event = (step_of c b).event; block = (step_of c b).block } ∷ []) [] ++ told (step_of c b).clip (take g.taken s)) (sym e);
+  out = w.out ∙ ap (λ l. l ++ told (step_of c b).clip (take g.taken s)) (sym (nothing_handed (step_of c b).event e));
   within = let h = w.within in omega arith;
   stops = λ h. ap suc (w.stops h);
   moves = λ h. omega arith;
@@ -111,7 +115,7 @@ fair c (b ∷ s) = fair_step c b s (go_on (step_of c b).clip s) (is_handed (step
 taking : (q : Phase) (c : Clip) (p : List ℕ) → c.phase ≡ q → is_over_in q ≡ false → OneFeed c p (go_on c p)
 taking q c p e n = let w = fair c p in record {
   state = w.state;
-  out = ap (λ (k : Phase). pick (is_over_in k) [] (handed_out (go_on c p).event (go_on c p).block)) e ∙ ap (λ (b : Bool). pick b [] (handed_out (go_on c p).event (go_on c p).block)) n ∙ w.out;
+  out = ap (λ (k : Phase). pick (is_over_in k) [] (handed_out (go_on c p).event)) e ∙ ap (λ (b : Bool). pick b [] (handed_out (go_on c p).event)) n ∙ w.out;
   within = w.within;
   stops = w.stops;
   moves = λ o h. w.moves h;
@@ -125,7 +129,7 @@ fed_in Header c p e = taking Header c p e refl
 fed_in Blocks c p e = taking Blocks c p e refl
 fed_in (Over n) c p e = record {
   state = refl;
-  out = ap (λ (k : Phase). pick (is_over_in k) [] (handed_out (Told n) zeros)) e;
+  out = ap (λ (k : Phase). pick (is_over_in k) [] (handed_out (feed_in (Over n) c p).event)) e;
   within = omega arith;
   stops = λ h. absurd (true≢false h);
   moves = λ o h. absurd (true≢false (sym (ap is_over_in e) ∙ o));
@@ -149,8 +153,8 @@ out_fixed : (c : Clip) (ps : List (List ℕ)) → out_by c ps ≡ told c (taken_
 unfolding told out_by taken_by
 out_fixed c [] = refl
 out_fixed c (p ∷ ps) =
-    ap (λ (l : List Handed). pick (is_over c) [] (handed_out (feed_of c p).event (feed_of c p).block) ++ l) (out_fixed (feed_of c p).clip ps)
-    ∙ ap (λ (l : List Handed). l ++ told (feed_of c p).clip (taken_by (feed_of c p).clip ps)) (one_feed c p).out
+    ap (λ (l : List Event). pick (is_over c) [] (handed_out (feed_of c p).event) ++ l) (out_fixed (feed_of c p).clip ps)
+    ∙ ap (λ (l : List Event). l ++ told (feed_of c p).clip (taken_by (feed_of c p).clip ps)) (one_feed c p).out
     ∙ ap (λ (k : Clip). told c (take (feed_of c p).taken p) ++ told k (taken_by (feed_of c p).clip ps)) (one_feed c p).state
     ∙ sym (told_cut c (take (feed_of c p).taken p) (taken_by (feed_of c p).clip ps))
 
@@ -159,7 +163,7 @@ fixed = record { state = end_fixed; out = out_fixed }
 
 -- ---- after a refusal or the end
 
-quiet_in : (q : Phase) (c : Clip) (b : ℕ) → is_over_in q ≡ true → ((step_in q c b).clip ≡ c) × ((step_in q c b).event ≡ Nothing)
+quiet_in : (q : Phase) (c : Clip) (b : ℕ) → is_over_in q ≡ true → ((step_in q c b).clip ≡ c) × ((step_in q c b).event ≡ None)
 quiet_in Version c b e = absurd (true≢false (sym e))
 quiet_in Header c b e = absurd (true≢false (sym e))
 quiet_in Blocks c b e = absurd (true≢false (sym e))
@@ -175,7 +179,7 @@ unfolding told step_of
 told_over c [] e = refl
 told_over c (b ∷ s) e =
     let q = quiet_in c.phase c b e in
-    ap (λ (v : Event). handed_out v (step_of c b).block ++ told (step_of c b).clip s) q.1
+    ap (λ (v : Option Event). handed_out v ++ told (step_of c b).clip s) q.1
     ∙ ap (λ (k : Clip). told k s) q.0 ∙ told_over c s e
 
 -- ---- the caller's loop
@@ -183,7 +187,7 @@ told_over c (b ∷ s) e =
 abbrev read_at_once : Clip → List ℕ → Reading
 read_at_once c s = record { clip = run c s; out = told c s }
 
-reading : (a b : Clip) (k l : List Handed) → a ≡ b → k ≡ l → ◌≡◌ {A = Reading} (record { clip = a; out = k }) (record { clip = b; out = l })
+reading : (a b : Clip) (k l : List Event) → a ≡ b → k ≡ l → ◌≡◌ {A = Reading} (record { clip = a; out = k }) (record { clip = b; out = l })
 reading a b k l e g = λ t. record { clip = e t; out = g t }
 
 -- bytes a, and then bytes b by themselves
@@ -197,8 +201,8 @@ module _ (n : ℕ) (c : Clip) (p : List ℕ) where
   abbrev rest : List ℕ
   rest = drop f.taken p
 
-  abbrev bit : List Handed
-  bit = handed_out f.event f.block
+  abbrev bit : List Event
+  bit = handed_out f.event
 
   over_case : is_over c ≡ true → ◌≡◌ {A = Reading} (record { clip = f.clip; out = [] }) (read_at_once c p)
   over_case o = reading f.clip (run c p) [] (told c p)
@@ -208,7 +212,7 @@ module _ (n : ℕ) (c : Clip) (p : List ℕ) where
   quiet_case o h =
       let w = one_feed c p in
       let e : take f.taken p ≡ p = whole p f.taken (w.stops h) in
-      let b : bit ≡ [] = ap (λ (q : Bool). pick q (record { event = f.event; block = f.block } ∷ []) []) h in
+      let b : bit ≡ [] = nothing_handed f.event h in
       reading f.clip (run c p) [] (told c p) (w.state ∙ ap (run c) e)
       (sym b ∙ ap (λ (q : Bool). pick q [] bit) (sym o) ∙ w.out ∙ ap (told c) e)
 
@@ -217,7 +221,7 @@ module _ (n : ℕ) (c : Clip) (p : List ℕ) where
       let w = one_feed c p in
       let b : bit ≡ told c (take f.taken p) = ap (λ (q : Bool). pick q [] bit) (sym o) ∙ w.out in
       ap (after bit) e ∙ ap (λ (k : Clip). after bit (read_at_once k rest)) w.state
-      ∙ ap (λ (l : List Handed). after l (read_at_once (run c (take f.taken p)) rest)) b ∙ split c (take f.taken p) rest
+      ∙ ap (λ (l : List Event). after l (read_at_once (run c (take f.taken p)) rest)) b ∙ split c (take f.taken p) rest
       ∙ ap (read_at_once c) (take-append-drop f.taken p)
 
   step_case : (o h : Bool) → is_over c ≡ o → is_handed f.event ≡ h

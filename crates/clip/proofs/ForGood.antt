@@ -4,6 +4,7 @@ use Prim.Native.Nat.{ℕ}
 use mathlib.Core.Path.{◌≡◌, refl, ap, ◌∙◌}
 use mathlib.Core.Bool.{Bool, true, false}
 use mathlib.Core.List.{List, [], ◌∷◌}
+use Rattle.std.specs.Prelude.{Option, Some}
 use Rattle.laws.specs.Choice.{pick}
 use Rattle.clip.specs.declared.Phase.{Phase}
 use Rattle.clip.specs.declared.Phase.TheVariants.{Version, Header, Blocks, Over}
@@ -11,7 +12,7 @@ use Rattle.clip.specs.declared.Event.{Event}
 use Rattle.clip.specs.declared.Event.TheVariants.{Told}
 use Rattle.clip.specs.declared.Clip.{Clip}
 use Rattle.clip.specs.declared.Fed.{Fed}
-use Rattle.clip.specs.Step.{zeros, is_handed, step_of}
+use Rattle.clip.specs.Step.{is_handed, step_of}
 use Rattle.clip.specs.Feed.{fed_by, one_more, go_on, feed_in, feed_of, finish_number, finish_of}
 use Rattle.clip.specs.Theorems.{ForGood}
 use Rattle.clip.proofs.Cut.{run_over, told_over}
@@ -34,11 +35,11 @@ in_led Header c s e = on_led c s
 in_led Blocks c s e = on_led c s
 in_led (Over n) c s e = e
 
-refused : (c : Clip) (s : List ℕ) (n : ℕ) → (feed_of c s).event ≡ Told n → (feed_of c s).clip.phase ≡ Over n
+refused : (c : Clip) (s : List ℕ) (n : ℕ) → (feed_of c s).event ≡ Some (Told n) → (feed_of c s).clip.phase ≡ Over n
 unfolding feed_of
-refused c s n e = in_led c.phase c s refl ∙ ap (λ (v : Event). told_in v (feed_of c s).clip.phase) e
+refused c s n e = in_led c.phase c s refl ∙ ap (λ (v : Option Event). told_in v (feed_of c s).clip.phase) e
 
-fed_again : (c : Clip) (n : ℕ) (s : List ℕ) → c.phase ≡ Over n → feed_of c s ≡ record { clip = c; taken = 0; event = Told n; block = zeros }
+fed_again : (c : Clip) (n : ℕ) (s : List ℕ) → c.phase ≡ Over n → feed_of c s ≡ record { clip = c; taken = 0; event = Some (Told n) }
 unfolding feed_of
 fed_again c n s e = ap (λ (q : Phase). feed_in q c s) e
 

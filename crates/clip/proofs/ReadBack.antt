@@ -1,22 +1,21 @@
 -- 02, j: a frame that the writer makes is read as its blocks, and the reader then waits for the next frame; so is a whole clip.
 -- Assumes nothing.
-use Prim.Native.Nat.{ℕ, zero, suc, ◌+◌, ◌-◌, ◌*◌, ◌/◌, ◌%◌, ◌^◌, ◌≤◌, ◌<◌}
+use Prim.Native.Nat.{ℕ, zero, suc, ◌+◌, ◌-◌, ◌*◌, ◌/◌, ◌%◌, ◌^◌, ◌<◌}
 use native.Mathlib.Omega.{arith}
 use mathlib.Core.Path.{◌≡◌, refl, sym, ap, ◌∙◌}
 use mathlib.Core.List.{List, [], ◌∷◌, ◌++◌}
-use lib.Dec.{eqb}
 use lib.ListN.{length, take, drop, length-drop}
 use borrow.Author.Tests.{eq-eqb}
-use Rattle.laws.specs.Choice.{pick}
 use Rattle.image_size.proofs.Laws.{blocks_pos}
 use Rattle.clip_frame.specs.declared.Frame.{Frame}
 use Rattle.clip_frame.specs.Frame.{blocks_in, length_in, frame_in, head_bytes, frame_bytes, frame_refusal}
 use Rattle.clip_frame.proofs.Refusals.{Accepted, accepted}
 use Rattle.clip_frame.proofs.Bytes.{frame_back, length_back}
+use Rattle.clip.specs.declared.Event.{Event}
 use Rattle.clip.specs.declared.Clip.{Clip}
 use Rattle.clip.specs.declared.Step.{Step}
 use Rattle.clip.specs.Step.{fresh_of, quiet, begun, checked, version_step, step_of, past}
-use Rattle.clip.specs.Feed.{Handed, handed_out, run, told, finish_of}
+use Rattle.clip.specs.Feed.{handed_out, run, told, finish_of}
 use Rattle.clip.specs.Frames.{ready, waits, handed_block, blocks_handed, Shot, frames_bytes, frames_handed}
 use Rattle.clip.specs.Theorems.{Ends, ReadBack}
 use Rattle.clip.proofs.Cut.{run_cut, told_cut}
@@ -50,11 +49,11 @@ rest_told : (m i j l : ℕ) (f : Frame) (s : List ℕ) → j + m ≡ l → lengt
 unfolding told blocks_handed
 rest_told zero i j l f s e n =
     block_told_lem i j l f s (omega (arith, n))
-    ∙ ap (λ (t : List Handed). handed_block i j (take 16 s) ∷ t)
+    ∙ ap (λ (t : List Event). handed_block i j (take 16 s) ∷ t)
     (ap (told (past (waits i j l f))) (none (drop 16 s) (length-drop 16 s ∙ omega (arith, n))))
 rest_told (suc m) i j l f s e n =
     block_told_lem i j l f s (omega (arith, n))
-    ∙ ap (λ (t : List Handed). handed_block i j (take 16 s) ∷ t)
+    ∙ ap (λ (t : List Event). handed_block i j (take 16 s) ∷ t)
     (ap (λ (c : Clip). told c (drop 16 s)) (past_more i j l f (omega (arith, e))) ∙ rest_told m i (j + 1) l f (drop 16 s) (omega (arith, e)) (length-drop 16 s ∙ omega (arith, n)))
 
 -- ---- a frame
@@ -94,7 +93,7 @@ module _ (i : ℕ) (g : Frame) (shot : Shot) where
   unfolding frame_bytes
   frame_out_lem =
       ten_told i g (n / 256 / 256 / 256) (n / 256 / 256 % 256) (n / 256 % 256) (n % 256) f.footprint f.kind (f.width / 256) (f.width % 256) (f.height / 256) (f.height % 256) s
-      ∙ ap (λ (t : Step). handed_out t.event t.block ++ told t.clip s) begins
+      ∙ ap (λ (t : Step). handed_out t.event ++ told t.clip s) begins
       ∙ rest_told (N - 1) i 0 (N - 1) f s (omega arith) long ∙ ap (λ (m : ℕ). blocks_handed i 0 m s) one
 
 -- ---- all frames
@@ -105,8 +104,8 @@ frames_told i g [] = refl
 frames_told i g (k ∷ ks) =
     told_cut (ready i g) (frame_bytes k.frame k.blocks) (frames_bytes ks)
     ∙ ap (λ (c : Clip). told (ready i g) (frame_bytes k.frame k.blocks) ++ told c (frames_bytes ks)) (frame_run i g k)
-    ∙ ap (λ (l : List Handed). l ++ told (ready ((i + 1) % 2 ^ 32) k.frame) (frames_bytes ks)) (frame_out_lem i g k)
-    ∙ ap (λ (l : List Handed). blocks_handed i 0 (blocks_in k.frame) k.blocks ++ l) (frames_told ((i + 1) % 2 ^ 32) k.frame ks)
+    ∙ ap (λ (l : List Event). l ++ told (ready ((i + 1) % 2 ^ 32) k.frame) (frames_bytes ks)) (frame_out_lem i g k)
+    ∙ ap (λ (l : List Event). blocks_handed i 0 (blocks_in k.frame) k.blocks ++ l) (frames_told ((i + 1) % 2 ^ 32) k.frame ks)
 
 -- the reader then waits for one more
 frames_end : (i : ℕ) (g : Frame) (ks : List Shot) → (finish_of (run (ready i g) (frames_bytes ks))).number ≡ 0

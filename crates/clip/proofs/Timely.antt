@@ -9,6 +9,7 @@ use lib.Dec.{eqb, ltb}
 use lib.ListN.{length, get_or, set, take, drop, take-append-drop, length-take, length-drop}
 use lib.Seq.{get_or-take, ext_get_or}
 use borrow.Author.Tests.{eq-eqb, ne_eqb, lt-ltb, le-ltb}
+use Rattle.std.specs.Prelude.{Option, None, Some}
 use Rattle.laws.specs.Choice.{pick}
 use Rattle.laws.specs.Table.{tab_from, tab}
 use Rattle.laws.proofs.Filling.{length_tab, get_or_tab}
@@ -17,7 +18,7 @@ use Rattle.clip_frame.specs.Frame.{blocks_in, length_in, frame_in, frame_refusal
 use Rattle.clip.specs.declared.Phase.{Phase}
 use Rattle.clip.specs.declared.Phase.TheVariants.{Version, Header, Blocks, Over}
 use Rattle.clip.specs.declared.Event.{Event}
-use Rattle.clip.specs.declared.Event.TheVariants.{Nothing, Block, Told}
+use Rattle.clip.specs.declared.Event.TheVariants.{Block, Told}
 use Rattle.clip.specs.declared.Clip.{Clip}
 use Rattle.clip.specs.declared.Step.{Step}
 use Rattle.clip.specs.Step.{zeros, fresh_of, entered, quiet, over, more, begun, checked, handed, version_step, header_step, block_step, step_in, step_of, past}
@@ -159,20 +160,20 @@ module _ (i : ℕ) (g : Frame) (b0 b1 b2 b3 b4 b5 b6 b7 b8 b9 : ℕ) (s : List �
   unfolding run step_of header_step checked
   ten_run = refl
 
-  pub ten_told : told (ready i g) (b0 ∷ b1 ∷ b2 ∷ b3 ∷ b4 ∷ b5 ∷ b6 ∷ b7 ∷ b8 ∷ b9 ∷ s) ≡ handed_out there.event there.block ++ told there.clip s
+  pub ten_told : told (ready i g) (b0 ∷ b1 ∷ b2 ∷ b3 ∷ b4 ∷ b5 ∷ b6 ∷ b7 ∷ b8 ∷ b9 ∷ s) ≡ handed_out there.event ++ told there.clip s
   unfolding told step_of header_step checked
   ten_told = refl
 
 -- what a step brings that goes on or tells n, and then nothing
 brings : (t : Bool) (a c : Clip) (n : ℕ)
-    → handed_out (pick t (quiet a) (over c n)).event (pick t (quiet a) (over c n)).block ++ told (pick t (quiet a) (over c n)).clip []
-    ≡ pick t [] (record { event = Told n; block = zeros } ∷ [])
+    → handed_out (pick t (quiet a) (over c n)).event ++ told (pick t (quiet a) (over c n)).clip []
+    ≡ pick t [] (Told n ∷ [])
 unfolding told
 brings true a c n = refl
 brings false a c n = refl
 
 ten_brings : (i : ℕ) (g : Frame) (s : List ℕ) → length s ≡ 10
-    → told (ready i g) s ≡ pick (eqb (frame_refusal (frame_in s) (length_in s)) 0) [] (record { event = Told (frame_refusal (frame_in s) (length_in s)); block = zeros } ∷ [])
+    → told (ready i g) s ≡ pick (eqb (frame_refusal (frame_in s) (length_in s)) 0) [] (Told (frame_refusal (frame_in s) (length_in s)) ∷ [])
 unfolding first tab tab_from checked
 ten_brings i g s e =
     let x : ℕ → ℕ = λ k. get_or s k 0 in
@@ -190,7 +191,7 @@ ten_begins i g s e z =
     ∙ ten_run i g (get_or s 0 0) (get_or s 1 0) (get_or s 2 0) (get_or s 3 0) (get_or s 4 0) (get_or s 5 0) (get_or s 6 0) (get_or s 7 0) (get_or s 8 0) (get_or s 9 0) []
     ∙ ap (λ (t : Bool). (pick t (quiet (begun (ready i g) (frame_in s))) (over (ready i g) n)).clip) (eq-eqb n 0 z)
 
-first_brings : (b : ℕ) → told fresh_of (b ∷ []) ≡ pick (eqb b 1) [] (record { event = Told 51; block = zeros } ∷ [])
+first_brings : (b : ℕ) → told fresh_of (b ∷ []) ≡ pick (eqb b 1) [] (Told 51 ∷ [])
 unfolding told step_of version_step
 first_brings b = brings (eqb b 1) (ready 0 fresh_of.frame) fresh_of 51
 
@@ -226,12 +227,12 @@ end_in_block i j l f s h = let r = block_stays i j l f s zeros 0 (omega arith) i
 -- ---- where a told number leads
 
 -- the phase that a number told leads to
-abbrev pub told_in : Event → Phase → Phase
-told_in Nothing q = q
-told_in (Block i j) q = q
-told_in (Told n) q = Over n
+abbrev pub told_in : Option Event → Phase → Phase
+told_in None q = q
+told_in (Some (Block i j s)) q = q
+told_in (Some (Told n)) q = Over n
 
-abbrev pub Led : Clip → Event → Type 0
+abbrev pub Led : Clip → Option Event → Type 0
 Led c e = c.phase ≡ told_in e c.phase
 
 led_by : (t : Bool) (a b : Step) → Led a.clip a.event → Led b.clip b.event → Led (pick t a b).clip (pick t a b).event

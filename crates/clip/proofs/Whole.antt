@@ -5,6 +5,7 @@ use native.Mathlib.Omega.{arith}
 use mathlib.Core.Path.{◌≡◌, refl, sym, ap, ◌∙◌}
 use mathlib.Core.List.{List, [], ◌∷◌, ◌++◌}
 use lib.ListN.{length, get_or, take, drop, length-drop}
+use Rattle.std.specs.Prelude.{Some}
 use Rattle.laws.specs.Table.{tab_from, tab}
 use Rattle.clip_frame.specs.declared.Frame.{Frame}
 use Rattle.clip.specs.declared.Phase.TheVariants.{Blocks}
@@ -17,7 +18,7 @@ use Rattle.clip.proofs.Timely.{none, in_block, first, first_of, spelt}
 
 -- block j of frame i is handed out of a state c at the sixteenth byte of a piece
 abbrev pub whole_fed : Clip → List ℕ → Fed
-whole_fed c block = record { clip = past c; taken = 16; event = Block c.index c.block; block = block }
+whole_fed c block = record { clip = past c; taken = 16; event = Some (Block c.index c.block block) }
 
 module _ (i j l : ℕ) (f : Frame) (h0 h1 h2 h3 h4 h5 h6 h7 h8 h9 ha hb hc hd he hf : ℕ) (x0 x1 x2 x3 x4 x5 x6 x7 x8 x9 xa xb xc xd xe xf : ℕ) (s : List ℕ) where
   abbrev from : Clip

@@ -1,25 +1,21 @@
 -- 02, j: what some bytes do, what a feed takes of a piece, and the end.
 -- Assumes nothing.
-use Rattle.std.specs.Prelude.{ℕ, suc, List, [], ◌∷◌, ◌++◌, eqb}
+use Rattle.std.specs.Prelude.{ℕ, suc, Option, None, Some, List, [], ◌∷◌, ◌++◌, eqb}
 use Rattle.laws.specs.Choice.{pick}
 use Rattle.clip.specs.declared.Phase.{Phase}
 use Rattle.clip.specs.declared.Phase.TheVariants.{Version, Header, Blocks, Over}
 use Rattle.clip.specs.declared.Event.{Event}
-use Rattle.clip.specs.declared.Event.TheVariants.{Nothing, Told}
+use Rattle.clip.specs.declared.Event.TheVariants.{Told}
 use Rattle.clip.specs.declared.Clip.{Clip}
 use Rattle.clip.specs.declared.Step.{Step}
 use Rattle.clip.specs.declared.Fed.{Fed}
 use Rattle.clip.specs.declared.Finished.{Finished}
-use Rattle.clip.specs.Step.{zeros, is_handed, entered, step_of}
+use Rattle.clip.specs.Step.{is_handed, entered, step_of}
 
--- what is handed out: a block or a refusal, the block's sixteen bytes beside it
-pub record Handed : Type 0 where
-  pub event : Event
-  pub block : List ℕ
-
--- what an event with its bytes hands out
-abbrev pub handed_out : Event → List ℕ → List Handed
-handed_out e s = pick (is_handed e) (record { event = e; block = s } ∷ []) []
+-- what is handed out, as a list
+abbrev pub handed_out : Option Event → List Event
+handed_out None = []
+handed_out (Some e) = e ∷ []
 
 -- the state after some bytes
 unfoldable pub run : Clip → List ℕ → Clip
@@ -27,22 +23,22 @@ run c [] = c
 run c (b ∷ s) = run (step_of c b).clip s
 
 -- all that is handed out over some bytes
-unfoldable pub told : Clip → List ℕ → List Handed
+unfoldable pub told : Clip → List ℕ → List Event
 told c [] = []
-told c (b ∷ s) = handed_out (step_of c b).event (step_of c b).block ++ told (step_of c b).clip s
+told c (b ∷ s) = handed_out (step_of c b).event ++ told (step_of c b).clip s
 
 -- ---- a feed
 
 -- the piece is used up, nothing is handed out
 abbrev pub used_up : Clip → ℕ → Fed
-used_up c n = record { clip = c; taken = n; event = Nothing; block = zeros }
+used_up c n = record { clip = c; taken = n; event = None }
 
 -- a step that hands out ends the feed, n bytes being taken
 abbrev pub fed_by : Step → ℕ → Fed
-fed_by t n = record { clip = t.clip; taken = n; event = t.event; block = t.block }
+fed_by t n = record { clip = t.clip; taken = n; event = t.event }
 
 abbrev pub one_more : Fed → Fed
-one_more f = record { clip = f.clip; taken = suc f.taken; event = f.event; block = f.block }
+one_more f = record { clip = f.clip; taken = suc f.taken; event = f.event }
 
 -- "One feed stops at the byte that completes a block or a refusal and tells how many bytes it took, that byte included"
 unfoldable pub go_on : Clip → List ℕ → Fed
@@ -54,7 +50,7 @@ abbrev pub feed_in : Phase → Clip → List ℕ → Fed
 feed_in Version c s = go_on c s
 feed_in Header c s = go_on c s
 feed_in Blocks c s = go_on c s
-feed_in (Over n) c s = record { clip = c; taken = 0; event = Told n; block = zeros }
+feed_in (Over n) c s = record { clip = c; taken = 0; event = Some (Told n) }
 
 unfoldable pub feed_of : Clip → List ℕ → Fed
 feed_of c s = feed_in c.phase c s

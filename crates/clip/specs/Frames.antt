@@ -4,10 +4,10 @@ use Rattle.std.specs.Prelude.{ℕ, zero, suc, ◌+◌, ◌%◌, ◌^◌, ◌≡�
 use Rattle.clip_frame.specs.declared.Frame.{Frame}
 use Rattle.clip_frame.specs.Frame.{blocks_in, frame_bytes, write_refusal}
 use Rattle.clip.specs.declared.Phase.TheVariants.{Header, Blocks}
+use Rattle.clip.specs.declared.Event.{Event}
 use Rattle.clip.specs.declared.Event.TheVariants.{Block}
 use Rattle.clip.specs.declared.Clip.{Clip}
 use Rattle.clip.specs.Step.{zeros}
-use Rattle.clip.specs.Feed.{Handed}
 
 -- the reader waits for frame i; f is the frame before it
 abbrev pub ready : ℕ → Frame → Clip
@@ -18,11 +18,11 @@ abbrev pub waits : ℕ → ℕ → ℕ → Frame → Clip
 waits i j l f = record { phase = Blocks; have = 0; held = zeros; index = i; block = j; last = l; frame = f }
 
 -- block j of frame i, handed out
-abbrev pub handed_block : ℕ → ℕ → List ℕ → Handed
-handed_block i j bytes = record { event = Block i j; block = bytes }
+abbrev pub handed_block : ℕ → ℕ → List ℕ → Event
+handed_block i j bytes = Block i j bytes
 
 -- n blocks of frame i, as they are handed out from block j on
-unfoldable pub blocks_handed : ℕ → ℕ → ℕ → List ℕ → List Handed
+unfoldable pub blocks_handed : ℕ → ℕ → ℕ → List ℕ → List Event
 blocks_handed i j zero s = []
 blocks_handed i j (suc n) s = handed_block i j (take 16 s) ∷ blocks_handed i (j + 1) n (drop 16 s)
 
@@ -38,6 +38,6 @@ frames_bytes [] = []
 frames_bytes (k ∷ ks) = frame_bytes k.frame k.blocks ++ frames_bytes ks
 
 -- their blocks in order, from frame i on, "frame index (modulo 2^32)"
-unfoldable pub frames_handed : ℕ → List Shot → List Handed
+unfoldable pub frames_handed : ℕ → List Shot → List Event
 frames_handed i [] = []
 frames_handed i (k ∷ ks) = blocks_handed i 0 (blocks_in k.frame) k.blocks ++ frames_handed ((i + 1) % 2 ^ 32) ks

@@ -4,9 +4,10 @@ use Rattle.std.specs.Prelude.{ℕ, zero, suc, Bool, true, false, not, List, [], 
 use Rattle.laws.specs.Choice.{pick, either}
 use Rattle.clip.specs.declared.Phase.{Phase}
 use Rattle.clip.specs.declared.Phase.TheVariants.{Version, Header, Blocks, Over}
+use Rattle.clip.specs.declared.Event.{Event}
 use Rattle.clip.specs.declared.Clip.{Clip}
 use Rattle.clip.specs.Step.{is_handed}
-use Rattle.clip.specs.Feed.{Handed, handed_out, feed_of}
+use Rattle.clip.specs.Feed.{handed_out, feed_of}
 
 abbrev pub is_over_in : Phase → Bool
 is_over_in Version = false
@@ -31,19 +32,19 @@ taken_by c [] = []
 taken_by c (p ∷ ps) = take (feed_of c p).taken p ++ taken_by (feed_of c p).clip ps
 
 -- all that they handed out; a number that is repeated is not handed out again
-unfoldable pub out_by : Clip → List (List ℕ) → List Handed
+unfoldable pub out_by : Clip → List (List ℕ) → List Event
 out_by c [] = []
-out_by c (p ∷ ps) = pick (is_over c) [] (handed_out (feed_of c p).event (feed_of c p).block) ++ out_by (feed_of c p).clip ps
+out_by c (p ∷ ps) = pick (is_over c) [] (handed_out (feed_of c p).event) ++ out_by (feed_of c p).clip ps
 
 -- ---- the caller's loop: "the caller feeds the rest"
 
 -- a state, and all that was handed out on the way
 pub record Reading : Type 0 where
   pub clip : Clip
-  pub out : List Handed
+  pub out : List Event
 
 -- something more was handed out before
-abbrev pub after : List Handed → Reading → Reading
+abbrev pub after : List Event → Reading → Reading
 after l r = record { clip = r.clip; out = l ++ r.out }
 
 -- a piece is fed, and then the rest of it, until a feed hands out nothing or nothing is taken any more; at most n feeds
@@ -51,7 +52,7 @@ unfoldable pub piece_read : ℕ → Clip → List ℕ → Reading
 piece_read zero c p = record { clip = c; out = [] }
 piece_read (suc n) c p =
     pick (either (is_over c) (not (is_handed (feed_of c p).event))) (record { clip = (feed_of c p).clip; out = [] })
-    (after (handed_out (feed_of c p).event (feed_of c p).block) (piece_read n (feed_of c p).clip (drop (feed_of c p).taken p)))
+    (after (handed_out (feed_of c p).event) (piece_read n (feed_of c p).clip (drop (feed_of c p).taken p)))
 
 -- pieces, one after the other
 unfoldable pub pieces_read : Clip → List (List ℕ) → Reading

@@ -1,13 +1,14 @@
 -- 02, j: what one byte of a clip does to the reader, and what it brings.
 -- Assumes nothing.
-use Rattle.std.specs.Prelude.{ℕ, ◌+◌, ◌-◌, ◌^◌, ◌%◌, Bool, true, false, List, [], ◌∷◌, eqb, ltb, set}
+use Rattle.std.specs.Prelude.{ℕ, ◌+◌, ◌-◌, ◌^◌, ◌%◌, Bool, Option, None, Some, List, [], ◌∷◌, eqb, ltb, set}
+use Rattle.std.specs.Option.{is_some}
 use Rattle.laws.specs.Choice.{pick}
 use Rattle.clip_frame.specs.declared.Frame.{Frame}
 use Rattle.clip_frame.specs.Frame.{blocks_in, length_in, frame_in, frame_refusal}
 use Rattle.clip.specs.declared.Phase.{Phase}
 use Rattle.clip.specs.declared.Phase.TheVariants.{Version, Header, Blocks, Over}
 use Rattle.clip.specs.declared.Event.{Event}
-use Rattle.clip.specs.declared.Event.TheVariants.{Nothing, Block, Told}
+use Rattle.clip.specs.declared.Event.TheVariants.{Block, Told}
 use Rattle.clip.specs.declared.Clip.{Clip}
 use Rattle.clip.specs.declared.Step.{Step}
 
@@ -19,21 +20,19 @@ abbrev pub fresh_of : Clip
 fresh_of = record { phase = Version; have = 0; held = zeros; index = 0; block = 0; last = 0; frame = record { footprint = 0; kind = 0; width = 0; height = 0 } }
 
 -- something is handed out
-abbrev pub is_handed : Event → Bool
-is_handed Nothing = false
-is_handed (Block i j) = true
-is_handed (Told n) = true
+abbrev pub is_handed : Option Event → Bool
+is_handed e = is_some e
 
 -- another phase, nothing held
 abbrev pub entered : Clip → Phase → Clip
 entered c p = record { phase = p; have = 0; held = zeros; index = c.index; block = c.block; last = c.last; frame = c.frame }
 
 abbrev pub quiet : Clip → Step
-quiet c = record { clip = c; event = Nothing; block = zeros }
+quiet c = record { clip = c; event = None }
 
 -- a refusal is told, and nothing is waited for any more
 abbrev pub over : Clip → ℕ → Step
-over c n = record { clip = entered c (Over n); event = Told n; block = zeros }
+over c n = record { clip = entered c (Over n); event = Some (Told n) }
 
 -- the first byte: "one version byte, 1"; "51 other version, told at the first byte"
 unfoldable pub version_step : Clip → ℕ → Step
@@ -70,7 +69,7 @@ past c = pick (ltb c.block c.last) (next_block c) (next_frame c)
 
 -- the sixteenth byte: the block is handed out "with frame index (modulo 2^32) and block index"
 abbrev pub handed : Clip → List ℕ → Step
-handed c s = record { clip = past c; event = Block c.index c.block; block = s }
+handed c s = record { clip = past c; event = Some (Block c.index c.block s) }
 
 unfoldable pub block_step : Clip → ℕ → Step
 block_step c b = pick (ltb c.have 15) (more c b) (handed c (set c.held 15 b))

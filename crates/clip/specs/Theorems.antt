@@ -1,7 +1,7 @@
 -- 02, j: what is proved of the reader's rules. Theorems: proofs/Cut.antt, `one_feed`, `cut`, `fixed`; proofs/Timely.antt, `timely`;
 -- proofs/ForGood.antt, `for_good`; proofs/ReadBack.antt, `ends`, `read_back`.
 -- Assumes nothing.
-use Rattle.std.specs.Prelude.{ℕ, ◌+◌, ◌-◌, ◌%◌, ◌^◌, ◌≤◌, ◌<◌, ◌≡◌, true, false, List, [], ◌∷◌, ◌++◌, eqb, length, take}
+use Rattle.std.specs.Prelude.{ℕ, ◌+◌, ◌-◌, ◌%◌, ◌^◌, ◌≤◌, ◌<◌, ◌≡◌, true, false, Some, List, [], ◌∷◌, ◌++◌, eqb, length, take}
 use Rattle.laws.specs.Choice.{pick}
 use Rattle.clip_frame.specs.declared.Frame.{Frame}
 use Rattle.clip_frame.specs.Frame.{blocks_in, length_in, frame_in, frame_refusal, frame_bytes}
@@ -9,7 +9,7 @@ use Rattle.clip.specs.declared.Phase.TheVariants.{Over}
 use Rattle.clip.specs.declared.Event.TheVariants.{Told}
 use Rattle.clip.specs.declared.Clip.{Clip}
 use Rattle.clip.specs.declared.Fed.{Fed}
-use Rattle.clip.specs.Step.{zeros, fresh_of, is_handed}
+use Rattle.clip.specs.Step.{fresh_of, is_handed}
 use Rattle.clip.specs.Feed.{handed_out, run, told, feed_of, finish_of}
 use Rattle.clip.specs.Pieces.{is_over, end_by, taken_by, out_by, pieces_read, joined}
 use Rattle.clip.specs.Frames.{ready, waits, handed_block, blocks_handed, Shot, frames_bytes, frames_handed}
@@ -18,7 +18,7 @@ use Rattle.clip.specs.Frames.{ready, waits, handed_block, blocks_handed, Shot, f
 pub record OneFeed (c : Clip) (p : List ℕ) (f : Fed) : Type 0 where
   -- state and what is handed out are those of the bytes that it took
   pub state : f.clip ≡ run c (take f.taken p)
-  pub out : pick (is_over c) [] (handed_out f.event f.block) ≡ told c (take f.taken p)
+  pub out : pick (is_over c) [] (handed_out f.event) ≡ told c (take f.taken p)
   pub within : f.taken ≤ length p
   -- it stops before the piece's end only where something is handed out, and hands out nothing without taking a byte
   pub stops : is_handed f.event ≡ false → f.taken ≡ length p
@@ -53,12 +53,12 @@ pub record Timely : Type 0 where
   pub frame_not_earlier : (i : ℕ) (g : Frame) (s : List ℕ) → length s < 10 → told (ready i g) s ≡ []
   pub frame_told : (i : ℕ) (g : Frame) (s : List ℕ) → length s ≡ 10
       → told (ready i g) s
-      ≡ pick (eqb (frame_refusal (frame_in s) (length_in s)) 0) [] (record { event = Told (frame_refusal (frame_in s) (length_in s)); block = zeros } ∷ [])
+      ≡ pick (eqb (frame_refusal (frame_in s) (length_in s)) 0) [] (Told (frame_refusal (frame_in s) (length_in s)) ∷ [])
   -- a frame that is not refused: the reader waits for its first block
   pub frame_begun : (i : ℕ) (g : Frame) (s : List ℕ) → length s ≡ 10 → frame_refusal (frame_in s) (length_in s) ≡ 0
       → run (ready i g) s ≡ waits i 0 (blocks_in (frame_in s) - 1) (frame_in s)
   -- "51 other version, told at the first byte"
-  pub version_told : (b : ℕ) → told fresh_of (b ∷ []) ≡ pick (eqb b 1) [] (record { event = Told 51; block = zeros } ∷ [])
+  pub version_told : (b : ℕ) → told fresh_of (b ∷ []) ≡ pick (eqb b 1) [] (Told 51 ∷ [])
   -- after "one version byte, 1" it waits for frame 0
   pub version_taken : run fresh_of (1 ∷ []) ≡ ready 0 fresh_of.frame
 
@@ -69,9 +69,9 @@ pub record ForGood : Type 0 where
   pub run_over : (c : Clip) (s : List ℕ) → is_over c ≡ true → run c s ≡ c
   pub told_over : (c : Clip) (s : List ℕ) → is_over c ≡ true → told c s ≡ []
   -- a feed that tells a number has come to this,
-  pub refused : (c : Clip) (s : List ℕ) (n : ℕ) → (feed_of c s).event ≡ Told n → (feed_of c s).clip.phase ≡ Over n
+  pub refused : (c : Clip) (s : List ℕ) (n : ℕ) → (feed_of c s).event ≡ Some (Told n) → (feed_of c s).clip.phase ≡ Over n
   -- and any feed after it, an empty one too, and finishing repeat the number
-  pub fed_again : (c : Clip) (n : ℕ) (s : List ℕ) → c.phase ≡ Over n → feed_of c s ≡ record { clip = c; taken = 0; event = Told n; block = zeros }
+  pub fed_again : (c : Clip) (n : ℕ) (s : List ℕ) → c.phase ≡ Over n → feed_of c s ≡ record { clip = c; taken = 0; event = Some (Told n) }
   pub finished_again : (c : Clip) (n : ℕ) → c.phase ≡ Over n → (finish_of c).number ≡ n
   -- finishing is such an end
   pub finished : (c : Clip) → (finish_of c).clip.phase ≡ Over (finish_of c).number

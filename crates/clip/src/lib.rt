@@ -1,4 +1,4 @@
-// Clips (02, j): the state of a reader that is fed pieces of any size, and what a feed answers. Definitions and theorems; the code of the
+// Clips: the state of a reader that is fed pieces of any size, and what a feed answers. Definitions and theorems; the code of the
 // reader is `clip_reader`'s.
 #![tactic(auto)]
 
@@ -11,6 +11,7 @@ pub enum Phase {
     Version,
     Header,
     Blocks,
+    // A number and no `Refusal`: the end tells 0, and C's lists come with any byte here, which is repeated (`clip_numbers: clip_of`).
     Over(u8),
 }
 
@@ -27,32 +28,34 @@ pub struct Clip {
     pub frame: Frame,
 }
 
-// What a byte, or a feed, brings: nothing, a block with its frame's index and its own, or a number told.
+// What is handed out: a block, with its frame's index and its own, or the number that is told of a refusal or, once more, of the end.
 #[derive(Clone, Copy)]
 pub enum Event {
-    Nothing,
-    Block(u32, u32),
+    Block {
+        frame_index: u32,
+        block_index: u32,
+        bytes: [u8; 16],
+    },
+    // A number for the same reason as that of `Phase::Over`.
     Told(u8),
 }
 
-// What one byte does. The sixteen bytes are those of the block that is handed out, else 0.
+// What one byte does, and what it brings, if anything.
 #[derive(Clone, Copy)]
 pub struct Step {
     pub clip: Clip,
-    pub event: Event,
-    pub block: [u8; 16],
+    pub event: Option<Event>,
 }
 
-// What a feed does, and how many bytes it took.
+// What a feed does, how many bytes it took, and what it brings, if anything.
 #[derive(Clone, Copy)]
 pub struct Fed {
     pub clip: Clip,
     pub taken: usize,
-    pub event: Event,
-    pub block: [u8; 16],
+    pub event: Option<Event>,
 }
 
-// The end: the number told, and the state from then on.
+// The end: the number told, 0 where there is no refusal, and the state from then on, which repeats it.
 #[derive(Clone, Copy)]
 pub struct Finished {
     pub clip: Clip,

@@ -8,11 +8,13 @@ use native.Mathlib.Decide.{dec_le}
 use native.Mathlib.Nat.{mul-le-mul, mul-le-mul_left, mul-le-mul_right, div-mul-le_self}
 use native.Mathlib.Omega.{arith}
 use lib.Dec.{eqb, ltb}
-use lib.ListN.{length}
 use borrow.Author.Tests.{eq-eqb, ne_eqb, eqb-true, not-false, lt-ltb, le-ltb}
 use Rattle.laws.specs.Choice.{pick, either}
 use Rattle.laws.specs.Reasons.{Reason, when, first_of}
-use Rattle.laws.proofs.Reasons.{None, first_none}
+use Rattle.laws.proofs.Reasons.{first_none}
+use Rattle.reason.specs.declared.Refusal.{Refusal}
+use Rattle.reason.specs.Numbers.{refusal_number}
+use Rattle.reason.proofs.Told.{refusal_some}
 use Rattle.footprint.specs.Footprint.{width_of, height_of}
 use Rattle.footprint.proofs.Laws.{flat_bounds}
 use Rattle.image_size.specs.Sides.{size_refusal, bad_side, blocks_across, blocks_of}
@@ -44,57 +46,54 @@ module _ (f : Frame) (rest : List Reason) where
   unfolding own_refusal
   own_first e = before (ltb 13 f.footprint) (ltb 2 f.kind) (either (bad_side f.width) (bad_side f.height)) (first_of rest) e
 
-module _ (fp k w h : ℕ) where
-  abbrev said : Frame
-  said = record { footprint = fp; kind = k; width = w; height = h }
-
-  pub own_1 : 13 < fp → own_refusal said ≡ 1
+module _ (f : Frame) where
+  pub own_1 : 13 < f.footprint → 1 ≡ own_refusal f
   unfolding own_refusal
-  own_1 a = rw (lt-ltb 13 fp a)
+  own_1 a = rw (lt-ltb 13 f.footprint a)
 
-  pub own_2 : fp ≤ 13 → 2 < k → own_refusal said ≡ 2
+  pub own_2 : f.footprint ≤ 13 → 2 < f.kind → 2 ≡ own_refusal f
   unfolding own_refusal
-  own_2 a b = rw (le-ltb 13 fp a, lt-ltb 2 k b)
+  own_2 a b = rw (le-ltb 13 f.footprint a, lt-ltb 2 f.kind b)
 
-  pub own_3 : fp ≤ 13 → k ≤ 2 → own_refusal said ≡ size_refusal fp w h
+  pub own_3 : f.footprint ≤ 13 → f.kind ≤ 2 → size_refusal f.footprint f.width f.height ≡ own_refusal f
   unfolding own_refusal size_refusal
-  own_3 a b = rw (le-ltb 13 fp a, le-ltb 2 k b)
+  own_3 a b = rw (le-ltb 13 f.footprint a, le-ltb 2 f.kind b)
 
 pub size_fine : (f : Frame) → own_refusal f ≡ 0 → size_refusal f.footprint f.width f.height ≡ 0
 unfolding own_refusal size_refusal
 size_fine f e = let p = first_none (frame_reasons f []) tt e in rw (p.0, p.1.1.0)
 
--- ---- a reader's and a writer's refusal, as their functions find it: own is the refusal by 1, 2 and 3, b the count of blocks
+-- ---- a reader's and a writer's refusal, as their functions find it: by 1, 2 and 3, or by what comes behind, b being the count of blocks
 
-module _ (f : Frame) (own : ℕ) (o : own ≡ own_refusal f) (n : ℕ) where
+module _ (f : Frame) (n : ℕ) where
   abbrev behind : List Reason
   behind = when (not (eqb n (6 + 16 * blocks_in f))) 52 ∷ []
 
-  pub frame_own : (own ≡ 0 → ⊥) → own ≡ frame_refusal f n
+  pub frame_own : (r : Refusal) → refusal_number r ≡ own_refusal f → refusal_number r ≡ frame_refusal f n
   unfolding frame_refusal
-  frame_own z = o ∙ sym (own_first f behind (λ e. z (o ∙ e)))
+  frame_own r o = o ∙ sym (own_first f behind (λ e. omega (arith, refusal_some r, o, e)))
 
-  module _ (z : own ≡ 0) {b : ℕ} (eb : b ≡ blocks_in f) where
+  module _ (z : 0 ≡ own_refusal f) {b : ℕ} (eb : b ≡ blocks_in f) where
     pub frame_52 : (n ≡ 6 + 16 * b → ⊥) → 52 ≡ frame_refusal f n
     unfolding frame_refusal
-    frame_52 h = sym (own_none f behind (sym o ∙ z) ∙ rw (ne_eqb n (6 + 16 * blocks_in f) (λ e. h (e ∙ ap (λ (k : ℕ). 6 + 16 * k) (sym eb)))))
+    frame_52 h = sym (own_none f behind (sym z) ∙ rw (ne_eqb n (6 + 16 * blocks_in f) (λ e. h (e ∙ ap (λ (k : ℕ). 6 + 16 * k) (sym eb)))))
 
     pub frame_0 : n ≡ 6 + 16 * b → 0 ≡ frame_refusal f n
     unfolding frame_refusal
-    frame_0 h = sym (own_none f behind (sym o ∙ z) ∙ rw (eq-eqb n (6 + 16 * blocks_in f) (h ∙ ap (λ (k : ℕ). 6 + 16 * k) eb)))
+    frame_0 h = sym (own_none f behind (sym z) ∙ rw (eq-eqb n (6 + 16 * blocks_in f) (h ∙ ap (λ (k : ℕ). 6 + 16 * k) eb)))
 
-module _ (f : Frame) (own : ℕ) (o : own ≡ own_refusal f) (n m : ℕ) where
+module _ (f : Frame) (n m : ℕ) where
   abbrev last : List Reason
   last = when (not (eqb n (16 * blocks_in f))) 4 ∷ when (not (eqb m (10 + n))) 5 ∷ []
 
-  pub write_own : (own ≡ 0 → ⊥) → own ≡ write_refusal f n m
+  pub write_own : (r : Refusal) → refusal_number r ≡ own_refusal f → refusal_number r ≡ write_refusal f n m
   unfolding write_refusal
-  write_own z = o ∙ sym (own_first f last (λ e. z (o ∙ e)))
+  write_own r o = o ∙ sym (own_first f last (λ e. omega (arith, refusal_some r, o, e)))
 
-  module _ (z : own ≡ 0) {b : ℕ} (eb : b ≡ blocks_in f) where
+  module _ (z : 0 ≡ own_refusal f) {b : ℕ} (eb : b ≡ blocks_in f) where
     pub write_4 : (n ≡ 16 * b → ⊥) → 4 ≡ write_refusal f n m
     unfolding write_refusal
-    write_4 h = sym (own_none f last (sym o ∙ z) ∙ rw (ne_eqb n (16 * blocks_in f) (λ e. h (e ∙ ap (λ (k : ℕ). 16 * k) (sym eb)))))
+    write_4 h = sym (own_none f last (sym z) ∙ rw (ne_eqb n (16 * blocks_in f) (λ e. h (e ∙ ap (λ (k : ℕ). 16 * k) (sym eb)))))
 
     module _ (h : n ≡ 16 * b) where
       fits : n ≡ 16 * blocks_in f
@@ -102,11 +101,11 @@ module _ (f : Frame) (own : ℕ) (o : own ≡ own_refusal f) (n m : ℕ) where
 
       pub write_5 : (m ≡ 10 + n → ⊥) → 5 ≡ write_refusal f n m
       unfolding write_refusal
-      write_5 g = sym (own_none f last (sym o ∙ z) ∙ rw (eq-eqb n (16 * blocks_in f) fits, ne_eqb m (10 + n) g))
+      write_5 g = sym (own_none f last (sym z) ∙ rw (eq-eqb n (16 * blocks_in f) fits, ne_eqb m (10 + n) g))
 
       pub write_0 : m ≡ 10 + n → 0 ≡ write_refusal f n m
       unfolding write_refusal
-      write_0 g = sym (own_none f last (sym o ∙ z) ∙ rw (eq-eqb n (16 * blocks_in f) fits, eq-eqb m (10 + n) g))
+      write_0 g = sym (own_none f last (sym z) ∙ rw (eq-eqb n (16 * blocks_in f) fits, eq-eqb m (10 + n) g))
 
 -- ---- where a reader, and a writer, does not refuse
 

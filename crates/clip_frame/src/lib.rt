@@ -1,11 +1,15 @@
-// A frame of a clip (02, j): what its ten bytes say, and the refusals of its reader and its writer.
+// A frame of a clip: what its ten bytes say, and the refusals of its reader and its writer.
 #![tactic(auto)]
 
 ghost use Rattle.std.specs.Prelude.{◌≡◌, ◌<◌};
+ghost use Rattle.reason.specs.Numbers.{refusal_told};
 ghost use Rattle.clip_frame.specs.Frame.{length_in, frame_in, frame_refusal, write_refusal};
 ghost use Rattle.clip_frame.specs.inner.Frame.{own_refusal};
 
-// What a frame says of itself.
+use reason::Refusal;
+
+// What a frame says of itself. Its kind is a number and no `Kind`: the ten bytes may tell one above 2, which is refused (2), and after a wrong
+// footprint (1); so may the numbers of a state that C lends (`clip_numbers: frame_from`).
 #[derive(Clone, Copy)]
 pub struct Frame {
     pub footprint: u8,
@@ -39,57 +43,44 @@ pub fn frame_in(s: [u8; 16]) -> Frame
     }
 }
 
-// ---- refusals, 0 for none
+// ---- refusals
 
-// 1, 2 and 3, which speak of the frame alone.
-fn own_refusal(footprint: u8, kind: u8, width: u32, height: u32) -> u8
-    ensures { result ≡ own_refusal (record { footprint = footprint; kind = kind; width = width; height = height }) }
+// By footprint, kind and sides, which speak of the frame alone.
+fn check_own(f: Frame) -> Result<(), Refusal>
+    ensures { refusal_told result ≡ own_refusal f }
 {
-    if footprint > 13 {
-        return 1;
+    if f.footprint > 13 {
+        return Err(Refusal::Footprint);
     }
-    if kind > 2 {
-        return 2;
+    if f.kind > 2 {
+        return Err(Refusal::Kind);
     }
-    image_size::size_refusal(footprint, width, height)
+    image_size::check_size(f.footprint, f.width, f.height)
 }
 
 // Of a frame that is read, n being the length that its bytes tell.
-pub fn frame_refusal(footprint: u8, kind: u8, width: u32, height: u32, n: u32) -> u8
-    ensures { result ≡ frame_refusal (record { footprint = footprint; kind = kind; width = width; height = height }) n }
+pub fn check_frame(f: Frame, n: u32) -> Result<(), Refusal>
+    ensures { refusal_told result ≡ frame_refusal f n }
 {
-    let own = own_refusal(footprint, kind, width, height);
-    if own != 0 {
-        return own;
-    }
-    let blocks = image_size::blocks_of(footprint, width, height);
+    check_own(f)?;
+    let blocks = image_size::blocks_of(f.footprint, f.width, f.height);
     if (n as u64) != 6 + 16 * (blocks as u64) {
-        return 52;
+        return Err(Refusal::FrameLength);
     }
-    0
+    Ok(())
 }
 
 // Of a frame that is to be written from so many bytes of blocks into a buffer of so many bytes.
-pub fn write_refusal(
-    footprint: u8,
-    kind: u8,
-    width: u32,
-    height: u32,
-    bytes: usize,
-    room: usize,
-) -> u8
-    ensures { result ≡ write_refusal (record { footprint = footprint; kind = kind; width = width; height = height }) bytes room }
+pub fn check_written(f: Frame, bytes: usize, room: usize) -> Result<(), Refusal>
+    ensures { refusal_told result ≡ write_refusal f bytes room }
 {
-    let own = own_refusal(footprint, kind, width, height);
-    if own != 0 {
-        return own;
-    }
-    let blocks = image_size::blocks_of(footprint, width, height);
+    check_own(f)?;
+    let blocks = image_size::blocks_of(f.footprint, f.width, f.height);
     if bytes != 16 * (blocks as usize) {
-        return 4;
+        return Err(Refusal::Bytes);
     }
     if room != 10 + bytes {
-        return 5;
+        return Err(Refusal::Places);
     }
-    0
+    Ok(())
 }

@@ -1,6 +1,6 @@
 -- The list that a call leaves stands for the state that the definition gives.
 -- Assumes nothing.
-use Rattle.std.proofs.Common.{◌≡◌, ℕ, zero, suc, ◌+◌, ◌*◌, ◌%◌, ◌<◌, Bool, true, false, not, eqb, ltb, List, [], ◌∷◌, length, get_or, set, sym, refl, ap, ◌∙◌, subst, mod-lt, mod-eq_of_lt, arith, length-set, ltb-true}
+use Rattle.std.proofs.Common.{◌≡◌, ℕ, zero, suc, ◌+◌, ◌*◌, ◌%◌, ◌<◌, Bool, true, false, not, eqb, ltb, List, [], ◌∷◌, length, get_or, set, sym, refl, ap, ◌∙◌, mod-lt, mod-eq_of_lt, arith, length-set, ltb-true}
 use Rattle.laws.specs.Choice.{pick, either}
 use Rattle.laws.specs.Table.{tab_from, tab, Bytes}
 use Rattle.laws.proofs.Filling.{length_tab}
@@ -10,10 +10,8 @@ use Rattle.clip_frame.specs.Frame.{blocks_in, length_in, frame_in, frame_refusal
 use Rattle.clip.specs.declared.Phase.{Phase}
 use Rattle.clip.specs.declared.Phase.TheVariants.{Version, Header, Blocks, Over}
 use Rattle.clip.specs.declared.Clip.{Clip}
-use Rattle.clip.specs.declared.Step.{Step}
-use Rattle.clip.specs.declared.Fed.{Fed}
 use Rattle.clip.specs.Step.{zeros, fresh_of, is_handed, entered, quiet, over, version_step, more, begun, checked, header_step, next_block, next_frame, past, handed, block_step, step_in, step_of}
-use Rattle.clip.specs.Feed.{used_up, fed_by, one_more, go_on, feed_in, feed_of, finish_number, finish_of}
+use Rattle.clip.specs.Feed.{fed_by, one_more, go_on, feed_in, feed_of, finish_number, finish_of}
 use Rattle.clip.proofs.Timely.{first}
 use Rattle.clip.proofs.Whole.{spelt_16}
 use Rattle.clip_numbers.specs.Numbers.{phase_number, phase_told, state_numbers, phase_of, frame_from, held_of, clip_of}

@@ -3,14 +3,12 @@
 use Rattle.std.proofs.Common.{◌≡◌, ℕ, ◌+◌, ◌%◌, ◌≤◌, Bool, true, false, not, eqb, ltb, List, [], ◌∷◌, length, get_or, take, sym, refl, ap, ◌∙◌, eq-eqb, ne_eqb, eqb-true}
 use borrow.Author.Tests.{not-false}
 use Rattle.laws.specs.Choice.{pick}
-use Rattle.laws.specs.Table.{tab}
 use Rattle.laws.specs.Reasons.{when}
 use Rattle.laws.proofs.Reasons.{first_none}
 use Rattle.laws.proofs.Filling.{length_tab}
 use Rattle.clip_frame.specs.declared.Frame.{Frame}
 use Rattle.clip.specs.declared.Phase.{Phase}
 use Rattle.clip.specs.declared.Phase.TheVariants.{Blocks}
-use Rattle.clip.specs.declared.Event.TheVariants.{Block}
 use Rattle.clip.specs.declared.Clip.{Clip}
 use Rattle.clip.specs.declared.Fed.{Fed}
 use Rattle.clip.specs.Step.{past, next_block, next_frame}
@@ -18,7 +16,7 @@ use Rattle.clip.specs.Feed.{feed_in, feed_of}
 use Rattle.clip.specs.Frames.{waits}
 use Rattle.clip.proofs.Timely.{first}
 use Rattle.clip.proofs.Whole.{spelt_16, whole_fed, whole_fed_lem}
-use Rattle.clip_numbers.specs.Numbers.{phase_number, phase_told, state_numbers, phase_of, frame_from, held_of, clip_of, handed_numbers, feed_numbers, event_number, feed_refusal, feed_number, feed_state, feed_block, feed_told}
+use Rattle.clip_numbers.specs.Numbers.{phase_number, phase_told, state_numbers, phase_of, frame_from, held_of, clip_of, handed_block_numbers, feed_numbers, event_number, event_bytes, feed_refusal, feed_number, feed_state, feed_block, feed_told}
 
 pub numbers_spelt : (c : Clip) → length c.held ≡ 16
     → state_numbers c
@@ -55,13 +53,13 @@ module _ (s p : List ℕ) (e0 : get_or s 0 0 ≡ 2) (e2 : get_or s 2 0 % 256 ≡
   unfolding past clip_of
   whole_state e = e ∙ ap (λ (f : Fed). state_numbers f.clip) (sym fed)
 
-  pub whole_bytes : {b : List ℕ} → b ≡ take 16 p → b ≡ (feed_of (clip_of s) p).block
-  whole_bytes e = e ∙ ap (λ (f : Fed). f.block) (sym fed)
+  pub whole_bytes : {b : List ℕ} → b ≡ take 16 p → b ≡ event_bytes (feed_of (clip_of s) p).event
+  whole_bytes e = e ∙ ap (λ (f : Fed). event_bytes f.event) (sym fed)
 
-  pub whole_told : {t : List ℕ} → t ≡ 16 ∷ handed_numbers (Block (get_or s 3 0) (get_or s 4 0)) (frame_from s) → t ≡ feed_numbers (feed_of (clip_of s) p)
+  pub whole_told : {t : List ℕ} → t ≡ 16 ∷ handed_block_numbers (get_or s 3 0) (get_or s 4 0) (frame_from s) → t ≡ feed_numbers (feed_of (clip_of s) p)
   unfolding feed_numbers clip_of
   whole_told e =
-      e ∙ ap (λ (f : Frame). 16 ∷ handed_numbers (Block (get_or s 3 0) (get_or s 4 0)) f) (sym (past_frame (clip_of s))) ∙ ap feed_numbers (sym fed)
+      e ∙ ap (λ (f : Frame). 16 ∷ handed_block_numbers (get_or s 3 0) (get_or s 4 0) f) (sym (past_frame (clip_of s))) ∙ ap feed_numbers (sym fed)
 
   pub whole_number : 0 ≡ event_number (feed_of (clip_of s) p).event
   whole_number = ap (λ (f : Fed). event_number f.event) (sym fed)
@@ -107,7 +105,7 @@ module _ (s p block told : List ℕ) {r : ℕ} (er : r ≡ feed_refusal (length 
     unfolding feed_state
     fed_state e = rw yes_fed e
 
-    pub fed_block : {l : List ℕ} → l ≡ (feed_of (clip_of s) p).block → l ≡ feed_block s p block told
+    pub fed_block : {l : List ℕ} → l ≡ event_bytes (feed_of (clip_of s) p).event → l ≡ feed_block s p block told
     unfolding feed_block
     fed_block e = rw yes_fed e
 

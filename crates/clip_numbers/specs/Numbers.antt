@@ -1,6 +1,6 @@
 -- 02, j: a reader's state as a flat list of 26 numbers, and the calls over it.
 -- Assumes nothing.
-use Rattle.std.specs.Prelude.{ℕ, ◌+◌, ◌%◌, not, List, [], ◌∷◌, length, ◌==◌, slice_index}
+use Rattle.std.specs.Prelude.{ℕ, ◌+◌, ◌%◌, not, Option, None, Some, List, [], ◌∷◌, length, ◌==◌, slice_index}
 use Rattle.laws.specs.Choice.{pick}
 use Rattle.laws.specs.Table.{tab}
 use Rattle.laws.specs.Reasons.{when, first_of}
@@ -8,10 +8,10 @@ use Rattle.clip_frame.specs.declared.Frame.{Frame}
 use Rattle.clip.specs.declared.Phase.{Phase}
 use Rattle.clip.specs.declared.Phase.TheVariants.{Version, Header, Blocks, Over}
 use Rattle.clip.specs.declared.Event.{Event}
-use Rattle.clip.specs.declared.Event.TheVariants.{Nothing, Block, Told}
+use Rattle.clip.specs.declared.Event.TheVariants.{Block, Told}
 use Rattle.clip.specs.declared.Clip.{Clip}
 use Rattle.clip.specs.declared.Fed.{Fed}
-use Rattle.clip.specs.Step.{fresh_of}
+use Rattle.clip.specs.Step.{zeros, fresh_of}
 use Rattle.clip.specs.Feed.{feed_of, finish_of}
 
 -- ---- a state as 26 numbers: phase (0 version, 1 header, 2 blocks, 3 over), the number told, how many bytes are held, frame index, block index,
@@ -58,19 +58,28 @@ clip_of s = record {
 -- ---- what a feed tells as 8 numbers: bytes taken, 1 where a block is handed out, else 0, its frame's index and its own, and the footprint,
 -- kind, width and height of the frame last begun, which is the block's
 
-abbrev pub handed_numbers : Event → Frame → List ℕ
-handed_numbers Nothing f = 0 ∷ 0 ∷ 0 ∷ f.footprint ∷ f.kind ∷ f.width ∷ f.height ∷ []
-handed_numbers (Block i j) f = 1 ∷ i ∷ j ∷ f.footprint ∷ f.kind ∷ f.width ∷ f.height ∷ []
-handed_numbers (Told n) f = 0 ∷ 0 ∷ 0 ∷ f.footprint ∷ f.kind ∷ f.width ∷ f.height ∷ []
+abbrev pub handed_block_numbers : ℕ → ℕ → Frame → List ℕ
+handed_block_numbers i j f = 1 ∷ i ∷ j ∷ f.footprint ∷ f.kind ∷ f.width ∷ f.height ∷ []
+
+abbrev pub handed_numbers : Option Event → Frame → List ℕ
+handed_numbers None f = 0 ∷ 0 ∷ 0 ∷ f.footprint ∷ f.kind ∷ f.width ∷ f.height ∷ []
+handed_numbers (Some (Block i j s)) f = handed_block_numbers i j f
+handed_numbers (Some (Told n)) f = 0 ∷ 0 ∷ 0 ∷ f.footprint ∷ f.kind ∷ f.width ∷ f.height ∷ []
 
 unfoldable pub feed_numbers : Fed → List ℕ
 feed_numbers f = f.taken ∷ handed_numbers f.event f.clip.frame
 
 -- the number told, 0 for none
-abbrev pub event_number : Event → ℕ
-event_number Nothing = 0
-event_number (Block i j) = 0
-event_number (Told n) = n
+abbrev pub event_number : Option Event → ℕ
+event_number None = 0
+event_number (Some (Block i j s)) = 0
+event_number (Some (Told n)) = n
+
+-- the sixteen bytes of the block that is handed out, else zeros
+abbrev pub event_bytes : Option Event → List ℕ
+event_bytes None = zeros
+event_bytes (Some (Block i j s)) = s
+event_bytes (Some (Told n)) = zeros
 
 -- ---- the calls: 5 where a lent list is not exactly as long as said, which leaves all of them as they were
 
@@ -96,7 +105,7 @@ module _ (s p block told : List ℕ) where
   feed_state = pick (refused_by == 0) (state_numbers (feed_of (clip_of s) p).clip) s
 
   unfoldable pub feed_block : List ℕ
-  feed_block = pick (refused_by == 0) (feed_of (clip_of s) p).block block
+  feed_block = pick (refused_by == 0) (event_bytes (feed_of (clip_of s) p).event) block
 
   unfoldable pub feed_told : List ℕ
   feed_told = pick (refused_by == 0) (feed_numbers (feed_of (clip_of s) p)) told

@@ -1,15 +1,17 @@
 // The reader of clips over lent lists of numbers: its state is a list of 26, whose every content is taken.
 #![tactic(auto)]
 
-ghost use Rattle.std.specs.Prelude.{◌≡◌, ◌%◌, ◌<◌, ◌≤◌, true, ◌∷◌, length, slice_index};
-ghost use Rattle.clip.specs.declared.Event.TheVariants.{Nothing, Block};
+ghost use Rattle.std.specs.Prelude.{◌≡◌, ◌%◌, ◌<◌, ◌≤◌, true, None, Some, ◌∷◌, length, slice_index};
+ghost use Rattle.reason.specs.Numbers.{refusal_told};
+ghost use Rattle.clip.specs.declared.Event.TheVariants.{Block};
 ghost use Rattle.clip.specs.Step.{past};
 ghost use Rattle.clip.specs.Frames.{waits};
 ghost use Rattle.clip.specs.Feed.{feed_of};
-ghost use Rattle.clip_numbers.specs.Numbers.{phase_number, phase_told, state_numbers, phase_of, frame_from, held_of, clip_of, handed_numbers, feed_numbers, event_number, start_number, start_state, feed_refusal, feed_number, feed_state, feed_block, feed_told, finish_numbered, finish_state};
+ghost use Rattle.clip_numbers.specs.Numbers.{phase_number, phase_told, state_numbers, phase_of, frame_from, held_of, clip_of, handed_block_numbers, handed_numbers, feed_numbers, event_number, event_bytes, start_number, start_state, feed_refusal, feed_number, feed_state, feed_block, feed_told, finish_numbered, finish_state};
 
 use clip::{Clip, Event, Fed, Phase};
 use clip_frame::Frame;
+use reason::Refusal;
 use std::num::wrapping_add_u32;
 
 // ---- a state from its numbers
@@ -23,16 +25,12 @@ fn low(n: u32) -> u8
 fn phase_of(n: u32, told: u32) -> Phase
     ensures { result ≡ phase_of n told }
 {
-    if n == 0 {
-        return Phase::Version;
+    match n {
+        0 => Phase::Version,
+        1 => Phase::Header,
+        2 => Phase::Blocks,
+        _ => Phase::Over(low(told)),
     }
-    if n == 1 {
-        return Phase::Header;
-    }
-    if n == 2 {
-        return Phase::Blocks;
-    }
-    Phase::Over(low(told))
 }
 
 fn frame_of(state: &[u32]) -> Frame
@@ -52,10 +50,8 @@ fn held_of(state: &[u32]) -> [u8; 16]
     ensures { result ≡ held_of state.now }
 {
     let mut held = [0u8; 16];
-    let mut k: usize = 0;
-    while k < 16 {
+    for k in 0..16usize {
         held[k] = low(state[10 + k]);
-        k += 1;
     }
     held
 }
@@ -141,34 +137,10 @@ fn numbers_of(c: Clip) -> [u32; 26]
     ]
 }
 
-// ---- lent lists
-
-fn put_numbers(from: [u32; 26], state: &mut [u32])
-    requires { length state.old ≡ 26 }
-    ensures { state.new ≡ from }
-{
-    let mut i: usize = 0;
-    while i < 26 {
-        state[i] = from[i];
-        i += 1;
-    }
-}
-
-fn put_told(from: [u64; 8], told: &mut [u64])
-    requires { length told.old ≡ 8 }
-    ensures { told.new ≡ from }
-{
-    let mut i: usize = 0;
-    while i < 8 {
-        told[i] = from[i];
-        i += 1;
-    }
-}
-
 // ---- what a feed tells
 
 fn block_told(taken: usize, index: u32, block: u32, f: Frame) -> [u64; 8]
-    ensures { result ≡ taken ∷ handed_numbers (Block index block) f }
+    ensures { result ≡ taken ∷ handed_block_numbers index block f }
 {
     [
         taken as u64,
@@ -183,7 +155,7 @@ fn block_told(taken: usize, index: u32, block: u32, f: Frame) -> [u64; 8]
 }
 
 fn nothing_told(taken: usize, f: Frame) -> [u64; 8]
-    ensures { result ≡ taken ∷ handed_numbers Nothing f }
+    ensures { result ≡ taken ∷ handed_numbers None f }
 {
     [
         taken as u64,
@@ -197,23 +169,39 @@ fn nothing_told(taken: usize, f: Frame) -> [u64; 8]
     ]
 }
 
-fn event_told(taken: usize, e: Event, f: Frame) -> [u64; 8]
-    ensures { result ≡ taken ∷ handed_numbers e f }
+fn event_told(taken: usize, event: Option<Event>, f: Frame) -> [u64; 8]
+    ensures { result ≡ taken ∷ handed_numbers event f }
 {
-    match e {
-        Event::Nothing => nothing_told(taken, f),
-        Event::Block(i, j) => block_told(taken, i, j, f),
-        Event::Told(n) => nothing_told(taken, f),
+    match event {
+        None => nothing_told(taken, f),
+        Some(
+            Event::Block {
+                frame_index,
+                block_index,
+                ..
+            },
+        ) => block_told(taken, frame_index, block_index, f),
+        Some(Event::Told(_)) => nothing_told(taken, f),
     }
 }
 
-fn number_in(e: Event) -> u8
-    ensures { result ≡ event_number e }
+fn bytes_in(event: Option<Event>) -> [u8; 16]
+    ensures { result ≡ event_bytes event }
 {
-    match e {
-        Event::Nothing => 0,
-        Event::Block(i, j) => 0,
-        Event::Told(n) => n,
+    match event {
+        None => [0u8; 16],
+        Some(Event::Block { bytes, .. }) => bytes,
+        Some(Event::Told(_)) => [0u8; 16],
+    }
+}
+
+fn number_in(event: Option<Event>) -> u8
+    ensures { result ≡ event_number event }
+{
+    match event {
+        None => 0,
+        Some(Event::Block { .. }) => 0,
+        Some(Event::Told(n)) => n,
     }
 }
 
@@ -288,7 +276,7 @@ fn whole_block(state: &mut [u32], piece: &[u8], block: &mut [u8], told: &mut [u6
     requires state_len { (length state.old ≡ 26) × (length block.old ≡ 16) × (length told.old ≡ 8) }
     requires state_value { (slice_index state.old 0 ≡ 2) × (slice_index state.old 2 % 256 ≡ 0) × (16 ≤ length piece.now) }
     ensures state_after { state.new ≡ state_numbers (feed_of (clip_of state.old) piece.now).clip }
-    ensures block_after { block.new ≡ (feed_of (clip_of state.old) piece.now).block }
+    ensures block_after { block.new ≡ event_bytes (feed_of (clip_of state.old) piece.now).event }
     ensures told_after { told.new ≡ feed_numbers (feed_of (clip_of state.old) piece.now) }
     ensures value { 0 ≡ event_number (feed_of (clip_of state.old) piece.now).event }
 {
@@ -296,9 +284,9 @@ fn whole_block(state: &mut [u32], piece: &[u8], block: &mut [u8], told: &mut [u6
     let at = state[4];
     let f = frame_of(state);
     let next = next_numbers(index, at, state[5], f);
-    put_numbers(next, state);
+    state.copy_from_slice(&next);
     byte_list::put_block(clip_reader::first_block(piece), block);
-    put_told(block_told(16, index, at, f), told);
+    told.copy_from_slice(&block_told(16, index, at, f));
 }
 
 // ---- the calls
@@ -308,34 +296,24 @@ fn feed_state(state: &mut [u32], piece: &[u8], block: &mut [u8], told: &mut [u64
     requires { (length state.old ≡ 26) × (length block.old ≡ 16) × (length told.old ≡ 8) }
     ensures value { result ≡ event_number (feed_of (clip_of state.old) piece.now).event }
     ensures state_after { state.new ≡ state_numbers (feed_of (clip_of state.old) piece.now).clip }
-    ensures block_after { block.new ≡ (feed_of (clip_of state.old) piece.now).block }
+    ensures block_after { block.new ≡ event_bytes (feed_of (clip_of state.old) piece.now).event }
     ensures told_after { told.new ≡ feed_numbers (feed_of (clip_of state.old) piece.now) }
 {
     let fed = clip_reader::feed(clip_of(state), piece);
-    let c = fed.clip;
-    let bytes = fed.block;
-    let event = fed.event;
-    let f = c.frame;
-    put_numbers(numbers_of(c), state);
-    byte_list::put_block(bytes, block);
-    put_told(event_told(fed.taken, event, f), told);
-    number_in(event)
+    state.copy_from_slice(&numbers_of(fed.clip));
+    byte_list::put_block(bytes_in(fed.event), block);
+    told.copy_from_slice(&event_told(fed.taken, fed.event, fed.clip.frame));
+    number_in(fed.event)
 }
 
-// 5 where a list is not as long as said.
-fn feed_refusal(state: usize, block: usize, told: usize) -> u8
-    ensures { result ≡ feed_refusal state block told }
+// Of lists of so many numbers.
+fn check_feed(state: usize, block: usize, told: usize) -> Result<(), Refusal>
+    ensures { refusal_told result ≡ feed_refusal state block told }
 {
-    if state != 26 {
-        return 5;
+    if state != 26 || block != 16 || told != 8 {
+        return Err(Refusal::Places);
     }
-    if block != 16 {
-        return 5;
-    }
-    if told != 8 {
-        return 5;
-    }
-    0
+    Ok(())
 }
 
 // A block is waited for, none of it is held, and all of it stands in the piece: by the state's numbers 0 and 2.
@@ -359,9 +337,8 @@ pub fn feed_numbers(state: &mut [u32], piece: &[u8], block: &mut [u8], told: &mu
     ensures block_after { block.new ≡ feed_block state.old piece.now block.old told.old }
     ensures told_after { told.new ≡ feed_told state.old piece.now block.old told.old }
 {
-    let refusal = feed_refusal(state.len(), block.len(), told.len());
-    if refusal != 0 {
-        return refusal;
+    if let Err(refusal) = check_feed(state.len(), block.len(), told.len()) {
+        return refusal.into();
     }
     if is_whole(state[0], state[2], piece.len()) {
         whole_block(state, piece, block, told);
@@ -376,9 +353,9 @@ pub fn start_numbers(state: &mut [u32]) -> u8
     ensures state_after { state.new ≡ start_state state.old }
 {
     if state.len() != 26 {
-        return 5;
+        return Refusal::Places.into();
     }
-    put_numbers(numbers_of(clip_reader::fresh()), state);
+    state.copy_from_slice(&numbers_of(clip_reader::fresh()));
     0
 }
 
@@ -388,10 +365,9 @@ pub fn finish_numbers(state: &mut [u32]) -> u8
     ensures state_after { state.new ≡ finish_state state.old }
 {
     if state.len() != 26 {
-        return 5;
+        return Refusal::Places.into();
     }
     let finished = clip_reader::finish(clip_of(state));
-    let c = finished.clip;
-    put_numbers(numbers_of(c), state);
+    state.copy_from_slice(&numbers_of(finished.clip));
     finished.number
 }

@@ -1,6 +1,6 @@
 -- The loop of a feed: what is left to do at each byte.
 -- Assumes nothing.
-use Rattle.std.proofs.Common.{◌≡◌, ℕ, zero, suc, ◌+◌, ◌<◌, ◌≤◌, Bool, true, false, List, [], ◌∷◌, length, get_or, take, drop, sym, refl, ap, ◌∙◌, add-zero, add-suc, zero-add, arith, drop_of_length-le, drop-cons}
+use Rattle.std.proofs.Common.{◌≡◌, ℕ, suc, ◌+◌, ◌<◌, ◌≤◌, Bool, true, false, Some, List, [], ◌∷◌, length, get_or, take, drop, sym, ap, ◌∙◌, add-zero, zero-add, arith, drop_of_length-le, drop-cons}
 use Rattle.laws.specs.Choice.{pick}
 use Rattle.clip.specs.declared.Phase.{Phase}
 use Rattle.clip.specs.declared.Phase.TheVariants.{Blocks}
@@ -14,9 +14,9 @@ use Rattle.clip.specs.Feed.{used_up, fed_by, one_more, go_on, feed_in, feed_of}
 
 -- a feed that was preceded by n bytes
 abbrev pub plus : ℕ → Fed → Fed
-plus n f = record { clip = f.clip; taken = n + f.taken; event = f.event; block = f.block }
+plus n f = record { clip = f.clip; taken = n + f.taken; event = f.event }
 
-retold : (f : Fed) (n m : ℕ) → n ≡ m → ◌≡◌ {A = Fed} (record { clip = f.clip; taken = n; event = f.event; block = f.block }) (record { clip = f.clip; taken = m; event = f.event; block = f.block })
+retold : (f : Fed) (n m : ℕ) → n ≡ m → ◌≡◌ {A = Fed} (record { clip = f.clip; taken = n; event = f.event }) (record { clip = f.clip; taken = m; event = f.event })
 retold f n m e = rw e
 
 pub begun_feed : (c : Clip) (s : List ℕ) → go_on c s ≡ plus 0 (go_on c (drop 0 s))
@@ -59,6 +59,6 @@ by_phase c s q r e h = h ∙ ap (λ (k : Phase). feed_in k c s) (sym e)
 
 -- a whole block at once
 pub whole_returned : (c : Clip) (s : List ℕ) {next : Clip} {block : List ℕ} → c.phase ≡ Blocks → c.have ≡ 0 → length c.held ≡ 16 → 16 ≤ length s
-    → next ≡ past c → block ≡ take 16 s → ◌≡◌ {A = Fed} (record { clip = next; taken = 16; event = Block c.index c.block; block = block }) (go_on c s)
+    → next ≡ past c → block ≡ take 16 s → ◌≡◌ {A = Fed} (record { clip = next; taken = 16; event = Some (Block c.index c.block block) }) (go_on c s)
 whole_returned c s {next} {block} ep ek eh es en eb =
-    ap (λ (k : Clip). record { clip = k; taken = 16; event = Block c.index c.block; block = block }) en ∙ ap (whole_fed c) eb ∙ sym (whole_fed_lem c s ep ek eh es)
+    ap (λ (k : Clip). record { clip = k; taken = 16; event = Some (Block c.index c.block block) }) en ∙ ap (whole_fed c) eb ∙ sym (whole_fed_lem c s ep ek eh es)

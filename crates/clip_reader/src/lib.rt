@@ -1,15 +1,17 @@
-// The reader of clips (02, j): it is fed pieces of any size and hands out each block as its sixteenth byte arrives.
+// The reader of clips: it is fed pieces of any size and hands out each block as its sixteenth byte arrives.
 #![tactic(auto)]
 
 ghost use Rattle.std.specs.Prelude.{◌≡◌, ◌<◌, ◌≤◌, length, take, ◌==◌, slice_set};
 ghost use Rattle.laws.specs.Choice.{pick};
+ghost use Rattle.reason.specs.Numbers.{refusal_number};
 ghost use Rattle.image_size.specs.Sides.{size_refusal};
 ghost use Rattle.clip.specs.declared.Phase.TheVariants.{Blocks};
-ghost use Rattle.clip.specs.Step.{fresh_of, over, is_handed, entered, quiet as quietOf, more, begun, checked, next_block, next_frame, past, handed, version_step, header_step, block_step, step_of};
+ghost use Rattle.clip.specs.Step.{fresh_of, over, entered, quiet as quietOf, more, begun, checked, next_block, next_frame, past, handed, version_step, header_step, block_step, step_of};
 ghost use Rattle.clip.specs.Feed.{fed_by, go_on, feed_of, finish_number, finish_of};
 
 use clip::{Clip, Event, Fed, Finished, Phase, Step};
 use clip_frame::Frame;
+use reason::Refusal;
 use std::num::wrapping_add_u32;
 
 // A fresh start.
@@ -36,15 +38,11 @@ pub fn fresh() -> Clip
 fn enter(c: Clip, phase: Phase) -> Clip
     ensures { result ≡ entered c phase }
 {
-    let frame = c.frame;
     Clip {
         phase,
         have: 0,
         held: [0u8; 16],
-        index: c.index,
-        block: c.block,
-        last: c.last,
-        frame,
+        ..c
     }
 }
 
@@ -54,19 +52,18 @@ fn quiet(c: Clip) -> Step
 {
     Step {
         clip: c,
-        event: Event::Nothing,
-        block: [0u8; 16],
+        event: None,
     }
 }
 
 // A refusal.
-fn stop(c: Clip, n: u8) -> Step
-    ensures { result ≡ over c n }
+fn stop(c: Clip, refusal: Refusal) -> Step
+    ensures { result ≡ over c (refusal_number refusal) }
 {
+    let n = refusal.into();
     Step {
         clip: enter(c, Phase::Over(n)),
-        event: Event::Told(n),
-        block: [0u8; 16],
+        event: Some(Event::Told(n)),
     }
 }
 
@@ -84,17 +81,10 @@ fn hold(c: Clip, b: u8) -> Step
     requires { c.have < 15 }
     ensures { result ≡ more c b }
 {
-    let phase = c.phase;
-    let frame = c.frame;
-    let held = c.held;
     quiet(Clip {
-        phase,
         have: c.have + 1,
-        held: with(held, c.have as usize, b),
-        index: c.index,
-        block: c.block,
-        last: c.last,
-        frame,
+        held: with(c.held, c.have as usize, b),
+        ..c
     })
 }
 
@@ -106,7 +96,7 @@ fn version_step(c: Clip, b: u8) -> Step
     if b == 1 {
         quiet(enter(c, Phase::Header))
     } else {
-        stop(c, 51)
+        stop(c, Refusal::ClipVersion)
     }
 }
 
@@ -132,28 +122,20 @@ fn check(c: Clip, s: [u8; 16]) -> Step
     ensures { result ≡ checked c s }
 {
     let f = clip_frame::frame_in(s);
-    let n = clip_frame::frame_refusal(
-        f.footprint,
-        f.kind,
-        f.width,
-        f.height,
-        clip_frame::length_in(s),
-    );
-    if n == 0 {
-        quiet(begin(c, f))
-    } else {
-        stop(c, n)
+    match clip_frame::check_frame(f, clip_frame::length_in(s)) {
+        Ok(()) => quiet(begin(c, f)),
+        Err(refusal) => stop(c, refusal),
     }
 }
 
+// Not one function with `block_step`: one that takes the limit and a closure for the last byte is no shorter.
 fn header_step(c: Clip, b: u8) -> Step
     ensures { result ≡ header_step c b }
 {
     if c.have < 9 {
         hold(c, b)
     } else {
-        let held = c.held;
-        check(c, with(held, 9, b))
+        check(c, with(c.held, 9, b))
     }
 }
 
@@ -162,15 +144,12 @@ fn next_block(c: Clip) -> Clip
     requires { c.block < c.last }
     ensures { result ≡ next_block c }
 {
-    let frame = c.frame;
     Clip {
         phase: Phase::Blocks,
         have: 0,
         held: [0u8; 16],
-        index: c.index,
         block: c.block + 1,
-        last: c.last,
-        frame,
+        ..c
     }
 }
 
@@ -178,7 +157,6 @@ fn next_block(c: Clip) -> Clip
 fn next_frame(c: Clip) -> Clip
     ensures { result ≡ next_frame c }
 {
-    let frame = c.frame;
     Clip {
         phase: Phase::Header,
         have: 0,
@@ -186,7 +164,7 @@ fn next_frame(c: Clip) -> Clip
         index: wrapping_add_u32(c.index, 1),
         block: 0,
         last: 0,
-        frame,
+        ..c
     }
 }
 
@@ -207,8 +185,11 @@ fn hand(c: Clip, s: [u8; 16]) -> Step
 {
     Step {
         clip: pass(c),
-        event: Event::Block(c.index, c.block),
-        block: s,
+        event: Some(Event::Block {
+            frame_index: c.index,
+            block_index: c.block,
+            bytes: s,
+        }),
     }
 }
 
@@ -218,8 +199,7 @@ fn block_step(c: Clip, b: u8) -> Step
     if c.have < 15 {
         hold(c, b)
     } else {
-        let held = c.held;
-        hand(c, with(held, 15, b))
+        hand(c, with(c.held, 15, b))
     }
 }
 
@@ -227,8 +207,7 @@ fn block_step(c: Clip, b: u8) -> Step
 fn byte_step(c: Clip, b: u8) -> Step
     ensures { result ≡ step_of c b }
 {
-    let phase = c.phase;
-    match phase {
+    match c.phase {
         Phase::Version => version_step(c, b),
         Phase::Header => header_step(c, b),
         Phase::Blocks => block_step(c, b),
@@ -238,27 +217,13 @@ fn byte_step(c: Clip, b: u8) -> Step
 
 // ---- a piece
 
-fn is_handed(e: Event) -> bool
-    ensures { result ≡ is_handed e }
-{
-    match e {
-        Event::Nothing => false,
-        Event::Block(i, j) => true,
-        Event::Told(n) => true,
-    }
-}
-
 fn fed_by(t: Step, taken: usize) -> Fed
     ensures { result ≡ fed_by t taken }
 {
-    let clip = t.clip;
-    let event = t.event;
-    let block = t.block;
     Fed {
-        clip,
+        clip: t.clip,
         taken,
-        event,
-        block,
+        event: t.event,
     }
 }
 
@@ -267,18 +232,14 @@ fn go_on(c: Clip, piece: &[u8]) -> Fed
     ensures { result ≡ go_on c piece.now }
 {
     let mut clip = c;
-    let mut i: usize = 0;
-    while i < piece.len() {
-        let t = byte_step(clip, piece[i]);
-        i += 1;
-        let e = t.event;
-        if is_handed(e) {
-            return fed_by(t, i);
+    for (i, b) in piece.iter().enumerate() {
+        let t = byte_step(clip, *b);
+        if t.event.is_some() {
+            return fed_by(t, i + 1);
         }
-        let k = t.clip;
-        clip = k;
+        clip = t.clip;
     }
-    fed_by(quiet(clip), i)
+    fed_by(quiet(clip), piece.len())
 }
 
 // The first sixteen bytes of a piece.
@@ -300,8 +261,11 @@ fn whole_block(c: Clip, piece: &[u8]) -> Fed
     Fed {
         clip: pass(c),
         taken: 16,
-        event: Event::Block(c.index, c.block),
-        block: first_block(piece),
+        event: Some(Event::Block {
+            frame_index: c.index,
+            block_index: c.block,
+            bytes: first_block(piece),
+        }),
     }
 }
 
@@ -321,16 +285,14 @@ fn feed_blocks(c: Clip, piece: &[u8]) -> Fed
 pub fn feed(c: Clip, piece: &[u8]) -> Fed
     ensures { result ≡ feed_of c piece.now }
 {
-    let phase = c.phase;
-    match phase {
+    match c.phase {
         Phase::Version => go_on(c, piece),
         Phase::Header => go_on(c, piece),
         Phase::Blocks => feed_blocks(c, piece),
         Phase::Over(n) => Fed {
             clip: c,
             taken: 0,
-            event: Event::Told(n),
-            block: [0u8; 16],
+            event: Some(Event::Told(n)),
         },
     }
 }
@@ -340,17 +302,20 @@ pub fn feed(c: Clip, piece: &[u8]) -> Fed
 fn header_end(have: u8) -> u8
     ensures { result ≡ pick (have == 0) 0 53 }
 {
-    if have == 0 { 0 } else { 53 }
+    if have == 0 {
+        0
+    } else {
+        Refusal::ClipEnd.into()
+    }
 }
 
 fn finish_number(c: Clip) -> u8
     ensures { result ≡ finish_number c.phase c.have }
 {
-    let phase = c.phase;
-    match phase {
-        Phase::Version => 53,
+    match c.phase {
+        Phase::Version => Refusal::ClipEnd.into(),
         Phase::Header => header_end(c.have),
-        Phase::Blocks => 53,
+        Phase::Blocks => Refusal::ClipEnd.into(),
         Phase::Over(n) => n,
     }
 }

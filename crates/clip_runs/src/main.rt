@@ -61,19 +61,18 @@ fn told<W: Write>(output: &mut W, name: &[u8], n: u8, at: usize) -> io::Result<(
     end_line(output)
 }
 
-fn event<W: Write>(output: &mut W, e: Event, f: Frame, of: [u8; 16], at: usize) -> io::Result<()> {
+fn event<W: Write>(output: &mut W, e: Option<Event>, f: Frame, at: usize) -> io::Result<()> {
     match e {
-        Event::Nothing => Ok(()),
-        Event::Block(i, j) => block(output, i, j, f, of, at),
-        Event::Told(n) => told(output, b"told ", n, at),
+        None => Ok(()),
+        Some(
+            Event::Block {
+                frame_index,
+                block_index,
+                bytes,
+            },
+        ) => block(output, frame_index, block_index, f, bytes, at),
+        Some(Event::Told(n)) => told(output, b"told ", n, at),
     }
-}
-
-fn min(a: usize, b: usize) -> usize
-    ensures first { result ≤ a }
-    ensures second { result ≤ b }
-{
-    if a < b { a } else { b }
 }
 
 // What is left of a piece, or the next one.
@@ -93,14 +92,10 @@ fn piece_end(at: usize, left: usize, n: usize) -> usize
 // The end, and an empty piece after it.
 fn finish<W: Write>(output: &mut W, c: Clip, clip: &[u8]) -> io::Result<()> {
     let f = clip_reader::finish(c);
-    let over = f.clip;
-    let again = clip_reader::feed(over, &clip[0..0]);
+    let again = clip_reader::feed(f.clip, &clip[0..0]);
     word(output, b"end ", f.number as u64)?;
-    let e = again.event;
-    let frame = over.frame;
-    let none = again.block;
     output.write_all(b" ")?;
-    event(output, e, frame, none, again.taken)
+    event(output, again.event, f.clip.frame, again.taken)
 }
 
 // A reader, and how many bytes of the clip it has taken.
@@ -118,18 +113,13 @@ fn step<W: Write>(output: &mut W, c: Clip, clip: &[u8], at: usize, end: usize) -
     ensures end { IfOk result (λ place. place.at ≤ end) }
 {
     let empty = clip_reader::feed(c, &clip[at..at]);
-    let before = empty.clip;
-    let f = clip_reader::feed(before, &clip[at..end]);
-    let after = f.clip;
-    let e = f.event;
-    let of = f.block;
-    let frame = after.frame;
+    let f = clip_reader::feed(empty.clip, &clip[at..end]);
     let next = piece_end(at, f.taken, end);
     if at < next {
-        event(output, e, frame, of, next)?;
+        event(output, f.event, f.clip.frame, next)?;
     }
     Ok(Place {
-        clip: after,
+        clip: f.clip,
         at: next,
     })
 }
@@ -141,12 +131,12 @@ fn fed<W: Write>(output: &mut W, clip: &[u8], cut: usize) -> io::Result<()> {
     let mut c = clip_reader::fresh();
     let mut at: usize = 0;
     let mut left = cut;
+    // Kept a while: a step goes on by as many bytes as the reader takes.
     while at < clip.len() {
         let end = piece_end(at, left, clip.len());
         let place = step(output, c, clip, at, end)?;
-        let k = place.clip;
         let next = place.at;
-        c = k;
+        c = place.clip;
         if next == at {
             break;
         }
@@ -172,13 +162,15 @@ fn write<W: Write>(
     blocks: &[u8],
     out: &mut [u8],
 ) -> io::Result<()> {
-    let n = clip_writer::write_frame(footprint, kind, width, height, blocks, out);
-    if n == 0 {
-        output.write_all(b"frame")?;
-        bytes(output, out)
-    } else {
-        word(output, b"refused ", n as u64)?;
-        end_line(output)
+    match clip_writer::write_frame(footprint, kind, width, height, blocks, out) {
+        Ok(()) => {
+            output.write_all(b"frame")?;
+            bytes(output, out)
+        }
+        Err(refusal) => {
+            word(output, b"refused ", u8::from(refusal) as u64)?;
+            end_line(output)
+        }
     }
 }
 
@@ -190,7 +182,7 @@ fn two(high: u8, low: u8) -> u32
 
 // The first n bytes, as a clip.
 fn clip_record<W: Write>(output: &mut W, all: &[u8], n: usize) -> io::Result<()> {
-    let m = min(n, all.len());
+    let m = n.min(all.len());
     read(output, &all[0..m])
 }
 
@@ -206,8 +198,8 @@ fn frame_record<W: Write>(
     out: &mut [u8],
     room: usize,
 ) -> io::Result<()> {
-    let m = min(n, all.len());
-    let k = min(room, out.len());
+    let m = n.min(all.len());
+    let k = room.min(out.len());
     write(
         output,
         footprint,

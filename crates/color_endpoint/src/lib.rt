@@ -196,13 +196,11 @@ fn later_pairs(
         return [endpoint_arithmetic::zero_pair(); 4];
     }
     let mut t = first;
-    let mut p: usize = 1;
     let mut start = number_count(modes[0]);
-    while p < n {
+    for p in 1..n {
         let mode = modes[p];
         t[p] = endpoint_pair(mode, numbers_from(levels, start));
         start += number_count(mode);
-        p += 1;
     }
     t
 }

@@ -2,18 +2,29 @@
 #![tactic(auto)]
 
 ghost use Rattle.std.specs.Prelude.{◌≡◌, length};
+ghost use Rattle.reason.specs.Numbers.{refusal_number};
 ghost use Rattle.image_numbers.specs.Calls.{refusal_or5};
 ghost use Rattle.image_faults.specs.Faults.{faults_refusal};
 ghost use Rattle.fault_numbers.specs.Calls.{faults_number, faults_shown, faults_tally};
 
 use block_reading::Reading;
+use reason::Refusal;
 
 // The first refusal, else 5.
-fn refusal_or_5(footprint: u8, kind: u8, width: u32, height: u32, bytes: usize, places: usize) -> u8
-    ensures { result ≡ refusal_or5 (faults_refusal footprint kind width height bytes places) }
+fn refusal_or_5(
+    footprint: u8,
+    kind: u8,
+    width: u32,
+    height: u32,
+    bytes: usize,
+    places: usize,
+) -> Refusal
+    ensures { refusal_number result ≡ refusal_or5 (faults_refusal footprint kind width height bytes places) }
 {
-    let e = image_faults::refusal(footprint, kind, width, height, bytes, places);
-    if e == 0 { 5 } else { e }
+    match image_faults::check(footprint, kind, width, height, bytes, places) {
+        Err(refusal) => refusal,
+        Ok(()) => Refusal::Places,
+    }
 }
 
 // The fault of each block, 0 for none, in raster order: 0, or the refusal's number with `faults` as it was; `tally` as in the image calls.
@@ -32,11 +43,11 @@ pub fn faults_told(
     ensures tally_after { tally.new ≡ faults_tally reading footprint kind width height blocks.now (length faults.old) tally.old }
 {
     if tally.len() != 3 {
-        return refusal_or_5(footprint, kind, width, height, blocks.len(), faults.len());
+        return refusal_or_5(footprint, kind, width, height, blocks.len(), faults.len()).into();
     }
     let answer = image_faults::image_faults(
         reading, footprint, kind, width, height, blocks, faults,
     );
     image_numbers::put_tally(image_numbers::tally_told(answer), tally);
-    image_numbers::refusal_told(answer)
+    reason::refusal_told(answer)
 }

@@ -5,7 +5,8 @@
 
 ghost use Rattle.std.specs.Prelude.{◌≡◌, length};
 
-use image_layout::{ImageAnswer, Tally};
+use image_layout::Tally;
+use reason::Refusal;
 use std::io;
 use std::io::{Read, Write};
 
@@ -63,10 +64,10 @@ fn tally<W: Write>(output: &mut W, t: Tally) -> io::Result<()> {
     word(output, b" fault ", t.fault as u64)
 }
 
-fn told<W: Write>(output: &mut W, a: ImageAnswer) -> io::Result<()> {
+fn told<W: Write>(output: &mut W, a: Result<Tally, Refusal>) -> io::Result<()> {
     match a {
-        ImageAnswer::Refused(n) => word(output, b"refused ", n as u64),
-        ImageAnswer::Decoded(t) => tally(output, t),
+        Err(refusal) => word(output, b"refused ", u8::from(refusal) as u64),
+        Ok(t) => tally(output, t),
     }
 }
 

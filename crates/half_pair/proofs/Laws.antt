@@ -1,18 +1,15 @@
 -- Room for the ends of each HDR mode.
 -- Assumes nothing.
-use mathlib.Core.Path.{◌≡◌, refl, sym, subst, ap, ◌∙◌}
-use mathlib.Core.Bool.{Bool, true, false, not}
-use mathlib.Core.List.{List, [], ◌∷◌}
-use Prim.Native.Nat.{ℕ, ◌+◌, ◌-◌, ◌*◌, ◌/◌, ◌%◌, ◌≤◌}
-use native.Mathlib.Nat.{mul-le-mul}
-use native.Mathlib.Omega.{arith}
+use mathlib.Core.Path.{◌≡◌, refl, subst}
+use mathlib.Core.Bool.{Bool, true, false}
+use mathlib.Core.List.{List}
+use Prim.Native.Nat.{ℕ, ◌≤◌}
 use lib.Dec.{T, eqb}
 use lib.ListN.{get_or}
 use Rattle.laws.specs.Choice.{pick}
 use Rattle.hdr_endpoint.specs.declared.HdrPair.{HdrPair}
 use Rattle.hdr_endpoint.specs.Parts.{swizzled_end}
 use Rattle.hdr_endpoint.specs.Direct.{field_ends, fields_shifted, plain_ends, major_bits, direct_mode, direct}
-use Rattle.hdr_endpoint.specs.inner.Bounds.{Twelve}
 use Rattle.half_pair.specs.inner.Room.{Room}
 
 -- ---- room

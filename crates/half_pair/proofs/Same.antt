@@ -1,8 +1,8 @@
 -- The pair of kind 2 follows from the numbers that its mode takes, and its ends have 16 bits.
 -- Assumes nothing.
-use mathlib.Core.Path.{◌≡◌, refl, sym, subst, ap, ap₂, ◌∙◌}
+use mathlib.Core.Path.{◌≡◌, refl, ap, ◌∙◌}
 use mathlib.Core.Bool.{Bool, true, false, not}
-use mathlib.Core.List.{List, [], ◌∷◌}
+use mathlib.Core.List.{List}
 use Prim.Native.Nat.{ℕ, ◌+◌, ◌*◌, ◌/◌, ◌≤◌, ◌<◌}
 use native.Mathlib.Omega.{arith}
 use lib.Dec.{eqb}
@@ -10,16 +10,13 @@ use lib.ListN.{get_or}
 use borrow.Author.Tests.{eqb-true}
 use Rattle.laws.specs.Choice.{pick, either}
 use Rattle.encoding.specs.declared.Level.{Level}
-use Rattle.endpoint_arithmetic.specs.declared.EndpointPair.{EndpointPair}
 use Rattle.hdr_endpoint.specs.declared.HdrPair.{HdrPair}
 use Rattle.hdr_endpoint.specs.Parts.{one_hdr}
-use Rattle.hdr_endpoint.specs.Luminance.{large_range, small_range}
-use Rattle.hdr_endpoint.specs.Scale.{base_scale}
 use Rattle.hdr_endpoint.specs.Direct.{direct, alphas_of}
 use Rattle.hdr_endpoint.proofs.Bounds.{four, large_twelve, small_twelve, scale_twelve, direct_twelve, alphas_twelve}
 use Rattle.hdr_endpoint.specs.inner.Bounds.{Twelve}
 use Rattle.color_endpoint.specs.Modes.{level_at, pair_of, is_hdr}
-use Rattle.color_endpoint.proofs.Pairs.{Bytes, pair_same, pair_bytes}
+use Rattle.color_endpoint.proofs.Pairs.{pair_same, pair_bytes}
 use Rattle.interpolation.specs.Expansion.{replicated}
 use Rattle.half_pair.specs.declared.HalfPair.{HalfPair}
 use Rattle.half_pair.specs.Pair.{mode11, mode14, mode15, hdr_pair_of, expand_half, half_end, expanded_hdr, expanded_ldr, half_pair_of}

@@ -193,13 +193,11 @@ pub fn half_table(
     let n = color_endpoint::filled(count);
     let none = zero_half();
     let mut t = [none; 4];
-    let mut p: usize = 0;
     let mut start: u32 = 0;
-    while p < n {
+    for p in 0..n {
         let mode = modes[p];
         t[p] = half_pair(mode, color_endpoint::numbers_from(levels, start), ldr[p]);
         start += color_endpoint::number_count(mode);
-        p += 1;
     }
     t
 }

@@ -1,4 +1,4 @@
-// The image calls: blocks in raster order to the texels of a whole image (01: picture), in each kind, in the ordinary reading and in the strict one.
+// The image calls: blocks in raster order to the texels of a whole image, in each kind, in the ordinary reading and in the strict one.
 #![tactic(auto)]
 
 ghost use Rattle.std.specs.Prelude.{◌≡◌, ◌*◌, ◌<◌, length};
@@ -9,7 +9,6 @@ ghost use Rattle.one_block.specs.Calls.{Words};
 ghost use Rattle.image_layout.specs.Numbers.{fault_at_in, image_number_at_in, image_numbers_in};
 ghost use Rattle.image_layout.specs.Faulty.{tally_of};
 ghost use Rattle.image_layout.specs.Call.{image_answer, image_out, image_told, image_answer_in, image_out_in, image_told_in, told_of};
-ghost use Rattle.image_layout.specs.inner.Checked.{checked_of};
 ghost use Rattle.image_layout.specs.inner.Rows.{flat_picture};
 ghost use Rattle.picture_regions.specs.inner.Regions.{Tile};
 ghost use Rattle.texel_fill.specs.inner.Everywhere.{everywhere};
@@ -17,8 +16,9 @@ ghost use Rattle.image_layout.specs.inner.Parts.{SoundGrid, PartFits, PlacedRows
 
 use block_core::Decoded;
 use block_reading::Reading;
-use image_layout::{CheckedImage, ImageAnswer, ImageGrid, Part, Tally};
+use image_layout::{ImageGrid, Part, Tally};
 use interpolation::{Kind, Texel};
+use reason::Refusal;
 
 // ---- kinds 0 and 2: 16-bit numbers
 
@@ -105,31 +105,6 @@ fn decode_numbers(reading: Reading, g: ImageGrid, kind: Kind, s: &[u8], out: &mu
     t
 }
 
-// An image in a kind of 16-bit numbers, once it is checked.
-fn answer_numbers(
-    reading: Reading,
-    checked: CheckedImage,
-    footprint: u8,
-    kind: Kind,
-    width: u32,
-    height: u32,
-    blocks: &[u8],
-    out: &mut [u16],
-) -> ImageAnswer
-    requires words { Words kind }
-    requires checked_value { checked ≡ checked_of footprint width height (length blocks.now) (length out.old) }
-    ensures answer { result ≡ image_answer_in reading footprint kind width height blocks.now (length out.old) }
-    ensures told { told_of result ≡ image_told_in reading footprint kind width height blocks.now (length out.old) }
-    ensures image { out.new ≡ image_out_in reading footprint kind width height blocks.now out.old }
-{
-    match checked {
-        CheckedImage::Rejected(e) => ImageAnswer::Refused(e),
-        CheckedImage::Accepted(g) => ImageAnswer::Decoded(decode_numbers(
-            reading, g, kind, blocks, out,
-        )),
-    }
-}
-
 // An image in a kind of 16-bit numbers, kinds 0 and 2, in a reading.
 pub fn decode_words_in(
     reading: Reading,
@@ -139,14 +114,14 @@ pub fn decode_words_in(
     height: u32,
     blocks: &[u8],
     out: &mut [u16],
-) -> ImageAnswer
+) -> Result<Tally, Refusal>
     requires { Words kind }
-    ensures answer { result ≡ image_answer_in reading fp kind width height blocks.now (length out.old) }
+    ensures answer { image_answer_in reading fp kind width height blocks.now (length out.old) result }
     ensures told { told_of result ≡ image_told_in reading fp kind width height blocks.now (length out.old) }
     ensures image { out.new ≡ image_out_in reading fp kind width height blocks.now out.old }
 {
-    let checked = image_layout::check_image(fp, width, height, blocks.len(), out.len());
-    answer_numbers(reading, checked, fp, kind, width, height, blocks, out)
+    let grid = image_layout::check_image(fp, width, height, blocks.len(), out.len())?;
+    Ok(decode_numbers(reading, grid, kind, blocks, out))
 }
 
 // In the ordinary reading.
@@ -157,9 +132,9 @@ pub fn decode_image_words(
     height: u32,
     blocks: &[u8],
     out: &mut [u16],
-) -> ImageAnswer
+) -> Result<Tally, Refusal>
     requires { Words kind }
-    ensures answer { result ≡ image_answer footprint kind width height blocks.now (length out.old) }
+    ensures answer { image_answer footprint kind width height blocks.now (length out.old) result }
     ensures told { told_of result ≡ image_told footprint kind width height blocks.now (length out.old) }
     ensures image { out.new ≡ image_out footprint kind width height blocks.now out.old }
 {
@@ -181,8 +156,8 @@ pub fn decode_image_unorm16(
     height: u32,
     blocks: &[u8],
     out: &mut [u16],
-) -> ImageAnswer
-    ensures answer { result ≡ image_answer footprint Unorm16 width height blocks.now (length out.old) }
+) -> Result<Tally, Refusal>
+    ensures answer { image_answer footprint Unorm16 width height blocks.now (length out.old) result }
     ensures told { told_of result ≡ image_told footprint Unorm16 width height blocks.now (length out.old) }
     ensures image { out.new ≡ image_out footprint Unorm16 width height blocks.now out.old }
 {
@@ -196,8 +171,8 @@ pub fn decode_image_float16(
     height: u32,
     blocks: &[u8],
     out: &mut [u16],
-) -> ImageAnswer
-    ensures answer { result ≡ image_answer footprint Float16 width height blocks.now (length out.old) }
+) -> Result<Tally, Refusal>
+    ensures answer { image_answer footprint Float16 width height blocks.now (length out.old) result }
     ensures told { told_of result ≡ image_told footprint Float16 width height blocks.now (length out.old) }
     ensures image { out.new ≡ image_out footprint Float16 width height blocks.now out.old }
 {
@@ -286,27 +261,6 @@ fn decode_bytes(reading: Reading, g: ImageGrid, s: &[u8], out: &mut [u8]) -> Tal
     t
 }
 
-// Kind 1 of an image, once it is checked.
-fn answer_bytes(
-    reading: Reading,
-    checked: CheckedImage,
-    footprint: u8,
-    width: u32,
-    height: u32,
-    blocks: &[u8],
-    out: &mut [u8],
-) -> ImageAnswer
-    requires { checked ≡ checked_of footprint width height (length blocks.now) (length out.old) }
-    ensures answer { result ≡ image_answer_in reading footprint Srgb8 width height blocks.now (length out.old) }
-    ensures told { told_of result ≡ image_told_in reading footprint Srgb8 width height blocks.now (length out.old) }
-    ensures image { out.new ≡ image_out_in reading footprint Srgb8 width height blocks.now out.old }
-{
-    match checked {
-        CheckedImage::Rejected(e) => ImageAnswer::Refused(e),
-        CheckedImage::Accepted(g) => ImageAnswer::Decoded(decode_bytes(reading, g, blocks, out)),
-    }
-}
-
 // An image in kind 1, in a reading.
 pub fn decode_srgb8_in(
     reading: Reading,
@@ -315,13 +269,13 @@ pub fn decode_srgb8_in(
     height: u32,
     blocks: &[u8],
     out: &mut [u8],
-) -> ImageAnswer
-    ensures answer { result ≡ image_answer_in reading fp Srgb8 width height blocks.now (length out.old) }
+) -> Result<Tally, Refusal>
+    ensures answer { image_answer_in reading fp Srgb8 width height blocks.now (length out.old) result }
     ensures told { told_of result ≡ image_told_in reading fp Srgb8 width height blocks.now (length out.old) }
     ensures image { out.new ≡ image_out_in reading fp Srgb8 width height blocks.now out.old }
 {
-    let checked = image_layout::check_image(fp, width, height, blocks.len(), out.len());
-    answer_bytes(reading, checked, fp, width, height, blocks, out)
+    let g = image_layout::check_image(fp, width, height, blocks.len(), out.len())?;
+    Ok(decode_bytes(reading, g, blocks, out))
 }
 
 // Kind 1: an image to four bytes for each texel, before the sRGB curve.
@@ -331,8 +285,8 @@ pub fn decode_image_srgb8(
     height: u32,
     blocks: &[u8],
     out: &mut [u8],
-) -> ImageAnswer
-    ensures answer { result ≡ image_answer footprint Srgb8 width height blocks.now (length out.old) }
+) -> Result<Tally, Refusal>
+    ensures answer { image_answer footprint Srgb8 width height blocks.now (length out.old) result }
     ensures told { told_of result ≡ image_told footprint Srgb8 width height blocks.now (length out.old) }
     ensures image { out.new ≡ image_out footprint Srgb8 width height blocks.now out.old }
 {
@@ -348,8 +302,8 @@ pub fn decode_image_unorm16_strict(
     height: u32,
     blocks: &[u8],
     out: &mut [u16],
-) -> ImageAnswer
-    ensures answer { result ≡ image_answer_in Strict footprint Unorm16 width height blocks.now (length out.old) }
+) -> Result<Tally, Refusal>
+    ensures answer { image_answer_in Strict footprint Unorm16 width height blocks.now (length out.old) result }
     ensures told { told_of result ≡ image_told_in Strict footprint Unorm16 width height blocks.now (length out.old) }
     ensures image { out.new ≡ image_out_in Strict footprint Unorm16 width height blocks.now out.old }
 {
@@ -371,8 +325,8 @@ pub fn decode_image_float16_strict(
     height: u32,
     blocks: &[u8],
     out: &mut [u16],
-) -> ImageAnswer
-    ensures answer { result ≡ image_answer_in Strict footprint Float16 width height blocks.now (length out.old) }
+) -> Result<Tally, Refusal>
+    ensures answer { image_answer_in Strict footprint Float16 width height blocks.now (length out.old) result }
     ensures told { told_of result ≡ image_told_in Strict footprint Float16 width height blocks.now (length out.old) }
     ensures image { out.new ≡ image_out_in Strict footprint Float16 width height blocks.now out.old }
 {
@@ -394,8 +348,8 @@ pub fn decode_image_srgb8_strict(
     height: u32,
     blocks: &[u8],
     out: &mut [u8],
-) -> ImageAnswer
-    ensures answer { result ≡ image_answer_in Strict footprint Srgb8 width height blocks.now (length out.old) }
+) -> Result<Tally, Refusal>
+    ensures answer { image_answer_in Strict footprint Srgb8 width height blocks.now (length out.old) result }
     ensures told { told_of result ≡ image_told_in Strict footprint Srgb8 width height blocks.now (length out.old) }
     ensures image { out.new ≡ image_out_in Strict footprint Srgb8 width height blocks.now out.old }
 {

@@ -9,7 +9,11 @@ use native.Mathlib.Omega.{arith}
 use lib.Dec.{eqb, ltb}
 use lib.ListN.{length}
 use borrow.Author.Tests.{eq-eqb, ne_eqb, lt-ltb, le-ltb}
+use Rattle.std.specs.Prelude.{Result, Ok, Err}
 use Rattle.laws.specs.Choice.{pick, either}
+use Rattle.reason.specs.declared.Refusal.{Refusal}
+use Rattle.reason.specs.Numbers.{refusal_number}
+use Rattle.reason.proofs.Told.{refusal_some}
 use Rattle.laws.specs.Table.{tab}
 use Rattle.interpolation.specs.declared.Kind.{Kind}
 use Rattle.block_reading.specs.declared.Reading.{Reading}
@@ -18,8 +22,6 @@ use Rattle.image_size.specs.Sides.{bad_side, blocks_of, size_refusal}
 use Rattle.footprint.specs.Footprint.{width_of, height_of}
 use Rattle.footprint.proofs.Laws.{flat_bounds}
 use Rattle.image_size.proofs.Laws.{limit_le, sized, side_fine, across_le, product_most}
-use Rattle.image_layout.specs.declared.ImageAnswer.{ImageAnswer}
-use Rattle.image_layout.specs.declared.ImageAnswer.TheVariants.{Refused, Decoded}
 use Rattle.image_layout.specs.declared.Tally.{Tally}
 use Rattle.image_layout.specs.Numbers.{fault_at_in}
 use Rattle.image_layout.specs.Faulty.{tally_of}
@@ -112,20 +114,23 @@ lengths fp k w h s faults q =
 
 -- ---- the call's promises
 
-abbrev pub Promised : Reading → ℕ → ℕ → ℕ → ℕ → List ℕ → List ℕ → ImageAnswer → List ℕ → Type 0
-Promised reading fp k w h s old r new =
-    (r ≡ faults_answer reading fp k w h s (length old)) × ((told_of r ≡ faults_told reading fp k w h s (length old)) × (new ≡ faults_out reading fp k w h s old))
+pub record Promised (reading : Reading) (fp k w h : ℕ) (s old : List ℕ) (r : Result Tally Refusal) (new : List ℕ) : Type 0 where
+  pub answer : faults_answer reading fp k w h s (length old) r
+  pub told : told_of r ≡ faults_told reading fp k w h s (length old)
+  pub list : new ≡ faults_out reading fp k w h s old
 
 module _ (reading : Reading) (fp k w h : ℕ) (s old : List ℕ) where
   -- a refused call: its number, and the list as it was
-  pub refused : (e : ℕ) → e ≡ faults_refusal fp k w h (length s) (length old) → (e ≡ 0 → ⊥) → Promised reading fp k w h s old (Refused e) old
-  unfolding faults_answer faults_told faults_out
-  refused e q n = rw (← q, ne_eqb e 0 n) (refl, (refl, refl))
+  pub refused : (refusal : Refusal) → refusal_number refusal ≡ faults_refusal fp k w h (length s) (length old) → Promised reading fp k w h s old (Err refusal) old
+  unfolding faults_told faults_out
+  refused refusal q =
+      let n : refusal_number refusal ≡ 0 → ⊥ = λ z. let p = refusal_some refusal in omega arith in
+      record { answer = q; told = rw (← q, ne_eqb (refusal_number refusal) 0 n); list = rw (← q, ne_eqb (refusal_number refusal) 0 n) }
 
   -- any other: the tally of the image call, and the list
   pub told_all : (kind : Kind) (t : Tally) (new : List ℕ) → kind ≡ kind_of k → faults_refusal fp k w h (length s) (length old) ≡ 0
-      → t ≡ tally_of (fault_at_in reading fp kind s) (length old) → new ≡ tab (fault_at_in reading fp kind s) (length old) → Promised reading fp k w h s old (Decoded t) new
-  unfolding faults_answer faults_told faults_out fault_list image_tally_in
+      → t ≡ tally_of (fault_at_in reading fp kind s) (length old) → new ≡ tab (fault_at_in reading fp kind s) (length old) → Promised reading fp k w h s old (Ok t) new
+  unfolding faults_told faults_out fault_list image_tally_in
   told_all kind t new r q e l =
       let n = (taken fp k w h (length s) (length old) q).exact_places in
-      rw q (rw (e, l, n, r) (refl, (refl, refl)))
+      record { answer = (q, rw (e, n, r) refl); told = rw (q, e, n, r) refl; list = rw (q, l, n, r) refl }

@@ -2,7 +2,7 @@
 -- fault of the first one", told here of every block, with the numbers and the order of 01, "Numbers told to the caller".
 -- 02, b: in the ordinary reading or the strict one.
 -- Assumes nothing.
-use Rattle.std.specs.Prelude.{ℕ, ◌*◌, not, List, [], ◌∷◌, eqb, ltb, length}
+use Rattle.std.specs.Prelude.{ℕ, ◌*◌, not, List, [], ◌∷◌, eqb, ltb, length, Result}
 use Rattle.laws.specs.Choice.{pick, either}
 use Rattle.laws.specs.Table.{tab}
 use Rattle.laws.specs.Reasons.{when, first_of}
@@ -10,8 +10,9 @@ use Rattle.interpolation.specs.declared.Kind.{Kind}
 use Rattle.kind_number.specs.Kinds.{kind_of}
 use Rattle.image_size.specs.Sides.{bad_side, blocks_of}
 use Rattle.block_reading.specs.declared.Reading.{Reading}
-use Rattle.image_layout.specs.declared.ImageAnswer.{ImageAnswer}
-use Rattle.image_layout.specs.declared.ImageAnswer.TheVariants.{Refused, Decoded}
+use Rattle.reason.specs.declared.Refusal.{Refusal}
+use Rattle.reason.specs.Answers.{Answers}
+use Rattle.image_layout.specs.declared.Tally.{Tally}
 use Rattle.image_layout.specs.Numbers.{fault_at_in}
 use Rattle.image_layout.specs.Call.{image_tally_in, Told, told_decoded}
 
@@ -31,11 +32,9 @@ faults_refusal fp k w h bytes places =
 unfoldable pub fault_list : Reading → ℕ → Kind → ℕ → ℕ → List ℕ → List ℕ
 fault_list reading fp kind w h s = tab (fault_at_in reading fp kind s) (blocks_of fp w h)
 
--- the answer: the refusal, or the tally that the image call answers
-unfoldable pub faults_answer : Reading → ℕ → ℕ → ℕ → ℕ → List ℕ → ℕ → ImageAnswer
-faults_answer reading fp k w h s places =
-    let e = faults_refusal fp k w h (length s) places in
-    pick (eqb e 0) (Decoded (image_tally_in reading fp (kind_of k) w h s)) (Refused e)
+-- what is answered: the refusal, or the tally that the image call answers
+abbrev pub faults_answer : Reading → ℕ → ℕ → ℕ → ℕ → List ℕ → ℕ → Result Tally Refusal → Type 0
+faults_answer reading fp k w h s places = Answers (faults_refusal fp k w h (length s) places) (image_tally_in reading fp (kind_of k) w h s)
 
 -- 01's numbers of it: on a refusal "all other numbers told are 0"
 unfoldable pub faults_told : Reading → ℕ → ℕ → ℕ → ℕ → List ℕ → ℕ → Told

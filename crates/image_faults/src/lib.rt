@@ -1,9 +1,10 @@
-// The faults of an image (01: picture), block by block: settings are read, no texel is painted.
+// The faults of an image, block by block: settings are read, no texel is painted.
 #![tactic(auto)]
 
 ghost use Rattle.std.specs.Prelude.{◌≡◌, ◌*◌, ◌≤◌, ◌<◌, length};
 ghost use Rattle.laws.specs.Table.{tab};
 ghost use Rattle.bits.specs.Block.{block_number};
+ghost use Rattle.reason.specs.Numbers.{refusal_told};
 ghost use Rattle.interpolation.specs.Expansion.{takes_hdr};
 ghost use Rattle.block_fault.specs.Faults.{fault_of};
 ghost use Rattle.block_reading.specs.Faults.{fault_in};
@@ -13,22 +14,19 @@ ghost use Rattle.image_layout.specs.Call.{told_of};
 ghost use Rattle.image_faults.specs.Faults.{faults_refusal, faults_answer, faults_told, faults_out};
 
 use bits::PhysicalBlock;
-use block_fault::Verdict;
 use block_reading::Reading;
-use image_layout::{ImageAnswer, Tally};
+use image_layout::Tally;
 use interpolation::Kind;
+use reason::Refusal;
 
 // A flat block's fault by the kind's list, 0 for none.
 fn ordinary_fault(kind: Kind, fp: u8, block: PhysicalBlock) -> u8
     requires { fp ≤ 13 }
     ensures { result ≡ fault_of (takes_hdr kind) fp (block_number block) }
 {
-    let s = block_fault::read_settings(interpolation::takes_hdr(kind), false, block, fp);
-    let v = s.verdict;
-    match v {
-        Verdict::Fault(n) => n,
-        Verdict::VoidExtent => 0,
-        Verdict::Coded => 0,
+    match block_fault::read_settings(interpolation::takes_hdr(kind), false, block, fp) {
+        Err(fault) => fault.into(),
+        Ok(_) => 0,
     }
 }
 
@@ -48,28 +46,32 @@ fn fault_of(reading: Reading, kind: Kind, fp: u8, block: PhysicalBlock) -> u8
     }
 }
 
-// The refusals in their order, 0 for none.
-pub fn refusal(footprint: u8, kind: u8, width: u32, height: u32, bytes: usize, places: usize) -> u8
-    ensures { result ≡ faults_refusal footprint kind width height bytes places }
+// The refusals in their order.
+pub fn check(
+    footprint: u8,
+    kind: u8,
+    width: u32,
+    height: u32,
+    bytes: usize,
+    places: usize,
+) -> Result<(), Refusal>
+    ensures { refusal_told result ≡ faults_refusal footprint kind width height bytes places }
 {
     if 13 < footprint {
-        return 1;
+        return Err(Refusal::Footprint);
     }
     if 2 < kind {
-        return 2;
+        return Err(Refusal::Kind);
     }
-    let e = image_size::size_refusal(footprint, width, height);
-    if e != 0 {
-        return e;
-    }
+    image_size::check_size(footprint, width, height)?;
     let blocks = image_size::blocks_of(footprint, width, height) as usize;
     if bytes != 16 * blocks {
-        return 4;
+        return Err(Refusal::Bytes);
     }
     if places != blocks {
-        return 5;
+        return Err(Refusal::Places);
     }
-    0
+    Ok(())
 }
 
 // Every block's fault, in raster order, and the count of them.
@@ -91,12 +93,10 @@ fn each_fault(
         first: 0,
         fault: 0,
     };
-    let mut b: usize = 0;
-    while b < faults.len() {
+    for b in 0..faults.len() {
         let e = fault_of(reading, kind, footprint, image_parts::block_of(blocks, b));
         faults[b] = e;
         t = image_layout::note(t, b as u64, e);
-        b += 1;
     }
     t
 }
@@ -111,16 +111,13 @@ pub fn image_faults(
     height: u32,
     blocks: &[u8],
     faults: &mut [u8],
-) -> ImageAnswer
-    ensures answer { result ≡ faults_answer reading footprint kind width height blocks.now (length faults.old) }
+) -> Result<Tally, Refusal>
+    ensures answer { faults_answer reading footprint kind width height blocks.now (length faults.old) result }
     ensures told { told_of result ≡ faults_told reading footprint kind width height blocks.now (length faults.old) }
     ensures list { faults.new ≡ faults_out reading footprint kind width height blocks.now faults.old }
 {
-    let n = refusal(footprint, kind, width, height, blocks.len(), faults.len());
-    if n != 0 {
-        return ImageAnswer::Refused(n);
-    }
-    ImageAnswer::Decoded(each_fault(
+    check(footprint, kind, width, height, blocks.len(), faults.len())?;
+    Ok(each_fault(
         reading,
         kind_number::kind_of(kind),
         footprint,

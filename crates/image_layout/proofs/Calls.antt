@@ -6,24 +6,26 @@ use mathlib.Core.List.{List}
 use Prim.Native.Nat.{ℕ, ◌*◌, ◌≤◌, ◌<◌}
 use native.Mathlib.Decide.{dec_le, ℕ_discrete}
 use native.Mathlib.Omega.{arith}
+use lib.Dec.{ltb}
 use lib.ListN.{length}
 use borrow.Author.Tests.{eq-eqb, ne_eqb, lt-ltb, le-ltb}
+use Rattle.std.specs.Prelude.{Result, Ok, Err}
+use Rattle.laws.specs.Choice.{pick, either}
+use Rattle.reason.specs.declared.Refusal.{Refusal}
+use Rattle.reason.specs.Numbers.{refusal_number}
+use Rattle.reason.proofs.Told.{refusal_some}
 use Rattle.footprint.specs.Footprint.{width_of, height_of}
 use Rattle.footprint.proofs.Laws.{flat_bounds}
 use Rattle.interpolation.specs.declared.Kind.{Kind}
 use Rattle.block_reading.specs.declared.Reading.{Reading}
 use Rattle.image_layout.specs.declared.ImageGrid.{ImageGrid}
-use Rattle.image_layout.specs.declared.ImageAnswer.{ImageAnswer}
-use Rattle.image_layout.specs.declared.ImageAnswer.TheVariants.{Refused, Decoded}
-use Rattle.image_layout.specs.declared.CheckedImage.{CheckedImage}
-use Rattle.image_layout.specs.declared.CheckedImage.TheVariants.{Rejected, Accepted}
 use Rattle.image_layout.specs.declared.Tally.{Tally}
-use Rattle.image_layout.specs.inner.Checked.{image_grid, checked_of}
-use Rattle.image_size.specs.Sides.{blocks_across, blocks_of, bad_side}
+use Rattle.image_layout.specs.inner.Grid.{image_grid}
+use Rattle.image_size.specs.Sides.{blocks_across, blocks_of, bad_side, size_refusal}
 use Rattle.image_layout.specs.Numbers.{fault_at_in, image_numbers_in}
 use Rattle.image_layout.specs.Faulty.{tally_of}
 use Rattle.image_layout.specs.Call.{image_refusal, image_tally_in, image_answer_in, image_out_in, told_of, image_told_in}
-use Rattle.image_size.proofs.Laws.{limit_le, side_fine, across_covers, across_le, across_pos}
+use Rattle.image_size.proofs.Laws.{limit_le, sized, side_fine, across_covers, across_le, across_pos}
 use Rattle.picture_regions.proofs.Covering.{mul_bound}
 use Rattle.picture_regions.proofs.Blocks.{Covered}
 use Rattle.image_layout.specs.inner.Rows.{flat_picture}
@@ -138,107 +140,86 @@ accept fp w h n m z =
           ]))
     ]
 
--- ---- the first stage, by its tests and by its two cases
+-- ---- the first stage
+
+-- the products of a layout do not wrap
+pub small : (fp w h : ℕ) → 0 ≡ size_refusal fp w h → (g : ImageGrid) → g ≡ image_grid fp w h → Sizes g
+small fp w h z g l = let k = sized fp w h (sym z) in rw l (sizes _ (sound fp w h (let f = k.footprint in omega arith) k.wide k.high))
 
 module _ (fp w h bytes places : ℕ) where
-  -- a refusal's number is not 0
-  pub checked_rejected : (e : ℕ) → image_refusal fp w h bytes places ≡ e → (e ≡ 0 → ⊥) → checked_of fp w h bytes places ≡ Rejected e
-  unfolding checked_of
-  checked_rejected e q n = rw (q, ne_eqb e 0 n)
+  -- the refusals of the sides come first
+  pub by_size : (n : ℕ) → 0 < n → n ≡ size_refusal fp w h → n ≡ image_refusal fp w h bytes places
+  unfolding size_refusal image_refusal
+  by_size n p e = e ∙ go (ltb 13 fp) (either (bad_side w) (bad_side h)) _ (rw (← e) p)
+    where
+      go : (a b : Bool) (rest : ℕ) → 0 < pick a 1 (pick b 3 0) → ◌≡◌ {A = ℕ} (pick a 1 (pick b 3 0)) (pick a 1 (pick b 3 rest))
+      go true b rest l = refl
+      go false true rest l = refl
+      go false false rest l = absurd (omega arith)
 
-  pub checked_accepted : image_refusal fp w h bytes places ≡ 0 → checked_of fp w h bytes places ≡ Accepted (image_grid fp w h)
-  unfolding checked_of
-  checked_accepted q = rw q
-
-  -- the tests one by one, with the layout in hand
-  module _ (f : fp ≤ 13) (a : bad_side w ≡ false) (b : bad_side h ≡ false) (g : ImageGrid) (l : g ≡ image_grid fp w h) where
-    pub wrong_bytes : (bytes ≡ 16 * (g.down * g.across) → ⊥) → Rejected 4 ≡ checked_of fp w h bytes places
+  -- what is known of an image whose sides are taken
+  module _ (z : 0 ≡ size_refusal fp w h) (g : ImageGrid) (l : g ≡ image_grid fp w h) where
+    pub wrong_bytes : (bytes ≡ 16 * (g.down * g.across) → ⊥) → 4 ≡ image_refusal fp w h bytes places
     unfolding image_grid blocks_of
-    wrong_bytes n = sym (checked_rejected 4 (refused_4 fp w h bytes places f a b (λ e. n (rw l e))) (λ e. omega arith))
+    wrong_bytes n = let k = sized fp w h (sym z) in sym (refused_4 fp w h bytes places k.footprint k.wide k.high (λ e. n (rw l e)))
 
-    pub wrong_places : bytes ≡ 16 * (g.down * g.across) → (places ≡ 4 * (g.height * g.width) → ⊥) → Rejected 5 ≡ checked_of fp w h bytes places
+    pub wrong_places : bytes ≡ 16 * (g.down * g.across) → (places ≡ 4 * (g.height * g.width) → ⊥) → 5 ≡ image_refusal fp w h bytes places
     unfolding image_grid blocks_of
-    wrong_places e n = sym (checked_rejected 5 (refused_5 fp w h bytes places f a b (rw l at e) (λ e. n (rw l e))) (λ e. omega arith))
+    wrong_places e n = let k = sized fp w h (sym z) in sym (refused_5 fp w h bytes places k.footprint k.wide k.high (rw l at e) (λ e. n (rw l e)))
 
-    pub right : bytes ≡ 16 * (g.down * g.across) → places ≡ 4 * (g.height * g.width) → Accepted g ≡ checked_of fp w h bytes places
+    pub right : bytes ≡ 16 * (g.down * g.across) → places ≡ 4 * (g.height * g.width) → image_refusal fp w h bytes places ≡ 0
     unfolding image_grid blocks_of
-    right e p = ap Accepted l ∙ sym (checked_accepted (refused_none fp w h bytes places f a b (rw l at e) (rw l at p)))
-
-  pub record Stopped (e : ℕ) : Type 0 where
-    pub told : image_refusal fp w h bytes places ≡ e
-    pub some : e ≡ 0 → ⊥
-
-  pub rejected : (e : ℕ) → checked_of fp w h bytes places ≡ Rejected e → Stopped e
-  rejected e q =
-      elim (ℕ_discrete (image_refusal fp w h bytes places) 0) [
-        | yes z ↦ let k : ◌≡◌ {A = CheckedImage} (Accepted (image_grid fp w h)) (Rejected e) = sym (checked_accepted z) ∙ q in let z2 : ◌≡◌ {A = ℕ} 0 1 = cc in absurd (omega arith)
-        | no z ↦
-            let k : ◌≡◌ {A = CheckedImage} (Rejected (image_refusal fp w h bytes places)) (Rejected e) = sym (checked_rejected _ refl z) ∙ q in
-            let r : image_refusal fp w h bytes places ≡ e = cc in
-            record { told = r; some = λ s. z (r ∙ s) }
-      ]
+    right e p = let k = sized fp w h (sym z) in refused_none fp w h bytes places k.footprint k.wide k.high (rw l at e) (rw l at p)
 
   pub record Passed (g : ImageGrid) : Type 0 where
-    pub none : image_refusal fp w h bytes places ≡ 0
-    pub layout : g ≡ image_grid fp w h
     pub is_sound : SoundGrid g
     pub exact_bytes : bytes ≡ 16 * (g.down * g.across)
     pub exact_places : places ≡ 4 * (g.height * g.width)
 
-  pub accepted : (g : ImageGrid) → checked_of fp w h bytes places ≡ Accepted g → Passed g
+  pub passed : (g : ImageGrid) → image_refusal fp w h bytes places ≡ 0 → g ≡ image_grid fp w h → Passed g
   unfolding image_grid blocks_of
-  accepted g q =
-      elim (ℕ_discrete (image_refusal fp w h bytes places) 0) [
-        | yes z ↦
-            let k : ◌≡◌ {A = CheckedImage} (Accepted (image_grid fp w h)) (Accepted g) = sym (checked_accepted z) ∙ q in
-            let r : g ≡ image_grid fp w h = cc in
-            let a = accept fp w h bytes places z in
-            record {
-              none = z;
-              layout = r;
-              is_sound = rw r (sound fp w h a.footprint a.width a.height);
-              exact_bytes = rw r a.exact_bytes;
-              exact_places = rw r a.exact_places;
-            }
-        | no z ↦ let k : ◌≡◌ {A = CheckedImage} (Rejected (image_refusal fp w h bytes places)) (Accepted g) = sym (checked_rejected _ refl z) ∙ q in let z2 : ◌≡◌ {A = ℕ} 0 1 = cc in absurd (omega arith)
-      ]
+  passed g z r =
+      let a = accept fp w h bytes places z in
+      record {
+        is_sound = rw r (sound fp w h a.footprint a.width a.height);
+        exact_bytes = rw r a.exact_bytes;
+        exact_places = rw r a.exact_places;
+      }
 
--- ---- the answer, 01's numbers of it, and the buffer
+-- ---- the answer, the numbers told of it, and the buffer
 
--- the answer tells 01's numbers
-pub answer_told : (reading : Reading) (fp : ℕ) (kind : Kind) (w h : ℕ) (s : List ℕ) (places : ℕ) → told_of (image_answer_in reading fp kind w h s places) ≡ image_told_in reading fp kind w h s places
-unfolding image_answer_in image_told_in
-answer_told reading fp kind w h s places =
-    elim (ℕ_discrete (image_refusal fp w h (length s) places) 0) [
-      | yes z ↦ rw z
-      | no z ↦ rw (ne_eqb (image_refusal fp w h (length s) places) 0 z)
-    ]
+-- the answer tells these numbers
+pub answer_told : (reading : Reading) (fp : ℕ) (kind : Kind) (w h : ℕ) (s : List ℕ) (places : ℕ) (r : Result Tally Refusal)
+    → image_answer_in reading fp kind w h s places r → told_of r ≡ image_told_in reading fp kind w h s places
+unfolding image_told_in
+answer_told reading fp kind w h s places (Ok t) e = rw (e.0, e.1)
+answer_told reading fp kind w h s places (Err refusal) e = rw (← e, ne_eqb (refusal_number refusal) 0 (λ z. let p = refusal_some refusal in omega arith))
 
--- what a call promises: its answer, 01's numbers of it, and the buffer
-abbrev pub Promised : Reading → ℕ → Kind → ℕ → ℕ → List ℕ → List ℕ → ImageAnswer → List ℕ → Type 0
-Promised reading fp kind w h s old r new =
-    (r ≡ image_answer_in reading fp kind w h s (length old)) × ((told_of r ≡ image_told_in reading fp kind w h s (length old)) × (new ≡ image_out_in reading fp kind w h s old))
+-- what a call promises: its answer, the numbers told of it, and the buffer
+pub record Promised (reading : Reading) (fp : ℕ) (kind : Kind) (w h : ℕ) (s old : List ℕ) (r : Result Tally Refusal) (new : List ℕ) : Type 0 where
+  pub answer : image_answer_in reading fp kind w h s (length old) r
+  pub told : told_of r ≡ image_told_in reading fp kind w h s (length old)
+  pub image : new ≡ image_out_in reading fp kind w h s old
 
 module _ (reading : Reading) (fp : ℕ) (kind : Kind) (w h : ℕ) (s old : List ℕ) where
-  promised : (r : ImageAnswer) (new : List ℕ) → r ≡ image_answer_in reading fp kind w h s (length old) → new ≡ image_out_in reading fp kind w h s old → Promised reading fp kind w h s old r new
-  promised r new e p = (e, (ap told_of e ∙ answer_told reading fp kind w h s (length old), p))
-
   -- a refused call: its number, and the buffer as it was
-  pub refused : (e : ℕ) → checked_of fp w h (length s) (length old) ≡ Rejected e → Promised reading fp kind w h s old (Refused e) old
-  unfolding image_answer_in image_out_in
-  refused e q =
-      let p = rejected fp w h (length s) (length old) e q in
-      promised (Refused e) old (rw (p.told, ne_eqb e 0 p.some) refl) (rw (p.told, ne_eqb e 0 p.some) refl)
+  pub refused : (refusal : Refusal) → refusal_number refusal ≡ image_refusal fp w h (length s) (length old) → Promised reading fp kind w h s old (Err refusal) old
+  unfolding image_out_in
+  refused refusal e = record {
+    answer = e;
+    told = answer_told reading fp kind w h s (length old) (Err refusal) e;
+    image = rw (← e, ne_eqb (refusal_number refusal) 0 (λ z. let p = refusal_some refusal in omega arith));
+  }
 
   -- an accepted one
   pub decoded_out : image_refusal fp w h (length s) (length old) ≡ 0 → image_numbers_in reading fp kind w h s ≡ image_out_in reading fp kind w h s old
   unfolding image_out_in
   decoded_out z = rw z refl
 
-  pub decoded : (g : ImageGrid) (t : Tally) (new : List ℕ) → checked_of fp w h (length s) (length old) ≡ Accepted g
+  pub decoded : (g : ImageGrid) (t : Tally) (new : List ℕ) → image_refusal fp w h (length s) (length old) ≡ 0 → g ≡ image_grid fp w h
       → t ≡ tally_of (fault_at_in reading g.footprint kind s) (g.down * g.across) → new ≡ image_numbers_in reading g.footprint kind g.width g.height s
-      → Promised reading fp kind w h s old (Decoded t) new
-  unfolding image_answer_in image_tally_in image_grid blocks_of
-  decoded g t new q e n =
-      let p = accepted fp w h (length s) (length old) g q in
-      promised (Decoded t) new (rw p.none (ap Decoded (rw p.layout at e))) ((rw p.layout at n) ∙ decoded_out p.none)
+      → Promised reading fp kind w h s old (Ok t) new
+  unfolding image_tally_in image_grid blocks_of
+  decoded g t new z l e n =
+      let a : image_answer_in reading fp kind w h s (length old) (Ok t) = (z, rw l at e) in
+      record { answer = a; told = answer_told reading fp kind w h s (length old) (Ok t) a; image = (rw l at n) ∙ decoded_out z }

@@ -1,10 +1,14 @@
-// Images (01: pictures) of blocks in raster order: types, definitions and laws, and the refusals of an image call.
+// Images of blocks in raster order: types, definitions and laws, and the refusals of an image call.
 #![tactic(auto)]
 
 ghost use Rattle.std.specs.Prelude.{◌≡◌, false, ◌^◌, ◌≤◌, ◌<◌};
-ghost use Rattle.image_layout.specs.inner.Checked.{image_grid, checked_of};
+ghost use Rattle.reason.specs.Answers.{Answers};
 ghost use Rattle.image_size.specs.Sides.{bad_side};
+ghost use Rattle.image_layout.specs.Call.{image_refusal};
+ghost use Rattle.image_layout.specs.inner.Grid.{image_grid};
 ghost use Rattle.image_layout.specs.inner.Noted.{noted};
+
+use reason::Refusal;
 
 // The layout of an image: its footprint, its sides in texels, a block's sides in texels, and how many blocks lie across and down.
 #[derive(Clone, Copy)]
@@ -43,20 +47,6 @@ pub struct Tally {
     pub fault: u8,
 }
 
-// The answer of an image call: refused by 01's number, or decoded, with the faults of its blocks.
-#[derive(Clone, Copy)]
-pub enum ImageAnswer {
-    Refused(u8),
-    Decoded(Tally),
-}
-
-// The first stage of an image call: its refusal, or the image's layout.
-#[derive(Clone, Copy)]
-pub enum CheckedImage {
-    Rejected(u8),
-    Accepted(ImageGrid),
-}
-
 // The layout of an image.
 fn grid_of(footprint: u8, width: u32, height: u32) -> ImageGrid
     requires { (footprint < 14) × (bad_side width ≡ false) × (bad_side height ≡ false) }
@@ -86,26 +76,18 @@ pub fn check_image(
     height: u32,
     bytes: usize,
     places: usize,
-) -> CheckedImage
-    ensures { result ≡ checked_of footprint width height bytes places }
+) -> Result<ImageGrid, Refusal>
+    ensures { Answers (image_refusal footprint width height bytes places) (image_grid footprint width height) result }
 {
-    if footprint > 13 {
-        return CheckedImage::Rejected(1);
-    }
-    if image_size::bad_side(width) {
-        return CheckedImage::Rejected(3);
-    }
-    if image_size::bad_side(height) {
-        return CheckedImage::Rejected(3);
-    }
+    image_size::check_size(footprint, width, height)?;
     let g = grid_of(footprint, width, height);
     if bytes != 16 * (g.down * g.across) {
-        return CheckedImage::Rejected(4);
+        return Err(Refusal::Bytes);
     }
     if places != 4 * (g.height * g.width) {
-        return CheckedImage::Rejected(5);
+        return Err(Refusal::Places);
     }
-    CheckedImage::Accepted(g)
+    Ok(g)
 }
 
 // One block more in the tally.

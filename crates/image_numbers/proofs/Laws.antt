@@ -1,27 +1,29 @@
 -- What each image call comes to in each event.
 -- Assumes nothing.
-use mathlib.Core.Path.{◌≡◌, ap, ◌∙◌}
+use mathlib.Core.Path.{◌≡◌, refl, ap, ◌∙◌}
 use mathlib.Core.List.{List}
 use Prim.Native.Nat.{ℕ}
 use lib.ListN.{length}
 use lib.Dec.{eqb}
 use borrow.Author.Tests.{eq-eqb, ne_eqb}
+use native.Mathlib.Omega.{arith}
+use Rattle.std.specs.Prelude.{Result, Ok, Err}
 use Rattle.laws.specs.Choice.{pick}
-use Rattle.image_layout.specs.declared.ImageGrid.{ImageGrid}
+use Rattle.reason.specs.declared.Refusal.{Refusal}
+use Rattle.reason.specs.Numbers.{refusal_number, refusal_told}
+use Rattle.reason.proofs.Told.{refusal_some}
 use Rattle.image_layout.specs.declared.Tally.{Tally}
-use Rattle.image_layout.specs.declared.CheckedImage.TheVariants.{Rejected, Accepted}
-use Rattle.image_layout.specs.Call.{Told, image_refusal}
-use Rattle.image_layout.specs.inner.Checked.{checked_of}
-use Rattle.image_layout.proofs.Calls.{rejected, accepted}
+use Rattle.image_layout.specs.Call.{Told, told_of}
 use Rattle.image_numbers.specs.Calls.{tally_told, tally_numbers, refusal_or5, out_with, tally_with}
 
--- a refusal, or 5, by the first stage of the call
-module _ (fp w h bytes places : ℕ) where
-  pub rejected_number : (e : ℕ) → checked_of fp w h bytes places ≡ Rejected e → e ≡ refusal_or5 (image_refusal fp w h bytes places)
-  rejected_number e q = let k = rejected fp w h bytes places e q in rw (k.told, ne_eqb e 0 k.some)
+-- a refusal's number, by the first stage of a call
+pub refused_number : (refusal : Refusal) (n : ℕ) → refusal_number refusal ≡ n → refusal_number refusal ≡ refusal_or5 n
+refused_number refusal n e = rw (← e, ne_eqb (refusal_number refusal) 0 (λ z. let p = refusal_some refusal in omega arith))
 
-  pub accepted_number : (g : ImageGrid) → checked_of fp w h bytes places ≡ Accepted g → 5 ≡ refusal_or5 (image_refusal fp w h bytes places)
-  accepted_number g q = rw (accepted fp w h bytes places g q).none
+-- the refusal that an answer tells
+pub told_refusal : (r : Result Tally Refusal) → refusal_told r ≡ (told_of r).refusal
+told_refusal (Ok t) = refl
+told_refusal (Err refusal) = refl
 
 -- ---- a call with a tally, which tells t and makes `new` of `old`; n is its number where the tally is not of three numbers
 

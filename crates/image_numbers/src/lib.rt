@@ -4,44 +4,34 @@
 ghost use Rattle.std.specs.Prelude.{◌≡◌, length};
 ghost use Rattle.interpolation.specs.declared.Kind.TheVariants.{Srgb8};
 ghost use Rattle.one_block.specs.Calls.{Words};
+ghost use Rattle.reason.specs.Numbers.{refusal_number};
 ghost use Rattle.image_layout.specs.Call.{image_refusal, told_of};
 ghost use Rattle.image_numbers.specs.Calls.{tally_told, tally_numbers, refusal_or5, image_number_in, image_shown_in, tally_shown_in};
 
 use block_reading::Reading;
-use image_layout::{CheckedImage, ImageAnswer, Tally};
+use image_layout::Tally;
 use interpolation::Kind;
+use reason::Refusal;
 
 // The first refusal of an image call, else 5.
-pub fn refusal_or_5(footprint: u8, width: u32, height: u32, bytes: usize, places: usize) -> u8
-    ensures { result ≡ refusal_or5 (image_refusal footprint width height bytes places) }
+pub fn refusal_or_5(footprint: u8, width: u32, height: u32, bytes: usize, places: usize) -> Refusal
+    ensures { refusal_number result ≡ refusal_or5 (image_refusal footprint width height bytes places) }
 {
-    let checked = image_layout::check_image(footprint, width, height, bytes, places);
-    match checked {
-        CheckedImage::Rejected(e) => e,
-        CheckedImage::Accepted(_) => 5,
+    match image_layout::check_image(footprint, width, height, bytes, places) {
+        Err(refusal) => refusal,
+        Ok(_) => Refusal::Places,
     }
 }
 
-pub fn refusal_told(a: ImageAnswer) -> u8
-    ensures { result ≡ (told_of a).refusal }
+// The faults of the blocks, none on a refusal.
+pub fn tally_told(answer: Result<Tally, Refusal>) -> Tally
+    ensures { result ≡ tally_told (told_of answer) }
 {
-    match a {
-        ImageAnswer::Refused(e) => e,
-        ImageAnswer::Decoded(_) => 0,
-    }
-}
-
-pub fn tally_told(a: ImageAnswer) -> Tally
-    ensures { result ≡ tally_told (told_of a) }
-{
-    match a {
-        ImageAnswer::Refused(_) => Tally {
-            count: 0,
-            first: 0,
-            fault: 0,
-        },
-        ImageAnswer::Decoded(t) => t,
-    }
+    answer.unwrap_or(Tally {
+        count: 0,
+        first: 0,
+        fault: 0,
+    })
 }
 
 pub fn put_tally(t: Tally, tally: &mut [u64])
@@ -70,11 +60,11 @@ pub fn image_words(
     ensures tally_after { tally.new ≡ tally_shown_in reading footprint kind width height blocks.now (length out.old) tally.old }
 {
     if tally.len() != 3 {
-        return refusal_or_5(footprint, width, height, blocks.len(), out.len());
+        return refusal_or_5(footprint, width, height, blocks.len(), out.len()).into();
     }
     let answer = image::decode_words_in(reading, kind, footprint, width, height, blocks, out);
     put_tally(tally_told(answer), tally);
-    refusal_told(answer)
+    reason::refusal_told(answer)
 }
 
 // An image in kind 1, in a reading, with its tally.
@@ -92,9 +82,9 @@ pub fn image_srgb8(
     ensures tally_after { tally.new ≡ tally_shown_in reading footprint Srgb8 width height blocks.now (length out.old) tally.old }
 {
     if tally.len() != 3 {
-        return refusal_or_5(footprint, width, height, blocks.len(), out.len());
+        return refusal_or_5(footprint, width, height, blocks.len(), out.len()).into();
     }
     let answer = image::decode_srgb8_in(reading, footprint, width, height, blocks, out);
     put_tally(tally_told(answer), tally);
-    refusal_told(answer)
+    reason::refusal_told(answer)
 }

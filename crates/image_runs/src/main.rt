@@ -1,8 +1,9 @@
-// Runs of the image calls: the sides and footprints of 01's samples, each refusal, images with faulty blocks and with HDR ones. For each a line
+// Runs of the image calls: the sides and footprints of the samples, each refusal, images with faulty blocks and with HDR ones. For each a line
 // "refused N", or "faulty COUNT first INDEX fault N" and the first texel.
 #![tactic(auto)]
 
-use image_layout::{ImageAnswer, Tally};
+use image_layout::Tally;
+use reason::Refusal;
 use std::io;
 use std::io::Write;
 
@@ -29,10 +30,10 @@ fn tally<W: Write>(output: &mut W, t: Tally) -> io::Result<()> {
     word(output, b" fault ", t.fault as u64)
 }
 
-fn told<W: Write>(output: &mut W, a: ImageAnswer) -> io::Result<()> {
+fn told<W: Write>(output: &mut W, a: Result<Tally, Refusal>) -> io::Result<()> {
     match a {
-        ImageAnswer::Refused(n) => word(output, b"refused ", n as u64),
-        ImageAnswer::Decoded(t) => tally(output, t),
+        Err(refusal) => word(output, b"refused ", u8::from(refusal) as u64),
+        Ok(t) => tally(output, t),
     }
 }
 

@@ -1,10 +1,13 @@
-// The sides of an image (01: picture): which are refused, and how many blocks cover them.
+// The sides of an image: which are refused, and how many blocks cover them.
 #![tactic(auto)]
 
 ghost use Rattle.std.specs.Prelude.{◌≡◌, ◌/◌, ◌%◌, ◌≤◌, ◌<◌};
+ghost use Rattle.reason.specs.Numbers.{refusal_told};
 ghost use Rattle.image_size.specs.Sides.{bad_side, blocks_across, blocks_of, size_refusal};
 
-// 02, e: "Raise each side to 16,384".
+use reason::Refusal;
+
+// The longest side that is taken.
 const SIDE_LIMIT: u32 = 16384;
 
 // A side of 0, or above the limit.
@@ -14,20 +17,20 @@ pub fn bad_side(n: u32) -> bool
     n == 0 || SIDE_LIMIT < n
 }
 
-// Refusals 1 and 3, 0 for none.
-pub fn size_refusal(footprint: u8, width: u32, height: u32) -> u8
-    ensures { result ≡ size_refusal footprint width height }
+// Refuses a footprint above 13, then a width or a height.
+pub fn check_size(footprint: u8, width: u32, height: u32) -> Result<(), Refusal>
+    ensures { refusal_told result ≡ size_refusal footprint width height }
 {
     if footprint > 13 {
-        return 1;
+        return Err(Refusal::Footprint);
     }
     if bad_side(width) {
-        return 3;
+        return Err(Refusal::Side);
     }
     if bad_side(height) {
-        return 3;
+        return Err(Refusal::Side);
     }
-    0
+    Ok(())
 }
 
 // A quotient by the side of a block: by each side of a flat footprint the compiler makes it a product, which takes less time.

@@ -2,7 +2,7 @@
 -- Assumes nothing.
 use mathlib.Core.Path.{◌≡◌, refl, sym, ap, ◌∙◌}
 use mathlib.Core.List.{List}
-use Prim.Native.Nat.{ℕ, zero, suc, ◌*◌, ◌<◌}
+use Prim.Native.Nat.{ℕ, zero, suc, ◌<◌}
 use native.Mathlib.Omega.{arith}
 use lib.ListN.{length, get_or}
 use Rattle.interpolation.specs.declared.Kind.{Kind}
@@ -10,14 +10,13 @@ use Rattle.texel.specs.Meaning.{channel}
 use Rattle.image_size.specs.Sides.{size_refusal, blocks_of}
 use Rattle.image_size.proofs.Laws.{fine}
 use Rattle.image_layout.specs.Numbers.{image_number_at}
-use Rattle.image_layout.specs.Call.{image_refusal, image_out}
+use Rattle.image_layout.specs.Call.{image_refusal}
 use Rattle.picture_regions.specs.Picture.{place}
 use Rattle.block_reading.specs.declared.Reading.TheVariants.{Ordinary}
 use Rattle.image_layout.proofs.Calls.{accept, decoded_out}
 use Rattle.image_layout.proofs.Independence.{index_in, number_of_lem}
-use Rattle.image_texel.specs.declared.Asked.{Asked}
 use Rattle.image_texel.specs.Making.{view_refusal}
-use Rattle.image_texel.specs.Asking.{asked_in, asked_at}
+use Rattle.image_texel.specs.Asking.{Asked, asked_in, asked_at}
 use Rattle.image_texel.specs.Agreement.{AsPicture, AsPictureEverywhere}
 use Rattle.image_texel.proofs.Ask.{all_good, asked_inside}
 

@@ -1,7 +1,7 @@
 -- Making and asking, test by test.
 -- Assumes nothing.
 use mathlib.Core.Path.{◌≡◌, refl, sym, ap, ◌∙◌}
-use mathlib.Core.Bool.{Bool, true, false, not}
+use mathlib.Core.Bool.{Bool, true, false, not, true≢false}
 use mathlib.Core.List.{List, [], ◌∷◌}
 use Prim.Native.Nat.{ℕ, ◌+◌, ◌*◌, ◌/◌, ◌%◌, ◌≤◌, ◌<◌}
 use native.Mathlib.Decide.{ℕ_discrete}
@@ -10,7 +10,12 @@ use native.Mathlib.Omega.{arith}
 use lib.Dec.{eqb, ltb}
 use lib.ListN.{length}
 use borrow.Author.Tests.{eq-eqb, ne_eqb, lt-ltb, le-ltb}
-use Rattle.laws.specs.Choice.{pick, either, both}
+use Rattle.std.specs.Prelude.{Result, Ok, Err}
+use Rattle.std.specs.Result.{is_err}
+use Rattle.laws.specs.Choice.{pick, either}
+use Rattle.reason.specs.declared.Refusal.{Refusal}
+use Rattle.reason.specs.Numbers.{refusal_told}
+use Rattle.reason.proofs.Told.{refusal_some}
 use Rattle.laws.specs.Reasons.{when, first_of}
 use Rattle.footprint.specs.Footprint.{width_of, height_of}
 use Rattle.interpolation.specs.declared.Kind.{Kind}
@@ -19,7 +24,7 @@ use Rattle.interpolation.specs.declared.Texel.{Texel}
 use Rattle.texel.specs.Meaning.{channel, shown_channel}
 use Rattle.texel.specs.BlockTexel.{block_texel}
 use Rattle.block_reading.specs.Shown.{number_at_in}
-use Rattle.image_size.specs.Sides.{side_limit, bad_side, size_refusal, blocks_across, blocks_of}
+use Rattle.image_size.specs.Sides.{bad_side, size_refusal, blocks_across, blocks_of}
 use Rattle.image_size.proofs.Laws.{limit_le, sized, side_fine, across_le, product_most}
 use Rattle.footprint.proofs.Laws.{flat_bounds}
 use Rattle.image_layout.specs.Geometry.{block_index}
@@ -27,11 +32,9 @@ use Rattle.image_layout.proofs.Independence.{index_in}
 use Rattle.image_layout.specs.Numbers.{block_at, fault_at, fault_at_in, image_number_at_in}
 use Rattle.one_texel.specs.declared.OneTexel.{OneTexel}
 use Rattle.one_texel.specs.Texel.{one_texel}
-use Rattle.image_texel.specs.declared.Sides.{Sides}
-use Rattle.image_texel.specs.declared.Asked.{Asked}
-use Rattle.image_texel.specs.Making.{view_refusal, view_sides}
+use Rattle.image_texel.specs.Making.{MadeSides, view_refusal, view_sides}
 use Rattle.image_texel.specs.inner.Fits.{Fits, shown_texel}
-use Rattle.image_texel.specs.Asking.{may_ask, asked_in, refused_asking, asked_at}
+use Rattle.image_texel.specs.Asking.{Asked, may_ask, asked_in, refused_asking, asked_at}
 
 -- ---- making
 
@@ -66,12 +69,12 @@ module _ (bytes fp w h : ℕ) where
   unfolding view_sides
   sides_refused e = rw (ne_eqb (view_refusal fp w h bytes) 0 e)
 
-  pub refused_sides : (e : ℕ) → e ≡ view_refusal fp w h bytes → (e ≡ 0 → ⊥) → ◌≡◌ {A = Sides} (record { width = 0; height = 0; refusal = e }) (view_sides bytes fp w h)
+  pub refused_sides : (e : ℕ) → e ≡ view_refusal fp w h bytes → (e ≡ 0 → ⊥) → ◌≡◌ {A = MadeSides} (record { width = 0; height = 0; refusal = e }) (view_sides bytes fp w h)
   refused_sides e q z = ap none q ∙ sym (sides_refused (λ k. z (q ∙ k))) where
-    none : ℕ → Sides
+    none : ℕ → MadeSides
     none n = record { width = 0; height = 0; refusal = n }
 
-  pub taken_sides : (e : ℕ) → e ≡ view_refusal fp w h bytes → e ≡ 0 → ◌≡◌ {A = Sides} (record { width = w; height = h; refusal = 0 }) (view_sides bytes fp w h)
+  pub taken_sides : (e : ℕ) → e ≡ view_refusal fp w h bytes → e ≡ 0 → ◌≡◌ {A = MadeSides} (record { width = w; height = h; refusal = 0 }) (view_sides bytes fp w h)
   taken_sides e q z = sym (sides_taken (sym q ∙ z))
 
 -- what a view that is not refused has
@@ -158,6 +161,15 @@ module _ (fp w h : ℕ) (s : List ℕ) (kind : Kind) (x y : ℕ) where
     pub asked_inside : x < w → y < h → asked_in fp w s kind x y ≡ asked_at fp w h s kind x y
     unfolding asked_at may_ask
     asked_inside l k = rw (eq-eqb (view_refusal fp w h (length s)) 0 e, lt-ltb x w l, lt-ltb y h k)
+
+-- whether making was refused
+pub was_refused : (r : Result Unit Refusal) (n : ℕ) → refusal_told r ≡ n → is_err r ≡ true → n ≡ 0 → ⊥
+was_refused (Err refusal) n e q z = let p = refusal_some refusal in omega (arith, e, z)
+was_refused (Ok x) n e q z = true≢false (sym q)
+
+pub was_taken : (r : Result Unit Refusal) (n : ℕ) → refusal_told r ≡ n → is_err r ≡ false → n ≡ 0
+was_taken (Err refusal) n e q = absurd (true≢false q)
+was_taken (Ok x) n e q = sym e
 
 -- a view with no sides
 pub no_sides : (fp : ℕ) (s : List ℕ) (kind : Kind) (x y : ℕ) → asked_at fp 0 0 s kind x y ≡ refused_asking

@@ -1,13 +1,27 @@
 -- 02, f: what asking one texel answers, "by x and y in either kind", and in kind 2 too (02, i). The definitions of the picture calls, at one
 -- place.
 -- Assumes nothing.
-use Rattle.std.specs.Prelude.{ℕ, Bool, List, eqb, ltb, length}
+use Rattle.std.specs.Prelude.{ℕ, Bool, List, eqb, ltb, length, Result, Ok, Err}
 use Rattle.laws.specs.Choice.{pick, both}
+use Rattle.reason.specs.declared.Refusal.{Refusal}
+use Rattle.reason.specs.Numbers.{refusal_number}
 use Rattle.interpolation.specs.declared.Kind.{Kind}
+use Rattle.interpolation.specs.declared.Texel.{Texel}
 use Rattle.image_layout.specs.Geometry.{block_index}
 use Rattle.image_layout.specs.Numbers.{fault_at, image_number_at}
-use Rattle.image_texel.specs.declared.Asked.{Asked}
+use Rattle.one_texel.specs.declared.OneTexel.{OneTexel}
 use Rattle.image_texel.specs.Making.{view_refusal}
+
+-- the numbers told: 44 or 0, the fault of the texel's block, 0 for none, and the texel's four numbers as its kind shows them
+pub record Asked : Type 0 where
+  pub refusal : ℕ
+  pub fault : ℕ
+  pub texel : Texel
+
+-- these numbers for each case of the answer: on a refusal fault 0 and "four zeros as texel"
+abbrev pub asked_of : Result OneTexel Refusal → Asked
+asked_of (Ok t) = record { refusal = 0; fault = t.fault; texel = t.texel }
+asked_of (Err refusal) = record { refusal = refusal_number refusal; fault = 0; texel = record { r = 0; g = 0; b = 0; a = 0 } }
 
 -- what may be asked: a place inside the picture, of a view that making would not refuse
 unfoldable pub may_ask : ℕ → ℕ → ℕ → ℕ → ℕ → ℕ → Bool

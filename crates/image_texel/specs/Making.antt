@@ -1,8 +1,10 @@
 -- 02, f: making a view, from plain numbers.
 -- Assumes nothing.
-use Rattle.std.specs.Prelude.{ℕ, ◌*◌, not, [], ◌∷◌, eqb, ltb}
+use Rattle.std.specs.Prelude.{ℕ, ◌*◌, not, [], ◌∷◌, eqb, ltb, Result, Ok, Err}
 use Rattle.laws.specs.Choice.{pick, either}
 use Rattle.laws.specs.Reasons.{when, first_of}
+use Rattle.reason.specs.declared.Refusal.{Refusal}
+use Rattle.reason.specs.Numbers.{refusal_number}
 use Rattle.image_size.specs.Sides.{bad_side, blocks_of}
 use Rattle.image_texel.specs.declared.Sides.{Sides}
 
@@ -11,8 +13,19 @@ unfoldable pub view_refusal : ℕ → ℕ → ℕ → ℕ → ℕ
 view_refusal fp w h bytes =
     first_of (when (ltb 13 fp) 1 ∷ when (either (bad_side w) (bad_side h)) 3 ∷ when (not (eqb bytes (16 * blocks_of fp w h))) 4 ∷ [])
 
--- the sides that a view is made with: "a refused view has both sides 0"
-unfoldable pub view_sides : ℕ → ℕ → ℕ → ℕ → Sides
+-- the sides that a view is made with, and the refusal of making it, 0 for none
+pub record MadeSides : Type 0 where
+  pub width : ℕ
+  pub height : ℕ
+  pub refusal : ℕ
+
+-- "a refused view has both sides 0"
+unfoldable pub view_sides : ℕ → ℕ → ℕ → ℕ → MadeSides
 view_sides bytes fp w h =
     let e = view_refusal fp w h bytes in
     pick (eqb e 0) (record { width = w; height = h; refusal = 0 }) (record { width = 0; height = 0; refusal = e })
+
+-- these numbers for each case of the answer
+abbrev pub sides_told : Result Sides Refusal → MadeSides
+sides_told (Ok s) = record { width = s.width; height = s.height; refusal = 0 }
+sides_told (Err refusal) = record { width = 0; height = 0; refusal = refusal_number refusal }

@@ -1,61 +1,41 @@
-// One texel of an image (02, f), asked with plain numbers and the lent blocks: a view (crate `view`) is taken apart for it.
+// One texel of an image, asked with plain numbers and the lent blocks: a view (crate `view`) is taken apart for it.
 #![tactic(auto)]
 
-ghost use Rattle.std.specs.Prelude.{◌≡◌, ◌<◌, length};
-ghost use Rattle.image_texel.specs.Making.{view_refusal, view_sides};
-ghost use Rattle.image_texel.specs.Asking.{asked_in, asked_at, refused_asking};
+ghost use Rattle.std.specs.Prelude.{◌≡◌, ◌<◌, length, Ok};
+ghost use Rattle.reason.specs.Numbers.{refusal_told};
+ghost use Rattle.image_texel.specs.Making.{view_refusal, view_sides, sides_told};
+ghost use Rattle.image_texel.specs.Asking.{asked_of, asked_in, asked_at};
 ghost use Rattle.image_texel.specs.inner.Fits.{shown_texel, Fits};
 
 use interpolation::{Kind, Texel};
+use one_texel::OneTexel;
+use reason::Refusal;
 
-// The sides that a view is made with, and the refusal of making it, 0 for none.
+// The sides that a view is made with.
 #[derive(Clone, Copy)]
 pub struct Sides {
     pub width: u32,
     pub height: u32,
-    pub refusal: u8,
 }
 
-// The answer: 44 or 0, the fault of the texel's block, 0 for none, and the texel's four numbers as its kind shows them.
-#[derive(Clone, Copy)]
-pub struct Asked {
-    pub refusal: u8,
-    pub fault: u8,
-    pub texel: Texel,
-}
-
-// Refusals 1, 3 and 4 of so many block bytes, 0 for none.
-pub fn view_refusal(bytes: usize, footprint: u8, width: u32, height: u32) -> u8
-    ensures { result ≡ view_refusal footprint width height bytes }
+// Refuses a footprint, then a side, then so many block bytes.
+pub fn check_view(bytes: usize, footprint: u8, width: u32, height: u32) -> Result<(), Refusal>
+    ensures { refusal_told result ≡ view_refusal footprint width height bytes }
 {
-    let size = image_size::size_refusal(footprint, width, height);
-    if size != 0 {
-        return size;
-    }
+    image_size::check_size(footprint, width, height)?;
     let count = image_size::blocks_of(footprint, width, height);
     if bytes != 16 * (count as usize) {
-        return 4;
+        return Err(Refusal::Bytes);
     }
-    0
+    Ok(())
 }
 
-// The sides of a view: those given, or 0 where it is refused.
-pub fn sides_for(blocks: &[u8], footprint: u8, width: u32, height: u32) -> Sides
-    ensures { result ≡ view_sides (length blocks.now) footprint width height }
+// The sides of a view that is not refused: those given.
+pub fn sides_for(blocks: &[u8], footprint: u8, width: u32, height: u32) -> Result<Sides, Refusal>
+    ensures { sides_told result ≡ view_sides (length blocks.now) footprint width height }
 {
-    let refusal = view_refusal(blocks.len(), footprint, width, height);
-    if refusal != 0 {
-        return Sides {
-            width: 0,
-            height: 0,
-            refusal,
-        };
-    }
-    Sides {
-        width,
-        height,
-        refusal: 0,
-    }
+    check_view(blocks.len(), footprint, width, height)?;
+    Ok(Sides { width, height })
 }
 
 // What a kind shows of a texel's numbers.
@@ -74,22 +54,6 @@ fn shown(kind: Kind, t: Texel) -> Texel
     }
 }
 
-// Asking that is refused: 44 and four zeros.
-fn refused_asking() -> Asked
-    ensures { result ≡ refused_asking }
-{
-    Asked {
-        refusal: 44,
-        fault: 0,
-        texel: Texel {
-            r: 0,
-            g: 0,
-            b: 0,
-            a: 0,
-        },
-    }
-}
-
 // The texel in column x and row y, inside an image that is not refused.
 fn asked_in(
     blocks: &[u8],
@@ -99,10 +63,10 @@ fn asked_in(
     kind: Kind,
     x: u32,
     y: u32,
-) -> Asked
+) -> OneTexel
     requires blocks_value { view_refusal footprint width height (length blocks.now) ≡ 0 }
     requires x_lt_width { (x < width) × (y < height) }
-    ensures { (result ≡ asked_in footprint width blocks.now kind x y) × Fits kind result.texel }
+    ensures { (asked_of (Ok result) ≡ asked_in footprint width blocks.now kind x y) × Fits kind result.texel }
 {
     let columns = footprint::width(footprint);
     let rows = footprint::height(footprint);
@@ -112,14 +76,14 @@ fn asked_in(
     let b = row.block * across + column.block;
     let block = image_parts::block_of(blocks, b as usize);
     let t = one_texel::texel_of(block, footprint, kind, column.texel, row.texel);
-    Asked {
-        refusal: 0,
+    OneTexel {
         fault: t.fault,
         texel: shown(kind, t.texel),
     }
 }
 
-// The texel in column x and row y of an image; 44 where there is none to be asked, before any block is read.
+// The texel in column x and row y of an image as its kind shows it, and its block's fault; refused where there is none to be asked, before any
+// block is read.
 pub fn asked_at(
     blocks: &[u8],
     footprint: u8,
@@ -128,19 +92,19 @@ pub fn asked_at(
     kind: Kind,
     x: u32,
     y: u32,
-) -> Asked
-    ensures { (result ≡ asked_at footprint width height blocks.now kind x y) × Fits kind result.texel }
+) -> Result<OneTexel, Refusal>
+    ensures { (asked_of result ≡ asked_at footprint width height blocks.now kind x y) × Fits kind (asked_of result).texel }
 {
-    if view_refusal(blocks.len(), footprint, width, height) != 0 {
-        return refused_asking();
+    if check_view(blocks.len(), footprint, width, height).is_err() {
+        return Err(Refusal::Place);
     }
     if width <= x {
-        return refused_asking();
+        return Err(Refusal::Place);
     }
     if height <= y {
-        return refused_asking();
+        return Err(Refusal::Place);
     }
-    asked_in(blocks, footprint, width, height, kind, x, y)
+    Ok(asked_in(blocks, footprint, width, height, kind, x, y))
 }
 
 // The same, as a view asks it.
@@ -152,8 +116,8 @@ pub fn texel_at(
     kind: Kind,
     x: u32,
     y: u32,
-) -> Asked
-    ensures { result ≡ asked_at footprint width height blocks.now kind x y }
+) -> Result<OneTexel, Refusal>
+    ensures { asked_of result ≡ asked_at footprint width height blocks.now kind x y }
 {
     asked_at(blocks, footprint, width, height, kind, x, y)
 }

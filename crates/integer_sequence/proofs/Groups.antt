@@ -171,15 +171,6 @@ quint_code_lem b g {g1} {g2} {g3} e1 e2 e3 =
 
 -- ---- what a number of a byte asks
 
-fits : (r b m : ℕ) → b ≤ m → r * 2 ^ m ≤ 256 → r * 2 ^ b ≤ 256
-fits r b m h l = let p : r * 2 ^ b ≤ r * 2 ^ m = mul-le-mul_left r (pow_mono {i = b} {j = m} h) in omega arith
-
-pub trits_narrow : (b : ℕ) → b ≤ 6 → Narrow Trits b
-trits_narrow b h = fits 3 b 6 h (omega arith)
-
-pub quints_narrow : (b : ℕ) → b ≤ 5 → Narrow Quints b
-quints_narrow b h = fits 5 b 5 h (omega arith)
-
 pub number_byte : (κ : Encoding) (b s : ℕ) → Narrow κ b → (i : ℕ) → number κ b s i < 2 ^ 8
 number_byte κ b s h i = lt_of_lt_of_le (number_lt κ b s i) h
 
@@ -206,6 +197,13 @@ narrow_trits b h = below_radix 3 b 6 h (omega arith)
 
 pub narrow_quints : (b : ℕ) → Narrow Quints b → b ≤ 5
 narrow_quints b h = below_radix 5 b 5 h (omega arith)
+
+-- a group of numbers that fit a byte is shorter than a word
+pub group_fits : (κ : Encoding) (b : ℕ) → Narrow κ b → sequence_bits κ b (group_size κ) < 64
+unfolding sequence_bits
+group_fits Bits b h = omega (arith, narrow_bits b h)
+group_fits Trits b h = omega (arith, narrow_trits b h)
+group_fits Quints b h = omega (arith, narrow_quints b h)
 
 -- ---- numbers with no digit
 

@@ -6,7 +6,6 @@ use Prim.Native.Nat.{ℕ, ◌+◌, ◌-◌, ◌*◌, ◌/◌, ◌%◌, ◌^◌, 
 use native.Mathlib.Nat.{lt_of_not-le, lt_of_lt_of_le, mod-lt, mod-eq_of_lt, div-add-mod', div-lt_iff_lt-mul, zero-div}
 use native.Mathlib.Decide.{dec_le}
 use native.Mathlib.Omega.{arith}
-use native.Mathlib.Nat
 use lib.Arith.{digits_lt, digits_div, digits_mod}
 use lib.Pow.{pow_pos, pow-add, pow_mono, high, low}
 use lib.ListN.{length, take, drop, get_or, length-map, length-take, length-drop, get_or-map}

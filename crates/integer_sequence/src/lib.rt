@@ -1,6 +1,8 @@
-// Packed numbers (000: integer sequence encoding) read from a block. Crate sequence_writer writes them.
+// Packed numbers read from a block: each has bits of its own, and those of a group may share a code of trits or quints. Crate
+// sequence_writer writes them.
 #![tactic(auto)]
 
+pub mod group;
 pub mod reading;
 pub mod tables;
 

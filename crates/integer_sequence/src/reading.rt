@@ -9,6 +9,7 @@ ghost use Rattle.integer_sequence.specs.inner.Entries.{group_numbers};
 ghost use Rattle.integer_sequence.specs.Reading.{code_at, numbers, stored};
 ghost use Rattle.integer_sequence.specs.inner.Sequences.{Narrow};
 
+use crate::group::{FiveTrits, Group, OneNumber, ThreeQuints};
 use crate::tables;
 use bits::PhysicalBlock;
 use encoding::{Encoding, Stored};
@@ -88,72 +89,22 @@ fn no_numbers() -> [Stored; 64]
     [Stored(0); 64]
 }
 
-// The first n numbers of the sequence s; rest is what is left of it.
-fn read_bits(s: PhysicalBlock, b: u32, n: usize) -> [Stored; 64]
-    requires { (b ≤ 8) × (n ≤ 64) }
-    ensures { result ≡ numbers Bits b (block_number s) n }
+// The first n numbers of the sequence s, group by group; the last group may be cut.
+fn read_groups<G: Group>(s: PhysicalBlock, b: u32, n: usize) -> [Stored; 64]
+    requires { Narrow G.form b × (n ≤ 64) }
+    ensures { result ≡ numbers G.form b (block_number s) n }
 {
     let mut out = no_numbers();
     let mut rest = s;
-    let mut i: usize = 0;
-    while i < n {
+    for i in (0..n).step_by(G::size() as usize) {
         let word = bits::word_at(rest, 0);
-        out[i] = Stored(cut(word, 0, b) as u8);
-        rest = bits::later(rest, b);
-        i += 1;
-    }
-    out
-}
-
-// The same group by group; the last group may be cut.
-fn read_trits(s: PhysicalBlock, b: u32, n: usize) -> [Stored; 64]
-    requires { (b ≤ 6) × (n ≤ 64) }
-    ensures { result ≡ numbers Trits b (block_number s) n }
-{
-    let mut out = no_numbers();
-    let mut rest = s;
-    let mut i: usize = 0;
-    while i < n {
-        let word = bits::word_at(rest, 0);
-        let g = trit_group(word, b);
-        out[i] = Stored((g % 256) as u8);
-        if i + 1 < n {
-            out[i + 1] = Stored((g / 256 % 256) as u8);
+        let x = G::numbers(word, b);
+        for k in 0..G::size() as usize {
+            if i + k < n {
+                out[i + k] = Stored(((x >> (8 * k)) % 256) as u8);
+            }
         }
-        if i + 2 < n {
-            out[i + 2] = Stored((g / 65536 % 256) as u8);
-        }
-        if i + 3 < n {
-            out[i + 3] = Stored((g / 16777216 % 256) as u8);
-        }
-        if i + 4 < n {
-            out[i + 4] = Stored((g / 4294967296 % 256) as u8);
-        }
-        rest = bits::later(rest, 5 * b + 8);
-        i += 5;
-    }
-    out
-}
-
-fn read_quints(s: PhysicalBlock, b: u32, n: usize) -> [Stored; 64]
-    requires { (b ≤ 5) × (n ≤ 64) }
-    ensures { result ≡ numbers Quints b (block_number s) n }
-{
-    let mut out = no_numbers();
-    let mut rest = s;
-    let mut i: usize = 0;
-    while i < n {
-        let word = bits::word_at(rest, 0);
-        let g = quint_group(word, b);
-        out[i] = Stored((g % 256) as u8);
-        if i + 1 < n {
-            out[i + 1] = Stored((g / 256 % 256) as u8);
-        }
-        if i + 2 < n {
-            out[i + 2] = Stored((g / 65536 % 256) as u8);
-        }
-        rest = bits::later(rest, 3 * b + 7);
-        i += 3;
+        rest = bits::later(rest, G::bits(b));
     }
     out
 }
@@ -164,8 +115,8 @@ pub fn read(s: PhysicalBlock, e: Encoding, b: u8, n: usize) -> [Stored; 64]
     ensures { result ≡ numbers e b (block_number s) n }
 {
     match e {
-        Encoding::Bits => read_bits(s, b as u32, n),
-        Encoding::Trits => read_trits(s, b as u32, n),
-        Encoding::Quints => read_quints(s, b as u32, n),
+        Encoding::Bits => read_groups::<OneNumber>(s, b as u32, n),
+        Encoding::Trits => read_groups::<FiveTrits>(s, b as u32, n),
+        Encoding::Quints => read_groups::<ThreeQuints>(s, b as u32, n),
     }
 }

@@ -60,10 +60,8 @@ fn put_word(out: &mut [u8], at: usize, word: &[u8]) -> usize
     ensures puts { Puts out.old at word.now out.new result }
 {
     let mut end = at;
-    let mut i: usize = 0;
-    while i < word.len() {
-        end = put_byte(out, end, word[i]);
-        i += 1;
+    for b in word {
+        end = put_byte(out, end, *b);
     }
     end
 }

@@ -1,4 +1,4 @@
-// One texel of a block (02, f), its picture not unpacked: the settings are read once, then the weights around the texel's place, its
+// One texel of a block, its picture not unpacked: the settings are read once, then the weights around the texel's place, its
 // partition, and that partition's endpoint numbers.
 #![tactic(auto)]
 
@@ -14,7 +14,7 @@ ghost use Rattle.texel.specs.Meaning.{texel_from};
 ghost use Rattle.one_texel.specs.Texel.{one_texel};
 
 use bits::PhysicalBlock;
-use block_fault::{Settings, Verdict};
+use block_fault::{Contents, Settings};
 use interpolation::{Kind, Texel};
 
 // A block's fault, 0 for none, and one of its texels, in 16 bits.
@@ -65,18 +65,16 @@ pub fn texel_of(block: PhysicalBlock, fp: u8, kind: Kind, x: u8, y: u8) -> OneTe
     requires x_bound { (x < width_of fp) × (y < height_of fp) }
     ensures { result ≡ one_texel fp kind (block_number block) x y }
 {
-    let s = block_fault::read_settings(interpolation::takes_hdr(kind), false, block, fp);
-    let v = s.verdict;
-    match v {
-        Verdict::Fault(n) => OneTexel {
-            fault: n,
+    match block_fault::read_settings(interpolation::takes_hdr(kind), false, block, fp) {
+        Err(fault) => OneTexel {
+            fault: fault.into(),
             texel: block_core::error_texel(kind),
         },
-        Verdict::VoidExtent => OneTexel {
+        Ok(Contents::VoidExtent) => OneTexel {
             fault: 0,
             texel: block_levels::colours(kind, block),
         },
-        Verdict::Coded => OneTexel {
+        Ok(Contents::Coded(s)) => OneTexel {
             fault: 0,
             texel: coded_texel(block, s, fp, kind, x, y),
         },

@@ -1,9 +1,9 @@
 -- The pattern by a layer's seeds is the printed one at that z.
 -- Assumes nothing.
-use Rattle.std.proofs.Common.{◌≡◌, ℕ, ◌+◌, ◌-◌, ◌*◌, ◌/◌, ◌%◌, ◌^◌, ◌<◌, Bool, true, false, ltb, refl, ap, ◌∙◌, arith}
+use Rattle.std.proofs.Common.{◌≡◌, ℕ, ◌+◌, ◌-◌, ◌*◌, ◌/◌, ◌%◌, ◌^◌, Bool, true, false, ltb, arith}
 use Rattle.laws.specs.Choice.{pick}
 use Rattle.partition.specs.Hash.{hash_of}
-use Rattle.partition.specs.Select.{doubled, seed_of, last_seed_of, sh1, sh2, sh3, lane_of, first_largest, select_from, select_at, partition_of}
+use Rattle.partition.specs.Select.{doubled, seed_of, last_seed_of, sh1, sh2, sh3, lane_of, select_from, select_at, partition_of}
 use Rattle.partition.specs.inner.Seeds.{lane_by, lane_for, lane_unless, seeds_from, seeds_of, select_by}
 use Rattle.partition.specs.inner.Layers.{lane_at_layer, layer_from, layer_of}
 use Rattle.partition.proofs.Agree.{twice, chosen}

@@ -237,10 +237,8 @@ pub fn partition_row(s: Seeds, y: u8) -> [u16; 16]
     ensures by_index { (index count : ℕ) (small : Bool) → Pattern index count small s → result ≡ tab (λ x. partition_of index count small x y 0) 16 }
 {
     let mut out = [0u16; 16];
-    let mut x: u8 = 0;
-    while x < 16 {
+    for x in 0..16 {
         out[x as usize] = partition_at(s, x, y);
-        x += 1;
     }
     out
 }

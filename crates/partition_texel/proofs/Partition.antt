@@ -1,10 +1,9 @@
 -- The texel of a partition by its own numbers is that of the block's table.
 -- Assumes nothing.
-use mathlib.Core.Path.{◌≡◌, refl, sym, ap, ap₂, ◌∙◌}
+use mathlib.Core.Path.{◌≡◌, refl, sym, ap, ◌∙◌}
 use mathlib.Core.Bool.{Bool, true, false, true≢false}
 use mathlib.Core.List.{List, [], ◌∷◌}
 use Prim.Native.Nat.{ℕ, zero, suc, ◌+◌, ◌*◌, ◌/◌, ◌%◌, ◌^◌, ◌≤◌, ◌<◌, min}
-use native.Mathlib.Numerals.{add-one}
 use native.Mathlib.Decide.{dec_lt}
 use native.Mathlib.Omega.{arith}
 use lib.Dec.{eqb, ltb}
@@ -26,7 +25,7 @@ use Rattle.sequence_numbers.specs.inner.Eight.{Eight}
 use Rattle.weight_grid.specs.Cell.{level}
 use Rattle.color_endpoint.specs.Modes.{no_level, pair_of}
 use Rattle.color_endpoint.specs.Table.{number_count, start_of, numbers_from, table_by, table_of}
-use Rattle.color_endpoint.proofs.Laws.{table_at, entry_used, start_next}
+use Rattle.color_endpoint.proofs.Laws.{table_at, entry_used}
 use Rattle.endpoint_arithmetic.specs.Pair.{zero_pair}
 use Rattle.endpoint_arithmetic.specs.declared.EndpointPair.{EndpointPair}
 use Rattle.interpolation.specs.declared.Kind.{Kind}

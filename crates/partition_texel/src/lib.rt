@@ -29,10 +29,8 @@ fn start_of(modes: [u8; 4], p: usize) -> u32
     ensures { result ≡ start_of modes p }
 {
     let mut start: u32 = 0;
-    let mut i: usize = 0;
-    while i < p {
+    for i in 0..p {
         start += color_endpoint::number_count(modes[i]);
-        i += 1;
     }
     start
 }
@@ -52,10 +50,8 @@ fn levels_in(range: u8, xs: StoredEight, n: u32) -> [Level; 18]
 {
     let rule = quantization::endpoint_rule(range);
     let mut out = [Level(0); 18];
-    let mut k: u32 = 0;
-    while k < n {
+    for k in 0..n {
         out[k as usize] = block_levels::level_by(rule, sequence_numbers::stored_in(xs, k));
-        k += 1;
     }
     out
 }

@@ -19,6 +19,7 @@ pub fn read_full<R: Read>(input: &mut R, buffer: &mut [u8]) -> io::Result<usize>
     ensures end { IfOk result (λ n. n < length buffer.new → IsAtEnd (R.remaining input.new)) }
 {
     let mut done: usize = 0;
+    // Kept a while: a read gives as many bytes as it likes, so that no index counts up by one.
     while done < buffer.len() {
         let n = input.read(&mut buffer[done..])?;
         if n == 0 {

@@ -3,22 +3,24 @@
 use mathlib.Core.Path.{◌≡◌, refl, sym, ap, ap₂, subst, ◌∙◌}
 use mathlib.Core.Bool.{Bool, true, false, not}
 use mathlib.Core.List.{List}
-use Prim.Native.Nat.{ℕ, ◌+◌, ◌*◌, ◌/◌, ◌%◌, ◌^◌, ◌≤◌, ◌<◌}
+use Prim.Native.Nat.{ℕ, ◌*◌, ◌/◌, ◌%◌, ◌^◌}
 use native.Mathlib.Omega.{arith}
-use lib.Dec.{eqb, T}
+use lib.Dec.{T}
 use lib.ListN.{length}
 use borrow.Author.Tests.{eq-eqb, ne_eqb, eqb-true}
-use Rattle.laws.specs.Choice.{pick, either}
 use Rattle.laws.specs.Table.{tab}
 use Rattle.laws.proofs.Reasons.{None, first_none, either_none}
+use Rattle.reason.specs.declared.Refusal.{Refusal}
+use Rattle.reason.specs.Numbers.{refusal_number}
+use Rattle.reason.proofs.Told.{refusal_some}
 use Rattle.pvrtc_texel.specs.Image.{side_bits, bad_pvrtc_side, words_in, image_refusals, image_refusal, image_texel, image_bytes, image_out}
 use Rattle.pvrtc_texel.proofs.Sides.{bits_most, side_is}
 use Rattle.pvrtc_rows.specs.inner.Rows.{WordsSized}
 use Rattle.pvrtc_image.specs.inner.Lines.{number_at}
 
-pub refused : (w h : ℕ) (s old : List ℕ) → (image_refusal w h (length s) (length old) ≡ 0 → ⊥) → old ≡ image_out w h s old
+pub refused : (w h : ℕ) (s old : List ℕ) (r : Refusal) → refusal_number r ≡ image_refusal w h (length s) (length old) → old ≡ image_out w h s old
 unfolding image_out
-refused w h s old d = rw (ne_eqb (image_refusal w h (length s) (length old)) 0 d)
+refused w h s old r e = rw (ne_eqb (image_refusal w h (length s) (length old)) 0 (λ z. omega (arith, refusal_some r, e, z)))
 
 not-false : (t : Bool) → not t ≡ false → t ≡ true
 not-false true e = refl

@@ -1,6 +1,6 @@
 -- What a line shows is what the image's texels are.
 -- Assumes nothing.
-use mathlib.Core.Path.{◌≡◌, refl, sym, ap, ap₂, subst, ◌∙◌}
+use mathlib.Core.Path.{◌≡◌, refl, sym, ap, ap₂, ◌∙◌}
 use mathlib.Core.Bool.{Bool, true, false}
 use mathlib.Core.List.{List}
 use Prim.Native.Nat.{ℕ, zero, suc, ◌+◌, ◌-◌, ◌*◌, ◌/◌, ◌%◌, ◌^◌, ◌≤◌, ◌<◌}
@@ -8,20 +8,19 @@ use native.Mathlib.Nat.{mul_assoc, mul_comm, add-mul, lt_of_le_of_lt}
 use native.Mathlib.Omega.{arith}
 use native.Mathlib.Decide.{dec_lt}
 use lib.Dec.{eqb, ltb}
-use lib.Pow.{pow_pos}
 use lib.ListN.{length, get_or}
 use borrow.Author.Tests.{lt-ltb, le-ltb}
-use Rattle.laws.specs.Choice.{pick, both}
+use Rattle.laws.specs.Choice.{pick}
 use Rattle.laws.specs.inner.Filled.{put_four}
 use Rattle.laws.proofs.Filling.{filled_four, length_four}
 use Rattle.bits.specs.Field.{field}
-use Rattle.pvrtc_texel.specs.Word.{colour_a, colour_b, modulation_weight, punched}
-use Rattle.pvrtc_texel.specs.Texel.{low_word, high_word, relative, interpolated, unorm8, modulated, upscaled, texel_at}
+use Rattle.pvrtc_texel.specs.Word.{colour_a, colour_b}
+use Rattle.pvrtc_texel.specs.Texel.{low_word, high_word, relative, interpolated, unorm8, upscaled, texel_at}
 use Rattle.pvrtc_texel.proofs.Bounds.{most_of, colour_a_most, colour_b_most, interpolated_most, modulated_byte}
 use Rattle.pvrtc_texel.proofs.Local.{own_low, own_high}
 use Rattle.pvrtc_word.specs.inner.Lanes.{lanes, lane, byte_of, rgba_of}
 use Rattle.pvrtc_word.specs.declared.Rgba.{Rgba}
-use Rattle.pvrtc_rows.specs.inner.Rows.{around, Three, Threes, WordRow}
+use Rattle.pvrtc_rows.specs.inner.Rows.{around, Threes, WordRow}
 use Rattle.pvrtc_image.specs.inner.Lines.{between, Low, Line, sample_a, sample_b, own_word, shown_on_line, Paintable, Painted}
 use Rattle.pvrtc_rows.proofs.Rows.{around_low, around_high, around_own}
 

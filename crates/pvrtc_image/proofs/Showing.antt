@@ -1,19 +1,19 @@
 -- An image shown row by row: the window, its line and the buffer so far.
 -- Assumes nothing.
-use mathlib.Core.Path.{◌≡◌, refl, sym, ap, ap₂, subst, ◌∙◌}
+use mathlib.Core.Path.{◌≡◌, refl, ap, subst, ◌∙◌}
 use mathlib.Core.List.{List}
-use Prim.Native.Nat.{ℕ, ◌+◌, ◌-◌, ◌*◌, ◌/◌, ◌%◌, ◌^◌, ◌≤◌, ◌<◌}
-use native.Mathlib.Nat.{mul_comm, mod-eq_of_lt, mod_self, zero-mul}
+use Prim.Native.Nat.{ℕ, ◌+◌, ◌*◌, ◌/◌, ◌%◌, ◌^◌, ◌≤◌, ◌<◌}
+use native.Mathlib.Nat.{mul_comm, zero-mul}
 use native.Mathlib.Omega.{arith}
 use lib.Pow.{pow_pos}
-use lib.ListN.{length, get_or}
+use lib.ListN.{length}
 use Rattle.laws.specs.Table.{tab}
 use Rattle.laws.specs.inner.Filled.{Filled}
 use Rattle.laws.proofs.Filling.{filled_none, filled_all}
 use Rattle.pvrtc_texel.specs.Texel.{low_word, high_word, relative}
 use Rattle.pvrtc_texel.specs.Image.{word_at, image_texel}
 use Rattle.pvrtc_texel.proofs.Places.{row_place, rows_more}
-use Rattle.pvrtc_rows.specs.inner.Rows.{around, WordRow, Window}
+use Rattle.pvrtc_rows.specs.inner.Rows.{WordRow, Window}
 use Rattle.pvrtc_image.specs.inner.Lines.{Low, Line, shown_on_line, Paintable, Painted, number_at}
 use Rattle.pvrtc_rows.proofs.Rows.{around_low, around_high}
 use Rattle.pvrtc_image.proofs.Lines.{row_low, shown_is, paintable}

@@ -9,12 +9,14 @@
 ghost use Rattle.std.specs.Prelude.{◌≡◌, ℕ, ◌+◌, ◌*◌, ◌/◌, ◌%◌, ◌^◌, ◌≤◌, ◌<◌, ltb, length};
 ghost use Rattle.laws.specs.Choice.{pick};
 ghost use Rattle.laws.specs.Table.{tab};
+ghost use Rattle.reason.specs.Numbers.{refusal_told};
 ghost use Rattle.pvrtc_texel.specs.Image.{image_texel, image_refusal, image_out};
 ghost use Rattle.pvrtc_word.specs.inner.Lanes.{rgba_of};
 ghost use Rattle.pvrtc_rows.specs.inner.Rows.{WordsSized, put_three, EndRows, Window};
 ghost use Rattle.pvrtc_image.specs.inner.Lines.{between, rows_between, own_of, Low, Line, shown_on_line, Paintable, Painted, number_at};
 
 use pvrtc_word::Rgba;
+use reason::Refusal;
 
 // Room for a row of 1,024 words and its two neighbours at the edges.
 fn blank() -> [u64; 3078]
@@ -150,20 +152,17 @@ fn show_rows(s: &[u8], xb: u32, yb: u32, out: &mut [u8])
     }
 }
 
-// An image of words to four bytes for each texel. Answers the number of its refusal, and writes nothing then; else 0.
-pub fn decode_image(width: u32, height: u32, words: &[u8], out: &mut [u8]) -> u8
-    ensures answer { result ≡ image_refusal width height (length words.now) (length out.old) }
+// An image of words to four bytes for each texel. On a refusal nothing is written.
+pub fn decode_image(width: u32, height: u32, words: &[u8], out: &mut [u8]) -> Result<(), Refusal>
+    ensures answer { refusal_told result ≡ image_refusal width height (length words.now) (length out.old) }
     ensures image { out.new ≡ image_out width height words.now out.old }
 {
-    let refused = pvrtc_texel::refusal(width, height, words.len(), out.len());
-    if refused != 0 {
-        return refused;
-    }
+    pvrtc_texel::check_image(width, height, words.len(), out.len())?;
     show_rows(
         words,
         pvrtc_texel::side_bits(width),
         pvrtc_texel::side_bits(height),
         out,
     );
-    0
+    Ok(())
 }

@@ -1,9 +1,9 @@
 -- The turns of the loop that takes bits of column and row.
 -- Assumes nothing.
-use mathlib.Core.Path.{◌≡◌, refl, sym, ap, ap₂, subst, ◌∙◌}
+use mathlib.Core.Path.{◌≡◌, sym, ap, subst, ◌∙◌}
 use mathlib.Core.Logic.{◌⊎◌, ⊎_elim}
 use Prim.Native.Nat.{ℕ, zero, suc, ◌+◌, ◌-◌, ◌*◌, ◌/◌, ◌%◌, ◌^◌, ◌≤◌, ◌<◌}
-use native.Mathlib.Nat.{pow-suc, mul_assoc, add-mul, mod-eq_of_lt, lt_of_lt_of_le, not-suc-le-zero}
+use native.Mathlib.Nat.{mul_assoc, add-mul, mod-eq_of_lt, lt_of_lt_of_le, not-suc-le-zero}
 use native.Mathlib.Omega.{arith}
 use lib.Arith.{digits_lt}
 use lib.Pow.{pow_pos, pow-add, pow_mono, shl_lt}
@@ -17,7 +17,7 @@ pub record Turn (xb yb x y place shift a b an bn : ℕ) : Type 0 where
   pub low : place < 2 ^ shift
   pub sum : word_place an bn a b * 2 ^ shift + place ≡ word_place xb yb x y
 
-pub start : (xb yb x y : ℕ) → x < 2 ^ xb → y < 2 ^ yb → Turn xb yb x y 0 0 x y xb yb
+start : (xb yb x y : ℕ) → x < 2 ^ xb → y < 2 ^ yb → Turn xb yb x y 0 0 x y xb yb
 start xb yb x y h l = record {
   columns = h;
   rows = l;
@@ -25,6 +25,9 @@ start xb yb x y h l = record {
   low = pow_pos 0;
   sum = omega arith;
 }
+
+pub start_at : (xb yb x y shift an bn : ℕ) → x < 2 ^ xb → y < 2 ^ yb → shift ≡ 0 → an ≡ xb → bn ≡ yb → Turn xb yb x y 0 shift x y an bn
+start_at xb yb x y shift an bn h l es ea eb = rw (es, ea, eb) (start xb yb x y h l)
 
 -- a number shifted up to a bit that is still among the first twenty
 fits : (d n shift : ℕ) → d < 2 ^ n → n + shift ≤ 20 → d * 2 ^ shift < 2 ^ 32
@@ -72,7 +75,7 @@ module _ (xb yb x y place shift a b an bn : ℕ) (t : Turn xb yb x y place shift
         rw pair_exact
         (lt_of_lt_of_le (subst (λ (n : ℕ). n < 2 ^ (shift + 2)) (omega arith) pair_lt) (pow_mono {j = 32} (omega (arith, t.bits))))
 
-    pub more : Turn xb yb x y (place + (a % 2 * 2 + b % 2) * 2 ^ shift % 2 ^ 32) (shift + 2) (a / 2) (b / 2) (an - 1) (bn - 1)
+    more : Turn xb yb x y (place + (a % 2 * 2 + b % 2) * 2 ^ shift % 2 ^ 32) (shift + 2) (a / 2) (b / 2) (an - 1) (bn - 1)
     more = record {
       columns = half an a h t.columns;
       rows = half bn b l t.rows;
@@ -86,6 +89,10 @@ module _ (xb yb x y place shift a b an bn : ℕ) (t : Turn xb yb x y place shift
           let e3 : W * 2 ^ (shift + 2) + (place + D * 2 ^ shift) ≡ (W * 4 + D) * 2 ^ shift + place = omega (arith, e1, e2) in
           rw pair_exact (e3 ∙ ap (λ (n : ℕ). n * 2 ^ shift + place) (sym (step an bn a b h l)) ∙ t.sum);
     }
+
+    pub more_at : (next p q : ℕ) → next ≡ shift + 2 → p ≡ an - 1 → q ≡ bn - 1
+        → Turn xb yb x y (place + (a % 2 * 2 + b % 2) * 2 ^ shift % 2 ^ 32) next (a / 2) (b / 2) p q
+    more_at next p q en ep eq = rw (en, ep, eq) more
 
   module _ (h : (an ≡ 0) ⊎ (bn ≡ 0)) where
     rest_is : a + b ≡ word_place an bn a b

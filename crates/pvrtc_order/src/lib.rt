@@ -10,18 +10,13 @@ pub fn word_place(xb: u32, yb: u32, x: u32, y: u32) -> u32
     ensures { result ≡ word_place xb yb x y }
 {
     let mut place: u32 = 0;
-    let mut shift: u32 = 0;
     let mut a = x;
     let mut b = y;
-    let mut an = xb;
-    let mut bn = yb;
-    while 0 < an && 0 < bn {
-        place = place + ((a % 2 * 2 + b % 2) << shift);
-        shift += 2;
-        a = a / 2;
-        b = b / 2;
-        an -= 1;
-        bn -= 1;
+    let turns = xb.min(yb);
+    for k in 0..turns {
+        place += (a % 2 * 2 + b % 2) << (2 * k);
+        a /= 2;
+        b /= 2;
     }
-    place + ((a + b) << shift)
+    place + ((a + b) << (2 * turns))
 }

@@ -5,6 +5,7 @@
 
 ghost use Rattle.std.specs.Prelude.{◌≤◌, length};
 
+use reason::Refusal;
 use std::io;
 use std::io::{Read, Write};
 
@@ -25,26 +26,19 @@ fn bytes<W: Write>(output: &mut W, out: &[u8]) -> io::Result<()> {
     Ok(())
 }
 
-// Whether every byte of a buffer is 7.
-fn all_seven(out: &[u8]) -> bool {
-    for b in out {
-        if *b != 7 {
-            return false;
-        }
-    }
-    true
-}
-
 // What the call tells of a buffer of sevens.
-fn told<W: Write>(output: &mut W, answer: u8, out: &[u8]) -> io::Result<()> {
-    if answer == 0 {
-        output.write_all(b"texels")?;
-        bytes(output, out)?;
-    } else {
-        output.write_all(b"refused")?;
-        number(output, answer as u64)?;
-        if all_seven(out) {
-            output.write_all(b" kept")?;
+fn told<W: Write>(output: &mut W, answer: Result<(), Refusal>, out: &[u8]) -> io::Result<()> {
+    match answer {
+        Ok(()) => {
+            output.write_all(b"texels")?;
+            bytes(output, out)?;
+        }
+        Err(refusal) => {
+            output.write_all(b"refused")?;
+            number(output, u8::from(refusal) as u64)?;
+            if out.iter().all(|b| *b == 7) {
+                output.write_all(b" kept")?;
+            }
         }
     }
     end_line(output)
@@ -130,7 +124,7 @@ fn longest<W: Write>(output: &mut W, width: u32, height: u32) -> io::Result<()> 
     let mut out = [7u8; 65536];
     let answer = pvrtc_image::decode_image(width, height, &words, &mut out);
     output.write_all(b"answer")?;
-    number(output, answer as u64)?;
+    number(output, reason::refusal_told(answer) as u64)?;
     bytes(output, &out[65532..])?;
     end_line(output)
 }

@@ -1,8 +1,8 @@
 -- Every channel of a texel is a byte.
 -- Assumes nothing.
-use mathlib.Core.Path.{◌≡◌, refl, sym, ap, subst, ◌∙◌}
+use mathlib.Core.Path.{◌≡◌, ap, ◌∙◌}
 use mathlib.Core.Bool.{Bool, true, false}
-use mathlib.Core.List.{List, [], ◌∷◌}
+use mathlib.Core.List.{[], ◌∷◌}
 use Prim.Native.Nat.{ℕ, zero, suc, ◌+◌, ◌-◌, ◌*◌, ◌/◌, ◌%◌, ◌^◌, ◌≤◌, ◌<◌}
 use native.Mathlib.Nat.{mul-le-mul_right, mul-add}
 use native.Mathlib.Omega.{arith}
@@ -13,7 +13,7 @@ use Rattle.laws.proofs.Computed.{each}
 use Rattle.bits.specs.Field.{field}
 use Rattle.bits.proofs.Fields.{field_lt}
 use Rattle.pvrtc_texel.specs.Word.{channel_among, three_to_five, four_to_five, alpha_to_four, colour_a, colour_b, punch_through, modulation_at, code_weight, modulation_weight, punched}
-use Rattle.pvrtc_texel.specs.Texel.{low_word, high_word, relative, interpolated, unorm8, modulated, upscaled, texel_at}
+use Rattle.pvrtc_texel.specs.Texel.{relative, interpolated, unorm8, modulated, upscaled, texel_at}
 
 -- what a channel of a colour reaches: five bits, alpha four
 abbrev pub most_of : ℕ → ℕ

@@ -1,18 +1,17 @@
 -- What every listed word adds to a texel: images of two words, one with all of red in its colour A and one with none.
 -- Assumes nothing.
-use mathlib.Core.Path.{◌≡◌, refl, sym, ap, ap₂, subst, ◌∙◌}
-use mathlib.Core.Logic.{◌⊎◌, inl, inr, ⊎_elim}
+use mathlib.Core.Path.{◌≡◌, refl, sym, ap₂, ◌∙◌}
+use mathlib.Core.Logic.{⊎_elim}
 use mathlib.Core.Bool.{Bool, true, false, not}
 use mathlib.Core.List.{Memᴰ}
-use Prim.Native.Nat.{ℕ, zero, suc, ◌+◌, ◌-◌, ◌*◌, ◌/◌, ◌%◌, ◌^◌, ◌≤◌, ◌<◌}
-use native.Mathlib.Nat.{mul-le-mul, mod-lt}
+use Prim.Native.Nat.{ℕ, ◌+◌, ◌-◌, ◌*◌, ◌/◌, ◌%◌, ◌^◌, ◌≤◌, ◌<◌}
+use native.Mathlib.Nat.{mul-le-mul}
 use native.Mathlib.Omega.{arith}
-use lib.Dec.{T, eqb, ltb, eqb→eq}
-use borrow.Author.Tests.{eqb-true, eqb-false, eq-eqb}
+use lib.Dec.{T, eqb, eqb→eq}
 use Rattle.laws.specs.Choice.{pick, both, all}
 use Rattle.laws.proofs.Computed.{each, both_left, both_right}
 use Rattle.bits.specs.Field.{field}
-use Rattle.pvrtc_texel.specs.Word.{colour_a, colour_b, punch_through, modulation_at, modulation_weight, punched}
+use Rattle.pvrtc_texel.specs.Word.{colour_a, modulation_weight, punched}
 use Rattle.pvrtc_texel.specs.Texel.{low_word, high_word, relative, interpolated, unorm8, modulated, upscaled, texel_at}
 use Rattle.pvrtc_texel.specs.Counting.{counting_along}
 use Rattle.pvrtc_texel.proofs.Local.{which}

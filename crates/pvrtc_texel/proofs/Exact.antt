@@ -1,9 +1,9 @@
 -- The list of words that count is exact.
 -- Assumes nothing.
-use mathlib.Core.Path.{◌≡◌, refl, sym, ap, ap₂, subst, ◌∙◌}
+use mathlib.Core.Path.{◌≡◌, sym, ap, subst, ◌∙◌}
 use mathlib.Core.Bool.{Bool, true, false}
 use mathlib.Core.List.{List, Memᴰ}
-use Prim.Native.Nat.{ℕ, ◌+◌, ◌*◌, ◌/◌, ◌%◌, ◌^◌, ◌≤◌, ◌<◌}
+use Prim.Native.Nat.{ℕ, ◌+◌, ◌*◌, ◌/◌, ◌%◌, ◌^◌, ◌<◌}
 use native.Mathlib.Nat.{mul-le-mul, mod-eq_of_lt}
 use native.Mathlib.Omega.{arith}
 use lib.Dec.{eqb}
@@ -20,7 +20,7 @@ use Rattle.pvrtc_order.specs.Order.{word_place}
 use Rattle.pvrtc_order.proofs.Once.{once}
 use Rattle.pvrtc_texel.specs.Texel.{texel_at}
 use Rattle.pvrtc_texel.specs.Image.{word_at_place, word_at, image_texel}
-use Rattle.pvrtc_texel.specs.Counting.{counting_along, places_in, counting_words, Counts, ExactEverywhere}
+use Rattle.pvrtc_texel.specs.Counting.{counting_along, counting_words, Counts, ExactEverywhere}
 use Rattle.pvrtc_texel.proofs.Local.{along_lt, counting_length, texel_same, in_places, places_length, Listed, listed}
 use Rattle.pvrtc_texel.proofs.Each.{lit, some_red, no_red}
 

@@ -4,8 +4,8 @@ use mathlib.Core.Path.{◌≡◌, refl, sym, ap, ap₂, ◌∙◌}
 use mathlib.Core.Bool.{Bool, true, false}
 use mathlib.Core.Logic.{◌⊎◌, inl, inr, ⊎_elim}
 use mathlib.Core.List.Memᴰ
-use mathlib.Core.List.{List, [], ◌∷◌, ◌++◌, Memᴰ}
-use Prim.Native.Nat.{ℕ, zero, suc, ◌+◌, ◌-◌, ◌*◌, ◌/◌, ◌%◌, ◌^◌, ◌≤◌, ◌<◌}
+use mathlib.Core.List.{List, [], ◌∷◌, Memᴰ}
+use Prim.Native.Nat.{ℕ, zero, suc, ◌+◌, ◌-◌, ◌*◌, ◌/◌, ◌≤◌, ◌<◌}
 use native.Mathlib.Nat.{mod-lt, mod-eq_of_lt, add-mod_right, zero-mul, mul-zero, suc-mul, add_comm}
 use native.Mathlib.Omega.{arith}
 use native.Mathlib.Decide.{dec_lt}
@@ -14,8 +14,8 @@ use lib.ListN.{length, length-append}
 use borrow.Author.Tests.{eqb-true, eqb-false}
 use Rattle.laws.specs.Choice.{pick}
 use Rattle.pvrtc_order.specs.Order.{word_place}
-use Rattle.pvrtc_texel.specs.Word.{colour_a, colour_b, modulation_weight, punched}
-use Rattle.pvrtc_texel.specs.Texel.{low_word, high_word, relative, interpolated, unorm8, modulated, upscaled, texel_at}
+use Rattle.pvrtc_texel.specs.Word.{colour_a, colour_b}
+use Rattle.pvrtc_texel.specs.Texel.{low_word, high_word, relative, interpolated, unorm8, upscaled, texel_at}
 use Rattle.pvrtc_texel.specs.Counting.{counting_along, places_in_row, places_in}
 
 -- ---- one axis

@@ -1,16 +1,16 @@
 -- Sides of images: which have bits of a column or row, and the refusals by the tests of their order.
 -- Assumes nothing.
-use mathlib.Core.Path.{◌≡◌, refl, sym, ap, subst, ◌∙◌}
+use mathlib.Core.Path.{◌≡◌, refl}
 use mathlib.Core.Bool.{Bool, true, false, not}
-use Prim.Native.Nat.{ℕ, zero, suc, ◌+◌, ◌-◌, ◌*◌, ◌/◌, ◌%◌, ◌^◌, ◌≤◌, ◌<◌}
+use Prim.Native.Nat.{ℕ, zero, suc, ◌+◌, ◌-◌, ◌*◌, ◌%◌, ◌^◌, ◌≤◌, ◌<◌}
 use native.Mathlib.Nat.{mod-eq_of_lt, mul-le-mul}
 use native.Mathlib.Omega.{arith}
-use lib.Dec.{T, eqb, ltb}
+use lib.Dec.{T, eqb}
 use lib.Pow.{pow_mono}
-use borrow.Author.Tests.{eqb-true, eqb-false, eq-eqb, ne_eqb, ltb-false, le-ltb, lt-ltb}
-use Rattle.laws.specs.Choice.{pick, either, all}
+use borrow.Author.Tests.{eqb-true, eq-eqb, ne_eqb, ltb-false}
+use Rattle.laws.specs.Choice.{pick, all}
 use Rattle.laws.proofs.Computed.{each}
-use Rattle.pvrtc_texel.specs.Image.{bits_from, side_bits, bad_pvrtc_side, SidesTaken, words_in, image_refusals, image_refusal}
+use Rattle.pvrtc_texel.specs.Image.{bits_from, side_bits, bad_pvrtc_side, SidesTaken, words_in, image_refusal}
 
 pub shift_exact : (k : ℕ) → k < 11 → 4 * 2 ^ k % 2 ^ 32 ≡ 4 * 2 ^ k
 shift_exact k h = let l : 2 ^ k ≤ 2 ^ 10 = pow_mono {j = 10} (omega arith) in mod-eq_of_lt (omega arith)

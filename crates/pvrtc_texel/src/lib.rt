@@ -3,17 +3,18 @@
 
 ghost use Rattle.std.specs.Prelude.{◌≡◌, ◌*◌, ◌≤◌};
 ghost use Rattle.pvrtc_texel.specs.Image.{side_bits, bad_pvrtc_side, words_in, image_refusal};
+ghost use Rattle.reason.specs.Numbers.{refusal_told};
+
+use reason::Refusal;
 
 // The bits of a word's column or row: 0 to 10 for sides of 4 to 4,096 that are powers of two, 11 for any other side.
 pub fn side_bits(side: u32) -> u32
     ensures { result ≡ side_bits side }
 {
-    let mut k: u32 = 0;
-    while k < 11 {
+    for k in 0..11u32 {
         if side == 4 << k {
             return k;
         }
-        k += 1;
     }
     11
 }
@@ -41,23 +42,23 @@ fn bytes_in(w: usize, h: usize) -> usize
     4 * (w * h)
 }
 
-// The refusals in their order, 0 where there is none.
-pub fn refusal(width: u32, height: u32, bytes: usize, places: usize) -> u8
-    ensures { result ≡ image_refusal width height bytes places }
+// Refuses a width or a height that no image has, then the bytes, then the places.
+pub fn check_image(width: u32, height: u32, bytes: usize, places: usize) -> Result<(), Refusal>
+    ensures { refusal_told result ≡ image_refusal width height bytes places }
 {
     if bad_side(width) {
-        return 61;
+        return Err(Refusal::PvrtcSide);
     }
     if bad_side(height) {
-        return 61;
+        return Err(Refusal::PvrtcSide);
     }
     let w = width as usize;
     let h = height as usize;
     if bytes != 8 * words_in(w, h) {
-        return 4;
+        return Err(Refusal::Bytes);
     }
     if places != bytes_in(w, h) {
-        return 5;
+        return Err(Refusal::Places);
     }
-    0
+    Ok(())
 }

@@ -82,7 +82,7 @@ module _ (fp : ℕ) (block : List ℕ) (h : Sound fp block) where
   sound_in = rw (eq-eqb _ _ h.no_fault)
 
   pub sound_read : reading_of fp block ≡ done (number_of block) (read_block fp (number_of block))
-  sound_read = sym (reader.passed_reading fp block (sym (reader.accepted fp _ h.known h.sixteen))) ∙ sound_in
+  sound_read = sym (reader.whole_reading fp block (reader.accepted fp _ h.known h.sixteen)) ∙ sound_in
 
   module _ (old : List ℕ) (size : length old ≡ 4 * texels_of fp) where
     taken : block_refusal fp (length block) (length old) ≡ 0

@@ -3,12 +3,12 @@
 
 ghost use Rattle.std.specs.Prelude.{◌≡◌, ◌≤◌, ◌<◌};
 ghost use Rattle.bits.specs.Block.{block_number};
-ghost use Rattle.encoding.specs.declared.Encoding.TheVariants.{Trits, Quints};
 ghost use Rattle.integer_sequence.specs.inner.Sequences.{Narrow};
 ghost use Rattle.sequence_end.specs.Ending.{missing_zero, sequence_of};
 
 use bits::PhysicalBlock;
 use encoding::{Encoding, Stored};
+use integer_sequence::group::{FiveTrits, Group, OneNumber, ThreeQuints};
 
 // The numbers, the position after the last bit, counted from the first, and whether the missing digits are zero.
 #[derive(Clone, Copy)]
@@ -18,33 +18,18 @@ pub struct Sequence {
     pub zero: bool,
 }
 
-// Of the sequence s of n numbers: whether the digits of the code of the group that it cuts are 0 from digit n % 5 on.
-fn trits_zero(s: PhysicalBlock, b: u32, n: u32) -> bool
-    requires { (b ≤ 6) × (n < 256) }
-    ensures { result ≡ missing_zero Trits b (block_number s) n }
+// Of the sequence s of n numbers: whether the digits of the code of the group that it cuts are 0 from the first on that no number has.
+fn zero_from_cut<G: Group>(s: PhysicalBlock, b: u32, n: u32) -> bool
+    requires { Narrow G.form b × (n < 256) }
+    ensures { result ≡ missing_zero G.form b (block_number s) n }
 {
-    let k = n % 5;
+    let size = G::size();
+    let k = n % size;
     if k == 0 {
         return true;
     }
-    let word = bits::word_at(s, n / 5 * (5 * b + 8));
-    let code = integer_sequence::reading::trit_code(word, b);
-    let digits = integer_sequence::tables::trit_digits(code);
-    digits >> (8 * k) == 0
-}
-
-fn quints_zero(s: PhysicalBlock, b: u32, n: u32) -> bool
-    requires { (b ≤ 5) × (n < 256) }
-    ensures { result ≡ missing_zero Quints b (block_number s) n }
-{
-    let k = n % 3;
-    if k == 0 {
-        return true;
-    }
-    let word = bits::word_at(s, n / 3 * (3 * b + 7));
-    let code = integer_sequence::reading::quint_code(word, b);
-    let digits = integer_sequence::tables::quint_digits(code);
-    digits >> (8 * k) == 0
+    let word = bits::word_at(s, n / size * G::bits(b));
+    G::digits(word, b) >> (8 * k) == 0
 }
 
 fn missing_zero(s: PhysicalBlock, e: Encoding, b: u8, n: u32) -> bool
@@ -52,9 +37,9 @@ fn missing_zero(s: PhysicalBlock, e: Encoding, b: u8, n: u32) -> bool
     ensures { result ≡ missing_zero e b (block_number s) n }
 {
     match e {
-        Encoding::Bits => true,
-        Encoding::Trits => trits_zero(s, b as u32, n),
-        Encoding::Quints => quints_zero(s, b as u32, n),
+        Encoding::Bits => zero_from_cut::<OneNumber>(s, b as u32, n),
+        Encoding::Trits => zero_from_cut::<FiveTrits>(s, b as u32, n),
+        Encoding::Quints => zero_from_cut::<ThreeQuints>(s, b as u32, n),
     }
 }
 

@@ -18,7 +18,6 @@ use Rattle.integer_sequence.specs.inner.Entries.{group_numbers}
 use Rattle.integer_sequence.specs.Reading.{number}
 use Rattle.integer_sequence.specs.inner.Sequences.{Narrow}
 use Rattle.integer_sequence.proofs.Groups.{number_alone, number_byte}
-use Rattle.sequence_numbers.specs.declared.StoredEight.{StoredEight}
 use Rattle.sequence_numbers.specs.inner.Eight.{Eight}
 
 -- number `first + k` of a sequence with no digits, from the word where number `first` begins

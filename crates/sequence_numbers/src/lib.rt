@@ -3,7 +3,7 @@
 
 ghost use Rattle.std.specs.Prelude.{◌≡◌, ◌+◌, ◌*◌, ◌/◌, ◌%◌, ◌^◌, ◌≤◌, ◌<◌};
 ghost use Rattle.bits.specs.Block.{block_number};
-ghost use Rattle.encoding.specs.declared.Encoding.TheVariants.{Bits, Trits, Quints};
+ghost use Rattle.encoding.specs.declared.Encoding.TheVariants.{Bits};
 ghost use Rattle.quantization.specs.Ranges.{encoding_at, bits_at};
 ghost use Rattle.integer_sequence.specs.Reading.{number, stored};
 ghost use Rattle.integer_sequence.specs.inner.Sequences.{Narrow};
@@ -11,6 +11,7 @@ ghost use Rattle.sequence_numbers.specs.inner.Eight.{eight, Eight};
 
 use bits::PhysicalBlock;
 use encoding::{Encoding, Stored};
+use integer_sequence::group::{FiveTrits, Group, ThreeQuints};
 
 // Eight stored numbers in one, the first in bits 7..0.
 #[derive(Clone, Copy)]
@@ -39,45 +40,25 @@ fn bits_from(s: PhysicalBlock, b: u32, first: u32, n: u32) -> u64
 {
     let word = bits::word_at(s, first * b);
     let mut out: u64 = 0;
-    let mut k = n;
-    while 0 < k {
-        k -= 1;
+    for k in (0..n).rev() {
         out = out * 256 + integer_sequence::reading::cut(word, k * b, b);
     }
     out
 }
 
 // The same group by group; the first begins before its turn where the run begins within a group.
-fn trits_from(s: PhysicalBlock, b: u32, first: u32, n: u32) -> u64
-    requires { (b ≤ 6) × (first < 256) × (n ≤ 8) }
-    ensures { Eight n (λ j. number Trits b (block_number s) (first + j)) (eight result) }
+fn groups_from<G: Group>(s: PhysicalBlock, b: u32, first: u32, n: u32) -> u64
+    requires { Narrow G.form b × (first < 256) × (n ≤ 8) }
+    ensures { Eight n (λ j. number G.form b (block_number s) (first + j)) (eight result) }
 {
-    let mut p = first / 5 * (5 * b + 8);
-    let g = integer_sequence::reading::trit_group(bits::word_at(s, p), b);
-    let mut out = g >> (8 * (first % 5));
-    let mut have = 5 - first % 5;
-    while have < n {
-        p += 5 * b + 8;
-        let g = integer_sequence::reading::trit_group(bits::word_at(s, p), b);
-        out += g << (8 * have);
-        have += 5;
-    }
-    out
-}
-
-fn quints_from(s: PhysicalBlock, b: u32, first: u32, n: u32) -> u64
-    requires { (b ≤ 5) × (first < 256) × (n ≤ 8) }
-    ensures { Eight n (λ j. number Quints b (block_number s) (first + j)) (eight result) }
-{
-    let mut p = first / 3 * (3 * b + 7);
-    let g = integer_sequence::reading::quint_group(bits::word_at(s, p), b);
-    let mut out = g >> (8 * (first % 3));
-    let mut have = 3 - first % 3;
-    while have < n {
-        p += 3 * b + 7;
-        let g = integer_sequence::reading::quint_group(bits::word_at(s, p), b);
-        out += g << (8 * have);
-        have += 3;
+    let size = G::size();
+    let step = G::bits(b);
+    let mut p = first / size * step;
+    let mut out = G::numbers(bits::word_at(s, p), b) >> (8 * (first % size));
+    let own = size - first % size;
+    for have in (own..n).step_by(size as usize) {
+        p += step;
+        out += G::numbers(bits::word_at(s, p), b) << (8 * have);
     }
     out
 }
@@ -88,8 +69,8 @@ fn read_from(s: PhysicalBlock, e: Encoding, b: u8, first: u32, n: u32) -> u64
 {
     match e {
         Encoding::Bits => bits_from(s, b as u32, first, n),
-        Encoding::Trits => trits_from(s, b as u32, first, n),
-        Encoding::Quints => quints_from(s, b as u32, first, n),
+        Encoding::Trits => groups_from::<FiveTrits>(s, b as u32, first, n),
+        Encoding::Quints => groups_from::<ThreeQuints>(s, b as u32, first, n),
     }
 }
 

@@ -1,5 +1,4 @@
-// The bits of the groups of a sequence (000: integer sequence encoding; 01, "Packed numbers"), each with the smallest code whose present
-// digits are the wanted ones.
+// The bits of the groups of a sequence, each with the smallest code whose present digits are the wanted ones.
 #![tactic(auto)]
 
 ghost use Rattle.std.specs.Prelude.{◌≡◌, [], ◌∷◌, map, ◌+◌, ◌*◌, ◌/◌, ◌%◌, ◌^◌, ◌≤◌, ◌<◌, get_or, take, drop};
@@ -182,12 +181,10 @@ pub fn bits_word(xs: [Stored; 64], i: usize, m: usize, b: u32) -> u64
 {
     let mut word: u64 = 0;
     let mut p: u32 = 0;
-    let mut k: usize = 0;
-    while k < m {
+    for k in 0..m {
         let x = xs[i + k];
         word = (low(value(x), b) << p) + word;
         p += b;
-        k += 1;
     }
     word
 }

@@ -1,4 +1,4 @@
-// Writing packed numbers (000: integer sequence encoding; 01, "Packed numbers") into a block.
+// Writing packed numbers into a block.
 #![tactic(auto)]
 
 ghost use Rattle.std.specs.Prelude.{◌≡◌, ◌≤◌, min, take};
@@ -25,18 +25,19 @@ fn write_trits(block: PhysicalBlock, from: u32, b: u32, xs: [Stored; 64], n: usi
     let table = smallest_codes::whole::five_trits();
     let mut out = bits::append(block, from, 0);
     let mut at = from;
-    let mut i: usize = 0;
-    while i + 5 <= n {
-        out = bits::append(out, at, sequence_words::five_trits(&table, xs, i, b));
+    for i in (0..n).step_by(5) {
+        let group = if i + 5 <= n {
+            sequence_words::five_trits(&table, xs, i, b)
+        } else {
+            sequence_words::last_trits(xs, i, n, b)
+        };
+        out = bits::append(out, at, group);
         at += 5 * b + 8;
-        i += 5;
-    }
-    if i < n {
-        return bits::append(out, at, sequence_words::last_trits(xs, i, n, b));
     }
     out
 }
 
+// Beside write_trits: the tables that are lent have 243 and 125 entries, and a trait over both with its impls is longer than this loop.
 fn write_quints(
     block: PhysicalBlock,
     from: u32,
@@ -50,14 +51,14 @@ fn write_quints(
     let table = smallest_codes::whole::three_quints();
     let mut out = bits::append(block, from, 0);
     let mut at = from;
-    let mut i: usize = 0;
-    while i + 3 <= n {
-        out = bits::append(out, at, sequence_words::three_quints(&table, xs, i, b));
+    for i in (0..n).step_by(3) {
+        let group = if i + 3 <= n {
+            sequence_words::three_quints(&table, xs, i, b)
+        } else {
+            sequence_words::last_quints(xs, i, n, b)
+        };
+        out = bits::append(out, at, group);
         at += 3 * b + 7;
-        i += 3;
-    }
-    if i < n {
-        return bits::append(out, at, sequence_words::last_quints(xs, i, n, b));
     }
     out
 }
@@ -69,12 +70,10 @@ fn write_bits(block: PhysicalBlock, from: u32, b: u32, xs: [Stored; 64], n: usiz
 {
     let mut out = bits::append(block, from, 0);
     let mut at = from;
-    let mut i: usize = 0;
-    while i < n {
+    for i in (0..n).step_by(8) {
         let m = smaller(8, n - i);
         out = bits::append(out, at, sequence_words::bits_word(xs, i, m, b));
         at += m as u32 * b;
-        i += m;
     }
     out
 }

@@ -48,9 +48,9 @@ pub extern "C" fn stallbrook_bc7_decode_image(
     ensures tally_after { tally.new ≡ bc7_tally_shown width height blocks.now (length out.old) tally.old }
 {
     if tally.len() != 3 {
-        return image_numbers::refusal_or_5(0, width, height, blocks.len(), out.len());
+        return image_numbers::refusal_or_5(0, width, height, blocks.len(), out.len()).into();
     }
     let answer = bc7_image::decode_image_bc7(width, height, blocks, out);
     image_numbers::put_tally(image_numbers::tally_told(answer), tally);
-    image_numbers::refusal_told(answer)
+    reason::refusal_told(answer)
 }

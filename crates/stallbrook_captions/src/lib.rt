@@ -1,4 +1,4 @@
-// The calls exported to C for the best grey captions (02, n).
+// The calls exported to C for the best grey captions.
 #![tactic(auto)]
 
 ghost use Rattle.std.specs.Prelude.{◌≡◌, length};
@@ -15,7 +15,7 @@ pub extern "C" fn stallbrook_astc_caption_block(
     ensures value { result ≡ caption_block_refusal (length block.old) (length wanted.now) }
     ensures block_after { block.new ≡ caption_block_out e0 e1 wanted.now block.old }
 {
-    caption_image::caption_into(e0, e1, wanted, block)
+    reason::refusal_told(caption_image::caption_into(e0, e1, wanted, block))
 }
 
 // The blocks of an image: 0, or the refusal's number with `blocks` as it was.
@@ -31,5 +31,5 @@ pub extern "C" fn stallbrook_astc_caption_image(
     ensures value { result ≡ caption_image_refusal width height (length blocks.old) (length wanted.now) }
     ensures blocks_after { blocks.new ≡ caption_image_out e0 e1 width height wanted.now blocks.old }
 {
-    caption_image::caption_image(e0, e1, width, height, wanted, blocks)
+    reason::refusal_told(caption_image::caption_image(e0, e1, width, height, wanted, blocks))
 }

@@ -1,4 +1,4 @@
-// The calls exported to C for the headers of .astc files (02, a) and for clips (02, j).
+// The calls exported to C for the headers of .astc files and for clips.
 #![tactic(auto)]
 
 ghost use Rattle.std.specs.Prelude.{◌≡◌, length};
@@ -78,5 +78,5 @@ pub extern "C" fn stallbrook_clip_write_frame(
     ensures value { result ≡ write_refusal (record { footprint = footprint; kind = kind; width = width; height = height }) (length blocks.now) (length out.old) }
     ensures out_after { out.new ≡ frame_out (record { footprint = footprint; kind = kind; width = width; height = height }) blocks.now out.old }
 {
-    clip_writer::write_frame(footprint, kind, width, height, blocks, out)
+    reason::refusal_told(clip_writer::write_frame(footprint, kind, width, height, blocks, out))
 }

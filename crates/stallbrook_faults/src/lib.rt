@@ -41,11 +41,10 @@ pub extern "C" fn stallbrook_astc_image_faults(
 pub extern "C" fn stallbrook_astc_image_blocks(footprint: u8, width: u32, height: u32) -> u64
     ensures { result ≡ image_block_count footprint width height }
 {
-    let e = image_size::size_refusal(footprint, width, height);
-    if e != 0 {
-        return 0;
+    match image_size::check_size(footprint, width, height) {
+        Err(_) => 0,
+        Ok(()) => image_size::blocks_of(footprint, width, height) as u64,
     }
-    image_size::blocks_of(footprint, width, height) as u64
 }
 
 // How many numbers an image's result buffer takes: 0 where a side is refused.

@@ -1,4 +1,4 @@
-// The call exported to C for PVRTC1, 4 bits per pixel (02, k).
+// The call exported to C for PVRTC1, 4 bits per pixel.
 #![tactic(auto)]
 
 ghost use Rattle.std.specs.Prelude.{◌≡◌, length};
@@ -15,5 +15,5 @@ pub extern "C" fn stallbrook_pvrtc_decode_image(
     ensures value { result ≡ image_refusal width height (length words.now) (length out.old) }
     ensures out_after { out.new ≡ image_out width height words.now out.old }
 {
-    pvrtc_image::decode_image(width, height, words, out)
+    reason::refusal_told(pvrtc_image::decode_image(width, height, words, out))
 }

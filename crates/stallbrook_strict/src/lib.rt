@@ -1,4 +1,4 @@
-// The calls exported to C of the strict reading (02, b) and of the canonical form. An archive of its own, so that the reading is a constant in it.
+// The calls exported to C of the strict reading and of the canonical form. An archive of its own, so that the reading is a constant in it.
 // A slice crosses as pointer and length.
 #![tactic(auto)]
 
@@ -6,6 +6,7 @@ ghost use Rattle.std.specs.Prelude.{◌≡◌, length};
 ghost use Rattle.interpolation.specs.declared.Kind.TheVariants.{Unorm16, Srgb8, Float16};
 ghost use Rattle.block_answer.specs.Told.{number_told};
 ghost use Rattle.block_reading.specs.declared.Reading.TheVariants.{Strict};
+ghost use Rattle.reason.specs.Numbers.{refusal_number};
 ghost use Rattle.one_block.specs.Calls.{block_told_in, block_out_in};
 ghost use Rattle.fault_numbers.specs.Calls.{faults_number, faults_shown, faults_tally};
 ghost use Rattle.image_numbers.specs.Calls.{image_number_in, image_shown_in, tally_shown_in, refusal_or5};
@@ -17,6 +18,7 @@ ghost use Rattle.stallbrook_strict.specs.Canonical.{canonical_number, canonical_
 
 use block_reading::Reading;
 use interpolation::Kind;
+use reason::Refusal;
 
 // ---- one block: the fault's number, 21 too, the refusal's with `out` as it was, or 0
 
@@ -282,11 +284,13 @@ pub extern "C" fn stallbrook_astc_canonical_block(footprint: u8, block: &[u8], o
 }
 
 // The first refusal of an image's rewriting, else 5.
-fn refusal_or_5(footprint: u8, width: u32, height: u32, bytes: usize, places: usize) -> u8
-    ensures { result ≡ refusal_or5 (canonical_refusal footprint width height bytes places) }
+fn refusal_or_5(footprint: u8, width: u32, height: u32, bytes: usize, places: usize) -> Refusal
+    ensures { refusal_number result ≡ refusal_or5 (canonical_refusal footprint width height bytes places) }
 {
-    let e = canonical_image::canonical_refusal(footprint, width, height, bytes, places);
-    if e == 0 { 5 } else { e }
+    match canonical_image::check_image(footprint, width, height, bytes, places) {
+        Err(refusal) => refusal,
+        Ok(()) => Refusal::Places,
+    }
 }
 
 // Of all blocks of an image, in a buffer of as many bytes: 0 or the refusal's number, 1, 3, 4 or 5, with `out` as it was. `tally` gets the count of
@@ -306,11 +310,11 @@ pub extern "C" fn stallbrook_astc_canonical_image(
     ensures tally_after { tally.new ≡ canonical_tally footprint width height blocks.now (length out.old) tally.old }
 {
     if tally.len() != 3 {
-        return refusal_or_5(footprint, width, height, blocks.len(), out.len());
+        return refusal_or_5(footprint, width, height, blocks.len(), out.len()).into();
     }
     let answer = canonical_image::canonical_frame(footprint, width, height, blocks, out);
     image_numbers::put_tally(image_numbers::tally_told(answer), tally);
-    image_numbers::refusal_told(answer)
+    reason::refusal_told(answer)
 }
 
 // The same in place.
@@ -327,9 +331,9 @@ pub extern "C" fn stallbrook_astc_canonical_in_place(
     ensures tally_after { tally.new ≡ canonical_tally footprint width height blocks.old (length blocks.old) tally.old }
 {
     if tally.len() != 3 {
-        return refusal_or_5(footprint, width, height, blocks.len(), blocks.len());
+        return refusal_or_5(footprint, width, height, blocks.len(), blocks.len()).into();
     }
     let answer = canonical_image::canonical_in_place(footprint, width, height, blocks);
     image_numbers::put_tally(image_numbers::tally_told(answer), tally);
-    image_numbers::refusal_told(answer)
+    reason::refusal_told(answer)
 }

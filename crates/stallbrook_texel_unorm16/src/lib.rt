@@ -20,7 +20,7 @@ pub extern "C" fn stallbrook_astc_view_refusal(
 ) -> u8
     ensures { result ≡ view_refusal footprint width height (length blocks.now) }
 {
-    image_texel::view_refusal(blocks.len(), footprint, width, height)
+    reason::refusal_told(image_texel::check_view(blocks.len(), footprint, width, height))
 }
 
 // 0, the fault of the texel's block with the error colour in `out`, 44 with four zeros, or 5 with `out` as it was where it is not of four.

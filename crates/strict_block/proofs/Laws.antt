@@ -1,9 +1,9 @@
 -- What the settings of a block without fault are, and what a block shows in the strict reading, by whether it is told 21.
 -- Assumes nothing.
-use mathlib.Core.Path.{◌≡◌, refl, sym, ap, ◌∙◌, subst}
+use mathlib.Core.Path.{◌≡◌, sym, ap, ◌∙◌}
 use mathlib.Core.Bool.{Bool, true, false}
 use mathlib.Core.List.{List}
-use Prim.Native.Nat.{ℕ, ◌+◌, ◌*◌, ◌/◌, ◌%◌, ◌^◌, ◌≤◌, ◌<◌}
+use Prim.Native.Nat.{ℕ, ◌+◌, ◌*◌, ◌%◌, ◌^◌, ◌<◌}
 use native.Mathlib.Decide.{ℕ_discrete}
 use native.Mathlib.Omega.{arith}
 use lib.Dec.{eqb}
@@ -15,16 +15,8 @@ use Rattle.footprint.specs.Footprint.{width_of, texels_of}
 use Rattle.interpolation.specs.declared.Kind.{Kind}
 use Rattle.interpolation.specs.declared.Texel.{Texel}
 use Rattle.interpolation.specs.Expansion.{takes_hdr}
-use Rattle.block_header.specs.Counts.{endpoint_count, endpoint_range_of}
-use Rattle.block_fault.specs.declared.Settings.{Settings}
-use Rattle.block_fault.specs.declared.Verdict.{Verdict}
-use Rattle.block_fault.specs.declared.Verdict.TheVariants as verdict
-use Rattle.block_fault.specs.inner.Stages.{stage_in}
-use Rattle.block_fault.specs.Bits.{mode_at, is_void}
-use Rattle.block_fault.specs.inner.Settings.{verdict_of, settings_of}
 use Rattle.block_fault.specs.Faults.{fault_of}
 use Rattle.block_fault.proofs.ByKind.{fault_hdr}
-use Rattle.block_fault.proofs.Verdicts.{settings_verdict, told_fault, told_void, told_coded, coded_header, coded_numbers}
 use Rattle.texel.specs.Meaning.{error_texel, channel}
 use Rattle.texel.specs.BlockTexel.{block_texel, block_channel, block_into}
 use Rattle.block_core.specs.inner.Shows.{Shows}
@@ -39,7 +31,6 @@ use Rattle.block_reading.specs.Canonical.{canonical_in}
 use Rattle.block_reading.proofs.Strict.{strict_other, strict_none, strict_21}
 use Rattle.block_reading.proofs.Forms.{canonical_sound, canonical_faulty}
 use Rattle.block_reading.proofs.Shows.{strict_own, strict_error}
-use Rattle.strict_block.specs.inner.Read.{Coded, Read}
 
 -- ---- blocks by their halves
 
@@ -55,46 +46,12 @@ module _ (a b : PhysicalBlock) (la : a.lo < 2 ^ 64) (lb : b.lo < 2 ^ 64) where
     | no n ↦ ne_eqb _ _ n ∙ sym (ne_eqb (a.hi * 2 ^ 64 + a.lo) (b.hi * 2 ^ 64 + b.lo) (λ q. n (omega arith)))
   ]
 
--- ---- the settings that were read
+-- ---- what was read
 
-module _ (hdr : Bool) (fp B : ℕ) (s : Settings) (e : s ≡ settings_of hdr fp B) where
-  verdict_is : verdict_of hdr fp B ≡ s.verdict
-  verdict_is = sym (ap (λ (t : Settings). t.verdict) e ∙ settings_verdict hdr fp B)
-
-  -- a fault is told
-  pub fault_told : (n : ℕ) → s.verdict ≡ verdict.Fault n → (fault_of hdr fp B ≡ n) × (fault_of hdr fp B ≡ 0 → ⊥)
-  fault_told n q = told_fault hdr fp B n (verdict_is ∙ q)
-
-  module _ (none : (n : ℕ) → s.verdict ≡ verdict.Fault n → ⊥) where
-    by_verdict : {X : Type 0} (v : Verdict) → s.verdict ≡ v → (v ≡ verdict.VoidExtent → X) → (v ≡ verdict.Coded → X) → X
-    by_verdict verdict.VoidExtent q f g = f refl
-    by_verdict verdict.Coded q f g = g refl
-    by_verdict (verdict.Fault n) q f g = absurd (none n q)
-
-    pub sound : fault_of hdr fp B ≡ 0
-    sound = by_verdict s.verdict refl (λ q. (told_void hdr fp B (verdict_is ∙ q)).0) (λ q. (told_coded hdr fp B (verdict_is ∙ q)).0)
-
-    some_hdr_lem : (h : Bool) → fault_of h fp B ≡ 0 → fault_of true fp B ≡ 0
-    some_hdr_lem true z = z
-    some_hdr_lem false z = fault_hdr fp B z
-
-    is_coded : s.verdict ≡ verdict.Coded → Coded fp B s
-    is_coded q =
-        let m : (s.numbers ≡ endpoint_count s.header) × (s.range ≡ endpoint_range_of s.header) = rw e (coded_numbers hdr fp B (settings_verdict hdr fp B ∙ verdict_is ∙ q)) in
-        record {
-          not_void = (told_coded hdr fp B (verdict_is ∙ q)).1;
-          header = ap (λ (t : Settings). t.header) e ∙ coded_header hdr fp B (verdict_is ∙ q);
-          numbers = m.0;
-          range = m.1;
-        }
-
-    pub read : fp ≤ 23 → Read fp B s
-    read l = record {
-      low = l;
-      no_fault = some_hdr_lem hdr sound;
-      void = λ q. (told_void hdr fp B (verdict_is ∙ q)).1;
-      coded = λ n. by_verdict s.verdict refl (λ q. absurd (n q)) is_coded;
-    }
+-- a block without fault by either list has none by kind 2's
+pub no_fault : (hdr : Bool) (fp B : ℕ) → fault_of hdr fp B ≡ 0 → fault_of true fp B ≡ 0
+no_fault true fp B z = z
+no_fault false fp B z = fault_hdr fp B z
 
 -- ---- the strict reading by its three cases
 

@@ -15,7 +15,7 @@ ghost use Rattle.strict_block.specs.inner.Read.{Read};
 
 use bits::PhysicalBlock;
 use block_core::{Decoded, UniformBlock};
-use block_fault::{Settings, Verdict};
+use block_fault::Contents;
 use block_reading::Reading;
 use interpolation::Kind;
 
@@ -29,19 +29,18 @@ pub fn same(a: PhysicalBlock, b: PhysicalBlock) -> bool
     a.hi == b.hi
 }
 
-// What the writer makes from the sheet of a block without fault, whose settings are read. All bits of a void extent (01: solid block) are fields.
-fn written(fp: u8, b: PhysicalBlock, s: Settings) -> PhysicalBlock
-    requires { Read fp (block_number b) s }
+// What the writer makes from the sheet of a block without fault. All bits of a void extent are fields.
+fn written(fp: u8, b: PhysicalBlock, contents: Contents) -> PhysicalBlock
+    requires { Read fp (block_number b) contents }
     ensures { block_number result ≡ canonical_of fp (block_number b) }
 {
-    let v = s.verdict;
-    if let Verdict::VoidExtent = v {
-        return b;
+    match contents {
+        Contents::VoidExtent => b,
+        Contents::Coded(s) => symbolic_writer::block_of(
+            fp,
+            symbolic_reader::mode_block(b, s.header, s.numbers, s.range),
+        ),
     }
-    symbolic_writer::block_of(
-        fp,
-        symbolic_reader::mode_block(b, s.header, s.numbers, s.range),
-    )
 }
 
 // The canonical form of a block, and its fault by kind 2's list.
@@ -56,13 +55,16 @@ pub fn canonical(fp: u8, volume: bool, b: PhysicalBlock) -> CanonicalBlock
     ensures fault_value { result.fault ≡ fault_of true fp (block_number b) }
     ensures block_value { block_number result.block ≡ canonical_in fp (block_number b) }
 {
-    let s = block_fault::read_settings(true, volume, b, fp);
-    let v = s.verdict;
-    if let Verdict::Fault(n) = v {
-        return CanonicalBlock { fault: n, block: b };
+    match block_fault::read_settings(true, volume, b, fp) {
+        Err(fault) => CanonicalBlock {
+            fault: fault.into(),
+            block: b,
+        },
+        Ok(contents) => CanonicalBlock {
+            fault: 0,
+            block: written(fp, b, contents),
+        },
     }
-    let block = written(fp, b, s);
-    CanonicalBlock { fault: 0, block }
 }
 
 // The fault of the strict reading, HDR taken or not: the settings are read once.
@@ -70,13 +72,16 @@ pub fn strict_fault(hdr: bool, fp: u8, volume: bool, b: PhysicalBlock) -> u8
     requires { (fp ≤ 23) × (volume ≡ is_volume fp) }
     ensures { result ≡ strict_fault hdr fp (block_number b) }
 {
-    let s = block_fault::read_settings(hdr, volume, b, fp);
-    let v = s.verdict;
-    if let Verdict::Fault(n) = v {
-        return n;
+    match block_fault::read_settings(hdr, volume, b, fp) {
+        Err(fault) => fault.into(),
+        Ok(contents) => {
+            if same(b, written(fp, b, contents)) {
+                0
+            } else {
+                21
+            }
+        }
     }
-    let w = written(fp, b, s);
-    if same(b, w) { 0 } else { 21 }
 }
 
 // A block in the strict reading: fault 21 shows the error colour.

@@ -1,5 +1,6 @@
 -- What an acceptable mode sheet is.
 -- Assumes nothing.
+use Rattle.std.specs.Prelude.{None, Option, Some}
 use mathlib.Core.Path.{◌≡◌, refl, subst}
 use mathlib.Core.Bool.{Bool, true, false, not}
 use Prim.Native.Nat.{ℕ, ◌+◌, ◌*◌, ◌/◌, ◌≤◌}
@@ -8,8 +9,6 @@ use lib.Dec.{T, ltb, eqb}
 use borrow.Author.Tests.{ltb-false, lt-ltb}
 use Rattle.laws.specs.Choice.{pick, both}
 use Rattle.quantization.specs.Ranges.{most_at}
-use Rattle.block_mode.specs.declared.FoundMode.{FoundMode}
-use Rattle.block_mode.specs.declared.FoundMode.TheVariants.{Mode, NoMode}
 use Rattle.block_mode.specs.Back2D.{Limits}
 use Rattle.footprint.specs.Footprint.{is_volume}
 use Rattle.volume_mode.specs.Either.{is_deep, block_mode_of}
@@ -19,7 +18,8 @@ use Rattle.symbolic_block.specs.declared.SymbolicBlock.{SymbolicBlock}
 use Rattle.symbolic_block.specs.Fields.{sheet_grid, header_of, is_marked, colour_in, extent_in, mode_in, endpoint_in, weight_in}
 use Rattle.symbolic_block.specs.Refusals.{within, outside, is_no_mode, unknown_footprint, bad_mark, bad_hdr, bad_width, bad_height, bad_grid_depth, bad_range, bad_planes, bad_component, bad_partitions, bad_index, bad_selector, bad_modes, some_in_use, no_block_mode, modes_misfit, bad_endpoints, bad_weights, marked_without, mode_refusals}
 use Rattle.symbolic_block.specs.Writing.{mode_number}
-use Rattle.laws.proofs.Reasons.{None, none_at, either_none}
+use Rattle.laws.proofs.Reasons as reasons
+use Rattle.laws.proofs.Reasons.{none_at, either_none}
 use Rattle.laws.specs.Reasons.{reason_at}
 use Rattle.symbolic_block.proofs.Lists.{not_not}
 
@@ -39,7 +39,7 @@ pub record Fine (fp : ℕ) (s : SymbolicBlock) : Type 0 where
   pub modes_in : T (within 4 s.partitions 15 (mode_in s))
   pub colours_0 : T (within 4 0 0 (colour_in s))
   pub extents_0 : T (within 6 0 0 (extent_in s))
-  pub found : block_mode_of (sheet_grid s) ≡ Mode (mode_number (block_mode_of (sheet_grid s)))
+  pub found : block_mode_of (sheet_grid s) ≡ Some (mode_number (block_mode_of (sheet_grid s)))
   pub count_most : weight_count (sheet_grid s) ≤ 64
   pub bits_most : weight_bits (sheet_grid s) ≤ 96
   pub selected : modes_misfit (header_of s) ≡ false
@@ -48,9 +48,9 @@ pub record Fine (fp : ℕ) (s : SymbolicBlock) : Type 0 where
   pub endpoints_in : T (within 18 (endpoint_count (header_of s)) (most_at (endpoint_range_of (header_of s))) (endpoint_in s))
   pub weights_in : T (within 64 (weight_count (sheet_grid s)) (most_at s.range) (weight_in s))
 
-a_mode : (x : FoundMode) → is_no_mode x ≡ false → x ≡ Mode (mode_number x)
-a_mode (Mode m) e = refl
-a_mode NoMode e = let z : ◌≡◌ {A = Bool} true false = e in absurd (subst T z tt)
+a_mode : (x : Option ℕ) → is_no_mode x ≡ false → x ≡ Some (mode_number x)
+a_mode (Some m) e = refl
+a_mode None e = let z : ◌≡◌ {A = Bool} true false = e in absurd (subst T z tt)
 
 -- where neither 20 nor 35 holds, the HDR mark is set exactly when some partition's mode is HDR
 same_mark : (m h : Bool) → both (not m) h ≡ false → both m (not h) ≡ false → m ≡ h
@@ -78,7 +78,7 @@ depth_in false d e =
 abbrev Not : ℕ → SymbolicBlock → ℕ → Type 0
 Not fp s i = (reason_at (mode_refusals fp s) i).holds ≡ false
 
-pub fine : (fp : ℕ) (s : SymbolicBlock) → (s.mark ≡ 1 → ⊥) → None (mode_refusals fp s) → Fine fp s
+pub fine : (fp : ℕ) (s : SymbolicBlock) → (s.mark ≡ 1 → ⊥) → reasons.None (mode_refusals fp s) → Fine fp s
 unfolding mode_refusals is_deep unknown_footprint bad_mark bad_hdr bad_width bad_height bad_grid_depth bad_range bad_planes bad_component bad_partitions bad_index bad_selector bad_modes some_in_use no_block_mode bad_endpoints bad_weights too_many_weights weight_bits_outside too_many_endpoints too_few_endpoint_bits hdr_refused marked_without
 fine fp s m n =
     let at = none_at (mode_refusals fp s) n in

@@ -26,7 +26,7 @@ use Rattle.block_header.specs.declared.BlockHeader.{BlockHeader}
 use Rattle.block_header.specs.Counts.{weight_count, weight_bits, component_bits, partition_index_bits, selector_bits, extra_bits, endpoint_count, endpoint_range_of}
 use Rattle.block_header.specs.Reasons.{some_hdr, hdr_refused}
 use Rattle.block_fault.specs.Bits.{mode_at, is_void, is_reserved, grid_in, partitions_at, index_at, selector_at, base_at, extra_at, component_at, mode_of, header_with, header_at, endpoint_at, weight_at}
-use Rattle.block_fault.proofs.Verdicts.{a_grid}
+use Rattle.block_fault.proofs.Sound.{a_grid}
 use Rattle.symbolic_block.specs.declared.SymbolicBlock.{SymbolicBlock}
 use Rattle.symbolic_block.specs.Fields.{stored_in, Sized}
 use Rattle.symbolic_block.specs.Refusals.{within, outside, no_block_mode, modes_misfit, unknown_footprint, bad_mark, bad_hdr, bad_width, bad_height, bad_grid_depth, bad_range, bad_planes, bad_component, bad_partitions, bad_index, bad_selector, bad_modes, bad_endpoints, bad_weights, marked_without, mode_refusals}

@@ -1,11 +1,9 @@
 -- 01, "Refusals of a sheet, in order": the first reason why a symbolic block is not acceptable.
 -- Assumes nothing.
-use Rattle.std.specs.Prelude.{◌≡◌, Bool, true, false, not, List, [], ◌∷◌, ℕ, ◌-◌, ◌*◌, ◌/◌, eqb, leb, ltb, get_or}
+use Rattle.std.specs.Prelude.{◌≡◌, Bool, true, false, not, List, [], ◌∷◌, ℕ, ◌-◌, ◌*◌, ◌/◌, eqb, leb, ltb, get_or, None, Option, Some}
 use Rattle.laws.specs.Choice.{pick, both, either, all}
 use Rattle.quantization.specs.Ranges.{most_at}
 use Rattle.block_mode.specs.declared.WeightGrid.{WeightGrid}
-use Rattle.block_mode.specs.declared.FoundMode.{FoundMode}
-use Rattle.block_mode.specs.declared.FoundMode.TheVariants.{Mode, NoMode}
 use Rattle.footprint.specs.Footprint.{is_volume}
 use Rattle.volume_mode.specs.Either.{block_mode_of}
 use Rattle.block_header.specs.declared.BlockHeader.{BlockHeader}
@@ -91,9 +89,9 @@ some_in_use N x = not (within N 0 0 x)
 
 -- ---- 32: "no block mode has this grid, range and planes"
 
-abbrev pub is_no_mode : FoundMode → Bool
-is_no_mode (Mode m) = false
-is_no_mode NoMode = true
+abbrev pub is_no_mode : Option ℕ → Bool
+is_no_mode (Some m) = false
+is_no_mode None = true
 
 unfoldable pub no_block_mode : WeightGrid → Bool
 no_block_mode g = is_no_mode (block_mode_of g)

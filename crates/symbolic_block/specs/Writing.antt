@@ -1,12 +1,10 @@
 -- 01, "Bits of a block" and "Packed numbers": the 128 bits that are written for a symbolic block, as one number.
 -- Assumes nothing.
-use Rattle.std.specs.Prelude.{ℕ, ◌+◌, ◌-◌, ◌*◌, ◌/◌, ◌%◌, ◌^◌, List, [], ◌∷◌, eqb, get_or, take}
+use Rattle.std.specs.Prelude.{ℕ, ◌+◌, ◌-◌, ◌*◌, ◌/◌, ◌%◌, ◌^◌, List, [], ◌∷◌, eqb, get_or, take, None, Option, Some}
 use Rattle.laws.specs.Choice.{pick}
 use Rattle.bits.specs.Field.{stream, reverse}
 use Rattle.quantization.specs.Ranges.{encoding_at, bits_at, range_bits}
 use Rattle.integer_sequence.specs.Writing.{packed, values}
-use Rattle.block_mode.specs.declared.FoundMode.{FoundMode}
-use Rattle.block_mode.specs.declared.FoundMode.TheVariants.{Mode, NoMode}
 use Rattle.footprint.specs.Footprint.{is_volume}
 use Rattle.volume_mode.specs.Either.{block_mode_of}
 use Rattle.void_extent.specs.Writing.{void_cells}
@@ -18,9 +16,9 @@ use Rattle.symbolic_block.specs.Fields.{sheet_grid, header_of, colour_in, extent
 use Rattle.bits.specs.Cells.{Cell, cell, laid}
 
 -- the bits of a mode; 0 where there is none
-abbrev pub mode_number : FoundMode → ℕ
-mode_number (Mode m) = m
-mode_number NoMode = 0
+abbrev pub mode_number : Option ℕ → ℕ
+mode_number (Some m) = m
+mode_number None = 0
 
 -- a mode's class bit: whether its class is the selector's own and not the one before
 abbrev pub class_bit : ℕ → ℕ → ℕ

@@ -21,10 +21,9 @@ pub fn write_symbolic(fp: u8, s: SymbolicBlock) -> Writing
     ensures value { result ≡ writing_of fp s }
     ensures answer_value { number_told result.answer ≡ refusal_of fp s }
 {
-    let n = symbolic_refusal::refusal(fp, s);
-    if n != 0 {
+    if let Err(refusal) = symbolic_refusal::refusal(fp, s) {
         return Writing {
-            answer: Answer::Refused(n),
+            answer: Answer::Refused(refusal.into()),
             bytes: [0u8; 16],
         };
     }

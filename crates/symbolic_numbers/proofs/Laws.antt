@@ -1,28 +1,24 @@
 -- A symbolic block's numbers by position, and what each call comes to in each event.
 -- Assumes nothing.
-use mathlib.Core.Path.{◌≡◌, refl, sym, ap, ◌∙◌}
+use mathlib.Core.Path.{◌≡◌, refl, ap, ◌∙◌}
 use mathlib.Core.List.{List}
 use mathlib.Core.Logic.{◌⊎◌, inl, inr}
 use mathlib.Core.Bool.{Bool, true, false}
 use Prim.Native.Nat.{ℕ}
 use native.Mathlib.Omega.{arith}
 use lib.Dec.{eqb}
-use lib.ListN.{length, get_or}
+use lib.ListN.{length}
 use borrow.Author.Tests.{eq-eqb, ne_eqb}
 use Rattle.laws.specs.Choice.{pick, both}
 use Rattle.laws.specs.Table.{tab, tab_from}
-use Rattle.laws.specs.inner.Filled.{Filled}
-use Rattle.laws.proofs.Filling.{filled_all, length_tab}
-use Rattle.bits.proofs.Blocks.{bytes_length}
 use Rattle.integer_sequence.specs.Reading.{stored}
 use Rattle.block_answer.specs.Told.{number_told}
 use Rattle.spare_bits.specs.Spare.{spare_numbers}
 use Rattle.symbolic_block.specs.declared.SymbolicBlock.{SymbolicBlock}
 use Rattle.symbolic_block.specs.Fields.{colour_in, extent_in, mode_in, endpoint_in, weight_in, Sized}
-use Rattle.symbolic_block.specs.Refusals.{unknown_footprint, refusal_of}
-use Rattle.symbolic_block.specs.Writing.{block_of}
+use Rattle.symbolic_block.specs.Refusals.{unknown_footprint}
 use Rattle.symbolic_block.proofs.Lists.{tab_back, stored_back}
-use Rattle.symbolic_calls.specs.Writing.{wrote, wrote_nothing, writing_of}
+use Rattle.symbolic_calls.specs.Writing.{writing_of}
 use Rattle.symbolic_calls.proofs.Laws.{told_number}
 use Rattle.symbolic_reader.specs.declared.SymbolicReading.{SymbolicReading}
 use Rattle.symbolic_numbers.specs.Numbers.{settings_with, setting_numbers, added_of, flat_of, block_over, block_from}
@@ -169,15 +165,3 @@ module _ (fp : ℕ) (numbers old : List ℕ) where
       pub block_written : (writing_of fp (block_from numbers)).bytes ≡ write_block fp numbers old
       unfolding write_block
       block_written = rw (eq-eqb _ _ e, eq-eqb _ _ l)
-
--- the sixteen bytes written are the table of themselves
-written_length : (fp : ℕ) (s : SymbolicBlock) → length (writing_of fp s).bytes ≡ 16
-unfolding writing_of
-written_length fp s = go (eqb (refusal_of fp s) 0) where
-  go : (t : Bool) → length (pick t (wrote fp s) (wrote_nothing (refusal_of fp s))).bytes ≡ 16
-  go true = bytes_length 16 (block_of fp s)
-  go false = length_tab {A = ℕ} (λ i. 0) 16
-
-pub whole_block_lem : (fp : ℕ) (s : SymbolicBlock) → tab (λ k. get_or (writing_of fp s).bytes k 0) 16 ≡ (writing_of fp s).bytes
-unfolding Filled
-whole_block_lem fp s = sym (filled_all (λ k. get_or (writing_of fp s).bytes k 0) 0 (writing_of fp s).bytes 16 (written_length fp s) (λ k h. refl))

@@ -2,7 +2,7 @@
 // of 02, i, and what 02, h, adds: the grid's depth and the third axis' two extents.
 #![tactic(auto)]
 
-ghost use Rattle.std.specs.Prelude.{◌≡◌, ◌+◌, ◌<◌, min, leb, length, get_or};
+ghost use Rattle.std.specs.Prelude.{◌≡◌, ◌+◌, ◌≤◌, ◌<◌, min, leb, length, get_or};
 ghost use Rattle.laws.specs.Choice.{pick, both};
 ghost use Rattle.laws.specs.Table.{tab};
 ghost use Rattle.integer_sequence.specs.Reading.{stored};
@@ -70,22 +70,16 @@ fn put(s: SymbolicBlock, numbers: &mut [u16])
     let e = s.extents;
     let hdr = s.hdr;
     let depth = s.depth;
-    let mut i: usize = 0;
-    while i < 21 {
+    for i in 0..21 {
         numbers[i] = settings[i];
-        i += 1;
     }
-    let mut j: usize = 0;
-    while j < 18 {
+    for j in 0..18 {
         let v = endpoints[j];
         numbers[21 + j] = wide(v.0);
-        j += 1;
     }
-    let mut k: usize = 0;
-    while k < 64 {
+    for k in 0..64 {
         let w = weights[k];
         numbers[39 + k] = wide(w.0);
-        k += 1;
     }
     numbers[103] = wide(hdr);
     numbers[104] = wide(depth);
@@ -144,34 +138,20 @@ fn clipped_numbers(numbers: &[u16]) -> [u8; 107]
     ensures { result ≡ clipped_numbers numbers.now }
 {
     let mut out = [0u8; 107];
-    let mut i: usize = 0;
-    while i < numbers.len() {
+    for i in 0..107 {
         out[i] = clipped(numbers[i]);
-        i += 1;
     }
     out
 }
 
-fn endpoints_from(bytes: [u8; 107]) -> [Stored; 18]
-    ensures { result ≡ tab (λ i. stored (get_or bytes (21 + i) 0)) 18 }
+// N stored numbers of a list, from one place on.
+fn stored_from<const N: usize>(bytes: &[u8; 107], from: usize) -> [Stored; N]
+    requires { from + N ≤ 107 }
+    ensures { result ≡ tab (λ i. stored (get_or bytes.now (from + i) 0)) N }
 {
-    let mut out = [Stored(0); 18];
-    let mut i: usize = 0;
-    while i < 18 {
-        out[i] = Stored(bytes[21 + i]);
-        i += 1;
-    }
-    out
-}
-
-fn weights_from(bytes: [u8; 107]) -> [Stored; 64]
-    ensures { result ≡ tab (λ i. stored (get_or bytes (39 + i) 0)) 64 }
-{
-    let mut out = [Stored(0); 64];
-    let mut i: usize = 0;
-    while i < 64 {
-        out[i] = Stored(bytes[39 + i]);
-        i += 1;
+    let mut out = [Stored(0); N];
+    for i in 0..N {
+        out[i] = Stored(bytes[from + i]);
     }
     out
 }
@@ -181,8 +161,8 @@ fn block_from(numbers: &[u16]) -> SymbolicBlock
     ensures { result ≡ block_over numbers.now (clipped_numbers numbers.now) }
 {
     let bytes = clipped_numbers(numbers);
-    let endpoints = endpoints_from(bytes);
-    let weights = weights_from(bytes);
+    let endpoints = stored_from(&bytes, 21);
+    let weights = stored_from(&bytes, 39);
     SymbolicBlock {
         mark: bytes[0],
         hdr: bytes[103],
@@ -223,10 +203,8 @@ fn endpoints_fit(numbers: &[u16]) -> bool
     ensures { result ≡ endpoints_fit numbers.now }
 {
     let mut ok = true;
-    let mut i: usize = 0;
-    while i < 18 {
+    for i in 0..18 {
         ok = fits(numbers[21 + i], ok);
-        i += 1;
     }
     ok
 }
@@ -258,17 +236,6 @@ fn writing_of(footprint: u8, numbers: &[u16]) -> Writing
     }
 }
 
-fn put_block(from: [u8; 16], block: &mut [u8])
-    requires { length block.old ≡ 16 }
-    ensures { block.new ≡ tab (λ k. get_or from k 0) 16 }
-{
-    let mut i: usize = 0;
-    while i < 16 {
-        block[i] = from[i];
-        i += 1;
-    }
-}
-
 // 1 for a footprint that there is not, else n.
 fn after_1(footprint: u8, n: u8) -> u8
     ensures { result ≡ pick (unknown_footprint footprint) 1 n }
@@ -285,12 +252,12 @@ pub fn write_numbers(footprint: u8, numbers: &[u16], block: &mut [u8]) -> u8
         return after_1(footprint, 4);
     }
     if numbers.len() != 107 {
-        put_block([0u8; 16], block);
+        block.copy_from_slice(&[0u8; 16]);
         return after_1(footprint, 5);
     }
     let writing = writing_of(footprint, numbers);
     let answer = writing.answer;
     let from = writing.bytes;
-    put_block(from, block);
+    block.copy_from_slice(&from);
     block_answer::number_told(answer)
 }

@@ -1,36 +1,27 @@
 -- What the stages of the reader come to, and the numbers that it reads.
 -- Assumes nothing.
-use mathlib.Core.Path.{◌≡◌, refl, sym, ap, ◌∙◌, subst}
+use mathlib.Core.Path.{◌≡◌, refl, sym, ap, ◌∙◌}
 use mathlib.Core.Bool.{Bool, true, false, not}
 use mathlib.Core.List.{List}
-use Prim.Native.Nat.{ℕ, ◌*◌, ◌≤◌, ◌<◌}
+use Prim.Native.Nat.{ℕ, ◌≤◌, ◌<◌}
 use native.Mathlib.Omega.{arith}
 use lib.Dec.{eqb, ltb}
 use lib.ListN.{length, get_or}
 use borrow.Author.Tests.{lt-ltb, le-ltb, eq-eqb, ne_eqb, eqb-true}
 use Rattle.laws.specs.Choice.{pick}
-use Rattle.laws.specs.Table.{tab, padded}
+use Rattle.laws.specs.Table.{tab, padded, Bytes}
 use Rattle.laws.proofs.Filling.{tab_ext, padded_at}
 use Rattle.encoding.specs.declared.Encoding.{Encoding}
-use Rattle.encoding.specs.declared.Stored.{Stored}
 use Rattle.integer_sequence.specs.Reading.{number, numbers, stored}
-use Rattle.block_header.specs.declared.Stage.{Stage}
-use Rattle.block_header.specs.declared.Stage.TheVariants.{Passed, Stopped}
-use Rattle.block_header.specs.inner.Stages.{stage_of}
 use Rattle.bits.specs.Field.{field}
 use Rattle.bits.specs.Block.{number_of}
-use Rattle.block_fault.specs.declared.Verdict.{Verdict}
-use Rattle.block_fault.specs.declared.Verdict.TheVariants as verdict
-use Rattle.block_fault.specs.inner.Settings.{verdict_of}
-use Rattle.block_fault.specs.Bits.{header_at, endpoint_at, weight_at}
+use Rattle.bits.proofs.Halves.{loaded}
+use Rattle.block_fault.specs.Bits.{mode_at, is_void, header_at, endpoint_at, weight_at}
 use Rattle.footprint.specs.Footprint.{is_volume}
 use Rattle.void_extent.specs.Layout.{colour_at, extent_at}
 use Rattle.block_fault.specs.Faults.{fault_of}
-use Rattle.block_header.proofs.Stages.{stage_passed, stage_stopped}
-use Rattle.block_fault.proofs.Verdicts.{told_fault, told_void, told_coded}
-use Rattle.block_answer.specs.declared.Answer.TheVariants.{Refused, Faulty, Done}
+use Rattle.block_answer.specs.declared.Answer.TheVariants.{Refused, Faulty}
 use Rattle.block_answer.specs.Told.{number_told}
-use Rattle.block_fault.specs.inner.Stages.{stage_in}
 use Rattle.symbolic_block.specs.Reading.{mode_block, void_block, read_block}
 use Rattle.symbolic_block.proofs.Opened.{read_void, read_mode}
 use Rattle.spare_bits.specs.Spare.{spare_in, no_spare}
@@ -40,16 +31,16 @@ use Rattle.symbolic_reader.specs.declared.SymbolicReading.{SymbolicReading}
 -- ---- refusals one by one
 
 module _ (fp bytes : ℕ) where
-  pub unknown_footprint_lem : 23 < fp → Stopped 1 ≡ stage_of (read_refusal fp bytes)
-  unfolding read_refusal stage_of
+  pub unknown_footprint_lem : 23 < fp → 1 ≡ read_refusal fp bytes
+  unfolding read_refusal
   unknown_footprint_lem h = rw (lt-ltb _ _ h)
 
-  pub not_sixteen : fp ≤ 23 → (bytes ≡ 16 → ⊥) → Stopped 4 ≡ stage_of (read_refusal fp bytes)
-  unfolding read_refusal stage_of
+  pub not_sixteen : fp ≤ 23 → (bytes ≡ 16 → ⊥) → 4 ≡ read_refusal fp bytes
+  unfolding read_refusal
   not_sixteen k h = rw (le-ltb _ _ k, ne_eqb _ _ h)
 
-  pub accepted : fp ≤ 23 → bytes ≡ 16 → Passed ≡ stage_of (read_refusal fp bytes)
-  unfolding read_refusal stage_of
+  pub accepted : fp ≤ 23 → bytes ≡ 16 → 0 ≡ read_refusal fp bytes
+  unfolding read_refusal
   accepted k h = rw (le-ltb _ _ k, eq-eqb _ _ h)
 
 -- ---- the numbers of a sequence, 0 past the last
@@ -72,44 +63,39 @@ first_numbers e b v n = tab_ext _ _ (stored 0) 18 (λ i h. number_at e b v n i (
 -- ---- the reading of bytes that are not refused, stage by stage
 
 module _ (fp B : ℕ) where
-  pub fault_reading : (n : ℕ) → verdict_of true fp B ≡ verdict.Fault n → nothing (Faulty n) ≡ reading_in fp B
+  pub fault_reading : (n : ℕ) → fault_of true fp B ≡ n → (fault_of true fp B ≡ 0 → ⊥) → nothing (Faulty n) ≡ reading_in fp B
   unfolding reading_in
-  fault_reading n e =
-      let k = told_fault true fp B n e in
-      rw (ne_eqb (fault_of true fp B) 0 k.1, k.0)
+  fault_reading n e h = rw (ne_eqb (fault_of true fp B) 0 h, e)
 
-  pub void_reading : verdict_of true fp B ≡ verdict.VoidExtent → done_with (void_block (field B 9 1) (colour_at B) (extent_at (is_volume fp) B)) no_spare ≡ reading_in fp B
+  pub void_reading : fault_of true fp B ≡ 0 → is_void (mode_at fp B) ≡ true → done_with (void_block (field B 9 1) (colour_at B) (extent_at (is_volume fp) B)) no_spare ≡ reading_in fp B
   unfolding reading_in void_block
-  void_reading e =
-      let k = told_void true fp B e in
-      rw (eq-eqb (fault_of true fp B) 0 k.0, read_void fp B k.1)
+  void_reading e v = rw (eq-eqb (fault_of true fp B) 0 e, read_void fp B v)
 
-  pub coded_reading : verdict_of true fp B ≡ verdict.Coded → done_with (mode_block (header_at fp B) (endpoint_at B (header_at fp B)) (weight_at B (header_at fp B))) (spare_in B (header_at fp B)) ≡ reading_in fp B
+  pub coded_reading : fault_of true fp B ≡ 0 → is_void (mode_at fp B) ≡ false → done_with (mode_block (header_at fp B) (endpoint_at B (header_at fp B)) (weight_at B (header_at fp B))) (spare_in B (header_at fp B)) ≡ reading_in fp B
   unfolding reading_in mode_block
-  coded_reading e =
-      let k = told_coded true fp B e in
-      rw (eq-eqb (fault_of true fp B) 0 k.0, read_mode fp B k.1)
+  coded_reading e v = rw (eq-eqb (fault_of true fp B) 0 e, read_mode fp B v)
 
 module _ (fp : ℕ) (s : List ℕ) where
   -- a refusal at once with its number
-  pub stopped_reading : (n : ℕ) → stage_of (read_refusal fp (length s)) ≡ Stopped n → nothing (Refused n) ≡ reading_of fp s
+  pub stopped_reading : (n : ℕ) → read_refusal fp (length s) ≡ n → (read_refusal fp (length s) ≡ 0 → ⊥) → nothing (Refused n) ≡ reading_of fp s
   unfolding reading_of
-  stopped_reading n e =
-      let k = stage_stopped (read_refusal fp (length s)) n e in
-      rw (ne_eqb (read_refusal fp (length s)) 0 k.1, k.0)
+  stopped_reading n e h = rw (ne_eqb (read_refusal fp (length s)) 0 h, e)
+
+  sixteen : read_refusal fp (length s) ≡ 0 → length s ≡ 16
+  unfolding read_refusal
+  sixteen e = go (ltb 23 fp) (eqb (length s) 16) refl e where
+    go : (a b : Bool) → eqb (length s) 16 ≡ b → ◌≡◌ {A = ℕ} (pick a 1 (pick (not b) 4 0)) 0 → length s ≡ 16
+    go true b q r = absurd (omega (arith, r))
+    go false false q r = absurd (omega (arith, r))
+    go false true q r = eqb-true _ _ q
 
   -- otherwise the bytes are sixteen, and their number is read
-  pub passed_reading : stage_of (read_refusal fp (length s)) ≡ Passed → reading_in fp (number_of s) ≡ reading_of fp s
+  pub whole_reading : 0 ≡ read_refusal fp (length s) → reading_in fp (number_of s) ≡ reading_of fp s
   unfolding reading_of
-  passed_reading e = rw (eq-eqb _ 0 (stage_passed _ e))
+  whole_reading e = rw (eq-eqb _ 0 (sym e))
 
-  pub sixteen : stage_of (read_refusal fp (length s)) ≡ Passed → length s ≡ 16
-  unfolding read_refusal
-  sixteen e = go (ltb 23 fp) (eqb (length s) 16) refl (stage_passed _ e) where
-    go : (a b : Bool) → eqb (length s) 16 ≡ b → ◌≡◌ {A = ℕ} (pick a 1 (pick (not b) 4 0)) 0 → length s ≡ 16
-    go true b q r = absurd (omega arith)
-    go false false q r = absurd (omega arith)
-    go false true q r = eqb-true _ _ q
+  pub passed_reading : Bytes s → 0 ≡ read_refusal fp (length s) → {B : ℕ} → B ≡ field (number_of s) 0 128 → reading_in fp B ≡ reading_of fp s
+  passed_reading bytes e q = ap (reading_in fp) (q ∙ loaded s bytes (sixteen (sym e))) ∙ whole_reading e
 
   -- 01's number of the answer
   number_told_lem : number_told (reading_of fp s).answer ≡ read_told fp s
@@ -125,15 +111,3 @@ module _ (fp : ℕ) (s : List ℕ) where
   -- all that a call promises, from what it returns
   pub promised : (r : SymbolicReading) → r ≡ reading_of fp s → (r ≡ reading_of fp s) × (number_told r.answer ≡ read_told fp s)
   promised r e = (e, ap (λ (q : SymbolicReading). number_told q.answer) e ∙ number_told_lem)
-
--- ---- the verdict, by the stage of faults
-
-pub stopped_verdict : (v : Verdict) (n : ℕ) → stage_in v ≡ Stopped n → v ≡ verdict.Fault n
-stopped_verdict verdict.Coded n e = let z : ◌≡◌ {A = ℕ} 0 1 = cc in absurd (omega arith)
-stopped_verdict verdict.VoidExtent n e = let z : ◌≡◌ {A = ℕ} 0 1 = cc in absurd (omega arith)
-stopped_verdict (verdict.Fault m) n e = let q : m ≡ n = cc in ap verdict.Fault q
-
-pub coded_verdict : (v : Verdict) → stage_in v ≡ Passed → (v ≡ verdict.VoidExtent → ⊥) → v ≡ verdict.Coded
-coded_verdict verdict.Coded e h = refl
-coded_verdict verdict.VoidExtent e h = absurd (h refl)
-coded_verdict (verdict.Fault m) e h = let z : ◌≡◌ {A = ℕ} 0 1 = cc in absurd (omega arith)

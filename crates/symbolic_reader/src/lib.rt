@@ -7,19 +7,19 @@ ghost use Rattle.bits.specs.Field.{field};
 ghost use Rattle.bits.specs.Block.{block_number};
 ghost use Rattle.integer_sequence.specs.Reading.{stored};
 ghost use Rattle.block_header.specs.Counts.{weight_count, endpoint_count, endpoint_range_of};
-ghost use Rattle.block_header.specs.inner.Stages.{stage_of};
+ghost use Rattle.reason.specs.Numbers.{refusal_told};
 ghost use Rattle.block_answer.specs.Told.{number_told};
 ghost use Rattle.block_fault.specs.Bits.{endpoint_at, weight_at};
 ghost use Rattle.void_extent.specs.Layout.{colour_at, extent_at};
 ghost use Rattle.symbolic_block.specs.Reading.{mark_of, mode_block, void_block, zero_block};
 ghost use Rattle.symbolic_reader.specs.Answers.{read_refusal, reading_of, read_told, nothing, done_with};
-ghost use Rattle.symbolic_reader.specs.inner.Stages.{refused_at, faulty_at};
 
 use bits::PhysicalBlock;
 use block_answer::Answer;
-use block_fault::Verdict;
-use block_header::{BlockHeader, Stage};
+use block_fault::Contents;
+use block_header::BlockHeader;
 use encoding::Stored;
+use reason::Refusal;
 use spare_bits::Spare;
 use symbolic_block::SymbolicBlock;
 
@@ -75,34 +75,16 @@ fn read(block: SymbolicBlock, spare: Spare) -> SymbolicReading
 }
 
 // Refusals 1 and 4.
-fn check(fp: u8, bytes: usize) -> Stage
-    ensures { result ≡ stage_of (read_refusal fp bytes) }
+fn check(fp: u8, bytes: usize) -> Result<(), Refusal>
+    ensures { refusal_told result ≡ read_refusal fp bytes }
 {
     if 23 < fp {
-        return Stage::Stopped(1);
+        return Err(Refusal::Footprint);
     }
     if bytes != 16 {
-        return Stage::Stopped(4);
+        return Err(Refusal::Bytes);
     }
-    Stage::Passed
-}
-
-fn refused(s: Stage) -> Answer
-    ensures { result ≡ refused_at s }
-{
-    match s {
-        Stage::Passed => Answer::Done,
-        Stage::Stopped(n) => Answer::Refused(n),
-    }
-}
-
-fn faulty(s: Stage) -> Answer
-    ensures { result ≡ faulty_at s }
-{
-    match s {
-        Stage::Passed => Answer::Done,
-        Stage::Stopped(n) => Answer::Faulty(n),
-    }
+    Ok(())
 }
 
 fn colour(b: PhysicalBlock, i: u32) -> u16
@@ -166,10 +148,8 @@ fn first_18(xs: [Stored; 64]) -> [Stored; 18]
     ensures { result ≡ tab (λ i. get_or xs i (stored 0)) 18 }
 {
     let mut out = [Stored(0); 18];
-    let mut i: usize = 0;
-    while i < 18 {
+    for i in 0..18 {
         out[i] = xs[i];
-        i += 1;
     }
     out
 }
@@ -236,21 +216,17 @@ pub fn read_symbolic(fp: u8, block: &[u8]) -> SymbolicReading
     ensures value { result ≡ reading_of fp block.now }
     ensures answer_value { number_told result.answer ≡ read_told fp block.now }
 {
-    let stage = check(fp, block.len());
-    let Stage::Passed = stage else {
-        return told(refused(stage));
-    };
+    if let Err(refusal) = check(fp, block.len()) {
+        return told(Answer::Refused(refusal.into()));
+    }
     let b = bits::load(block);
     let volume = footprint::is_volume(fp);
-    let s = block_fault::read_settings(true, volume, b, fp);
-    let v = s.verdict;
-    let sound = block_fault::stage_in(v);
-    let Stage::Passed = sound else {
-        return told(faulty(sound));
-    };
-    if let Verdict::VoidExtent = v {
-        return read(void_block(volume, b), spare_bits::no_spare());
+    match block_fault::read_settings(true, volume, b, fp) {
+        Err(fault) => told(Answer::Faulty(fault.into())),
+        Ok(Contents::VoidExtent) => read(void_block(volume, b), spare_bits::no_spare()),
+        Ok(Contents::Coded(s)) => {
+            let spare = spare_bits::spare_in(b, s.header, s.numbers, s.range);
+            read(mode_block(b, s.header, s.numbers, s.range), spare)
+        }
     }
-    let spare = spare_bits::spare_in(b, s.header, s.numbers, s.range);
-    read(mode_block(b, s.header, s.numbers, s.range), spare)
 }

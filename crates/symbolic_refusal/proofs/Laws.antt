@@ -20,10 +20,12 @@ use Rattle.symbolic_block.specs.Refusals.{modes_misfit, bad_endpoints, bad_weigh
 use Rattle.laws.proofs.Reasons.{numbered}
 use Rattle.symbolic_refusal.specs.inner.Stages.{or_else, bad_grid, bad_partitioning, bad_lists, bad_fields, bad_shown, grid_in_use, partitioning_in_use, numbers_in_use, bad_void_fields, field_reasons, number_reasons, void_stages}
 
--- a reason in front
-pub or_pick : (b : Bool) (n m : ℕ) → T (ltb 0 n) → or_else (pick b n 0) m ≡ pick b n m
-or_pick true n m t = rw (ne_eqb n 0 (λ e. absurd (omega (arith, ltb→lt 0 n t))))
-or_pick false n m t = refl
+-- the first of two stages that does not pass is told
+pub or_first : (a b : ℕ) → (a ≡ 0 → ⊥) → or_else a b ≡ a
+or_first a b h = rw (ne_eqb a 0 h)
+
+pub or_next : (a b : ℕ) → 0 ≡ a → or_else a b ≡ b
+or_next a b e = rw (← e)
 
 -- the first told of two lists in a row
 pub first_append : (rs qs : List Reason) → T (numbered rs) → first_of (rs ++ qs) ≡ or_else (first_of rs) (first_of qs)
@@ -77,7 +79,3 @@ mode_stages fp s =
 pub void_stages_lem : (fp : ℕ) (s : SymbolicBlock) → first_of (void_stages fp s) ≡ first_of (void_refusals fp s)
 unfolding void_stages void_refusals bad_void_fields bad_shown grid_in_use partitioning_in_use numbers_in_use
 void_stages_lem fp s = simp joined
-
--- three reasons in a row
-pub three : (a b c : Bool) (k n m : ℕ) → T (ltb 0 k) → T (ltb 0 n) → or_else (pick a k 0) (or_else (pick b n 0) (pick c m 0)) ≡ pick a k (pick b n (pick c m 0))
-three a b c k n m p q = rw (or_pick b n (pick c m 0) q, or_pick a k (pick b n (pick c m 0)) p)

@@ -2,45 +2,21 @@
 #![tactic(auto)]
 
 ghost use Rattle.std.specs.Prelude.{◌≡◌, [], get_or};
-ghost use Rattle.laws.specs.Choice.{pick, both, either};
+ghost use Rattle.laws.specs.Choice.{pick};
+ghost use Rattle.reason.specs.Numbers.{refusal_told};
 ghost use Rattle.block_header.specs.Reasons.{grid_reasons};
 ghost use Rattle.laws.specs.Reasons.{first_of};
 ghost use Rattle.footprint.specs.Footprint.{is_volume};
 ghost use Rattle.void_extent.specs.Layout.{bad_extents};
 ghost use Rattle.symbolic_block.specs.Fields.{sheet_grid, header_of, stored_in};
 ghost use Rattle.symbolic_block.specs.Refusals.{unknown_footprint, outside, within, no_block_mode, misfit, modes_misfit, bad_grid_depth, bad_extent_fields, bad_component, bad_index, bad_selector, bad_endpoints, bad_weights, marked_without, mode_refusals, void_refusals, refusal_of};
-ghost use Rattle.symbolic_refusal.specs.inner.Stages.{or_else, bad_grid, bad_partitioning, bad_lists, bad_fields, bad_shown, grid_in_use, partitioning_in_use, numbers_in_use, bad_void_fields, field_reasons, number_reasons};
+ghost use Rattle.symbolic_refusal.specs.inner.Stages.{bad_grid, bad_partitioning, bad_lists, bad_fields, bad_shown, grid_in_use, partitioning_in_use, numbers_in_use, bad_void_fields, field_reasons, number_reasons};
 
 use block_header::BlockHeader;
-use block_mode::{FoundMode, WeightGrid};
+use block_mode::WeightGrid;
 use encoding::Stored;
+use reason::{Fault, Refusal};
 use symbolic_block::SymbolicBlock;
-
-fn both(a: bool, b: bool) -> bool
-    ensures { result ≡ both a b }
-{
-    if a { b } else { false }
-}
-
-fn either(a: bool, b: bool) -> bool
-    ensures { result ≡ either a b }
-{
-    if a { true } else { b }
-}
-
-// The number of a reason that holds, 0 where it does not.
-fn told(holds: bool, number: u8) -> u8
-    ensures { result ≡ pick holds number 0 }
-{
-    if holds { number } else { 0 }
-}
-
-// The first of two told numbers.
-fn first(a: u8, b: u8) -> u8
-    ensures { result ≡ or_else a b }
-{
-    if a == 0 { b } else { a }
-}
 
 fn wide(x: u8) -> u16
     ensures { result ≡ x }
@@ -64,7 +40,7 @@ fn unknown_footprint(fp: u8) -> bool
 fn outside(low: u8, high: u8, x: u8) -> bool
     ensures { result ≡ outside low high x }
 {
-    either(x < low, high < x)
+    (x < low) | (high < x)
 }
 
 // What a field may be at most by a test.
@@ -76,22 +52,14 @@ fn most_by(test: bool, yes: u16, no: u16) -> u16
 
 // ---- lists: the first n numbers are at most `most`, the others 0
 
-fn six_within(xs: [u16; 6], n: usize, most: u16) -> bool
-    ensures { result ≡ within 6 n most (λ k. get_or xs k 0) }
+fn within<const N: usize>(xs: &[u16; N], n: usize, most: u16) -> bool
+    ensures { result ≡ within N n most (λ k. get_or xs.now k 0) }
 {
     let mut ok = true;
-    let mut i: usize = 0;
-    while i < 6 {
-        ok = both(xs[i] <= most_by(i < n, most, 0), ok);
-        i += 1;
+    for i in 0..N {
+        ok = (xs[i] <= most_by(i < n, most, 0)) & ok;
     }
     ok
-}
-
-fn four_within(xs: [u16; 4], n: usize, most: u16) -> bool
-    ensures { result ≡ within 4 n most (λ k. get_or xs k 0) }
-{
-    six_within([xs[0], xs[1], xs[2], xs[3], 0, 0], n, most)
 }
 
 fn modes_within(modes: [u8; 4], n: usize, most: u16) -> bool
@@ -101,31 +69,15 @@ fn modes_within(modes: [u8; 4], n: usize, most: u16) -> bool
     let m1 = wide(modes[1]);
     let m2 = wide(modes[2]);
     let m3 = wide(modes[3]);
-    four_within([m0, m1, m2, m3], n, most)
+    within(&[m0, m1, m2, m3], n, most)
 }
 
-fn endpoints_within(xs: [Stored; 18], n: usize, most: u16) -> bool
-    ensures { result ≡ within 18 n most (stored_in xs) }
+fn stored_within<const N: usize>(xs: &[Stored; N], n: usize, most: u16) -> bool
+    ensures { result ≡ within N n most (stored_in xs.now) }
 {
     let mut ok = true;
-    let mut i: usize = 0;
-    while i < 18 {
-        let x = xs[i];
-        ok = both(wide(x.0) <= most_by(i < n, most, 0), ok);
-        i += 1;
-    }
-    ok
-}
-
-fn weights_within(xs: [Stored; 64], n: usize, most: u16) -> bool
-    ensures { result ≡ within 64 n most (stored_in xs) }
-{
-    let mut ok = true;
-    let mut i: usize = 0;
-    while i < 64 {
-        let x = xs[i];
-        ok = both(wide(x.0) <= most_by(i < n, most, 0), ok);
-        i += 1;
+    for i in 0..N {
+        ok = (wide(xs[i].0) <= most_by(i < n, most, 0)) & ok;
     }
     ok
 }
@@ -148,10 +100,7 @@ fn bad_grid(fp: u8, s: SymbolicBlock) -> bool
     let height = outside(2, 12, s.height);
     let depth = bad_depth(fp, s);
     let planes = outside(1, 2, s.planes);
-    either(
-        width,
-        either(height, either(depth, either(11 < s.range, planes))),
-    )
+    width | (height | (depth | ((11 < s.range) | planes)))
 }
 
 fn bad_component(s: SymbolicBlock) -> bool
@@ -178,10 +127,7 @@ fn bad_partitioning(s: SymbolicBlock) -> bool
     let partitions = outside(1, 4, s.partitions);
     let index = bad_index(s);
     let selector = bad_selector(s);
-    either(
-        bad_component(s),
-        either(partitions, either(index, selector)),
-    )
+    bad_component(s) | (partitions | (index | selector))
 }
 
 fn bad_lists(s: SymbolicBlock) -> bool
@@ -191,9 +137,9 @@ fn bad_lists(s: SymbolicBlock) -> bool
     let c = s.colours;
     let e = s.extents;
     let modes = modes_within(m, s.partitions as usize, 15);
-    let colours = four_within(c, 0, 0);
-    let extents = six_within(e, 0, 0);
-    either(!modes, either(!colours, !extents))
+    let colours = within(&c, 0, 0);
+    let extents = within(&e, 0, 0);
+    !modes | (!colours | !extents)
 }
 
 fn bad_fields(fp: u8, s: SymbolicBlock) -> bool
@@ -202,10 +148,7 @@ fn bad_fields(fp: u8, s: SymbolicBlock) -> bool
     let grid = bad_grid(fp, s);
     let partitioning = bad_partitioning(s);
     let lists = bad_lists(s);
-    either(
-        1 < s.mark,
-        either(1 < s.hdr, either(grid, either(partitioning, lists))),
-    )
+    (1 < s.mark) | ((1 < s.hdr) | (grid | (partitioning | lists)))
 }
 
 // ---- the settings
@@ -241,31 +184,34 @@ fn header_of(s: SymbolicBlock) -> BlockHeader
 fn no_block_mode(g: WeightGrid) -> bool
     ensures { result ≡ no_block_mode g }
 {
-    let bits = volume_mode::block_mode_of(g);
-    match bits {
-        FoundMode::Mode(_) => false,
-        FoundMode::NoMode => true,
-    }
+    volume_mode::block_mode_of(g).is_none()
 }
 
 // 1, 31 and 32
-fn field_refusal(fp: u8, s: SymbolicBlock) -> u8
-    ensures { result ≡ first_of (field_reasons fp s) }
+fn field_refusal(fp: u8, s: SymbolicBlock) -> Result<(), Refusal>
+    ensures { refusal_told result ≡ first_of (field_reasons fp s) }
 {
-    let footprint = told(unknown_footprint(fp), 1);
-    let fields = told(bad_fields(fp, s), 31);
-    let mode = told(no_block_mode(grid_of(s)), 32);
-    first(footprint, first(fields, mode))
+    if unknown_footprint(fp) {
+        return Err(Refusal::Footprint);
+    }
+    if bad_fields(fp, s) {
+        return Err(Refusal::Field);
+    }
+    if no_block_mode(grid_of(s)) {
+        return Err(Refusal::BlockMode);
+    }
+    Ok(())
 }
 
 // 14 to 17
-fn grid_refusal(fp: u8, h: BlockHeader) -> u8
-    ensures { result ≡ first_of (grid_reasons fp h []) }
+fn grid_refusal(fp: u8, h: BlockHeader) -> Result<(), Refusal>
+    ensures { refusal_told result ≡ first_of (grid_reasons fp h []) }
 {
-    let g = h.grid;
-    let grid = block_header::grid_fault(fp, g);
-    let planes = told(both(g.planes == 2, h.partitions == 4), 17);
-    first(grid, planes)
+    block_header::grid_fault(fp, h.grid)?;
+    if (h.grid.planes == 2) & (h.partitions == 4) {
+        return Err(Refusal::Faulty(Fault::FourWithTwoPlanes));
+    }
+    Ok(())
 }
 
 // ---- 33
@@ -284,7 +230,7 @@ fn misfit(selector: u8, start: u8, mode: u8) -> bool
         return mode != start;
     }
     let class = mode / 4;
-    !either(class == selector - 1, class == selector)
+    !((class == selector - 1) | (class == selector))
 }
 
 fn modes_misfit(h: BlockHeader) -> bool
@@ -293,15 +239,10 @@ fn modes_misfit(h: BlockHeader) -> bool
     let modes = h.modes;
     let count = h.partitions as usize;
     let mut bad = false;
-    let mut p: usize = 0;
-    while p < count {
-        bad = either(
-            misfit(h.selector, mode_at(modes, 0), mode_at(modes, p)),
-            bad,
-        );
-        p += 1;
+    for p in 0..count {
+        bad = misfit(h.selector, mode_at(modes, 0), mode_at(modes, p)) | bad;
     }
-    both(1 < h.partitions, bad)
+    (1 < h.partitions) & bad
 }
 
 // ---- 34
@@ -313,7 +254,7 @@ fn bad_endpoints(s: SymbolicBlock) -> bool
     let count = block_header::endpoint_count(h) as usize;
     let most = wide(quantization::most_at(block_header::endpoint_range_of(h)));
     let e = s.endpoints;
-    !endpoints_within(e, count, most)
+    !stored_within(&e, count, most)
 }
 
 fn bad_weights(s: SymbolicBlock) -> bool
@@ -322,7 +263,7 @@ fn bad_weights(s: SymbolicBlock) -> bool
     let count = block_header::weight_count(grid_of(s)) as usize;
     let most = wide(quantization::most_at(s.range));
     let w = s.weights;
-    !weights_within(w, count, most)
+    !stored_within(&w, count, most)
 }
 
 // ---- 35
@@ -331,29 +272,34 @@ fn marked_without(s: SymbolicBlock) -> bool
     ensures { result ≡ marked_without s }
 {
     let hdr = block_header::some_hdr(header_of(s));
-    both(s.hdr == 1, !hdr)
+    (s.hdr == 1) & !hdr
 }
 
 // 34, then 35
-fn number_refusal(s: SymbolicBlock) -> u8
-    ensures { result ≡ first_of (number_reasons s) }
+fn number_refusal(s: SymbolicBlock) -> Result<(), Refusal>
+    ensures { refusal_told result ≡ first_of (number_reasons s) }
 {
-    let numbers = told(either(bad_endpoints(s), bad_weights(s)), 34);
-    let mark = told(marked_without(s), 35);
-    first(numbers, mark)
+    if bad_endpoints(s) | bad_weights(s) {
+        return Err(Refusal::Numbers);
+    }
+    if marked_without(s) {
+        return Err(Refusal::HdrMark);
+    }
+    Ok(())
 }
 
-// 1; 31; 32; 14 to 17; 33; 18; 19; 20; 34, and 35 of 02, i
-fn mode_refusal(fp: u8, s: SymbolicBlock) -> u8
-    ensures { result ≡ first_of (mode_refusals fp s) }
+// 1; 31; 32; 14 to 17; 33; 18; 19; 20; 34, and 35
+fn mode_refusal(fp: u8, s: SymbolicBlock) -> Result<(), Refusal>
+    ensures { refusal_told result ≡ first_of (mode_refusals fp s) }
 {
     let h = header_of(s);
-    let fields = field_refusal(fp, s);
-    let grid = grid_refusal(fp, h);
-    let modes = told(modes_misfit(h), 33);
-    let ends = block_header::endpoint_fault(s.hdr == 1, h);
-    let numbers = number_refusal(s);
-    first(fields, first(grid, first(modes, first(ends, numbers))))
+    field_refusal(fp, s)?;
+    grid_refusal(fp, h)?;
+    if modes_misfit(h) {
+        return Err(Refusal::Modes);
+    }
+    block_header::endpoint_fault(s.hdr == 1, h)?;
+    number_refusal(s)
 }
 
 // ---- void extents
@@ -363,39 +309,30 @@ fn bad_extent_fields(fp: u8, s: SymbolicBlock) -> bool
 {
     let e = s.extents;
     if footprint::is_volume(fp) {
-        return !six_within(e, 6, 511);
+        return !within(&e, 6, 511);
     }
-    !six_within(e, 4, 8191)
+    !within(&e, 4, 8191)
 }
 
 fn bad_shown(fp: u8, s: SymbolicBlock) -> bool
     ensures { result ≡ bad_shown fp s }
 {
     let c = s.colours;
-    let colours = four_within(c, 4, 65535);
+    let colours = within(&c, 4, 65535);
     let extents = bad_extent_fields(fp, s);
-    either(1 < s.hdr, either(!colours, extents))
+    (1 < s.hdr) | (!colours | extents)
 }
 
 fn grid_in_use(s: SymbolicBlock) -> bool
     ensures { result ≡ grid_in_use s }
 {
-    either(
-        0 < s.width,
-        either(
-            0 < s.height,
-            either(0 < s.depth, either(0 < s.range, 0 < s.planes)),
-        ),
-    )
+    (0 < s.width) | ((0 < s.height) | ((0 < s.depth) | ((0 < s.range) | (0 < s.planes))))
 }
 
 fn partitioning_in_use(s: SymbolicBlock) -> bool
     ensures { result ≡ partitioning_in_use s }
 {
-    either(
-        0 < s.component,
-        either(0 < s.partitions, either(0 < s.index, 0 < s.selector)),
-    )
+    (0 < s.component) | ((0 < s.partitions) | ((0 < s.index) | (0 < s.selector)))
 }
 
 fn numbers_in_use(s: SymbolicBlock) -> bool
@@ -405,9 +342,9 @@ fn numbers_in_use(s: SymbolicBlock) -> bool
     let e = s.endpoints;
     let w = s.weights;
     let modes = modes_within(m, 0, 0);
-    let endpoints = endpoints_within(e, 0, 0);
-    let weights = weights_within(w, 0, 0);
-    either(!modes, either(!endpoints, !weights))
+    let endpoints = stored_within(&e, 0, 0);
+    let weights = stored_within(&w, 0, 0);
+    !modes | (!endpoints | !weights)
 }
 
 fn bad_void_fields(fp: u8, s: SymbolicBlock) -> bool
@@ -417,7 +354,7 @@ fn bad_void_fields(fp: u8, s: SymbolicBlock) -> bool
     let grid = grid_in_use(s);
     let partitioning = partitioning_in_use(s);
     let numbers = numbers_in_use(s);
-    either(shown, either(grid, either(partitioning, numbers)))
+    shown | (grid | (partitioning | numbers))
 }
 
 // 12
@@ -433,20 +370,25 @@ fn bad_extents(fp: u8, e: [u16; 6]) -> bool
     void_extent::bad_extents(footprint::is_volume(fp), s0, s1, t0, t1, r0, r1)
 }
 
-// "A solid sheet is refused by 1, 31, 12 only, 31 also for any unused number."
-fn void_refusal(fp: u8, s: SymbolicBlock) -> u8
-    ensures { result ≡ first_of (void_refusals fp s) }
+// A void extent is refused by 1, 31 and 12 only, by 31 also for any number that it does not use.
+fn void_refusal(fp: u8, s: SymbolicBlock) -> Result<(), Refusal>
+    ensures { refusal_told result ≡ first_of (void_refusals fp s) }
 {
-    let footprint = told(unknown_footprint(fp), 1);
-    let fields = told(bad_void_fields(fp, s), 31);
-    let e = s.extents;
-    let extents = told(bad_extents(fp, e), 12);
-    first(footprint, first(fields, extents))
+    if unknown_footprint(fp) {
+        return Err(Refusal::Footprint);
+    }
+    if bad_void_fields(fp, s) {
+        return Err(Refusal::Field);
+    }
+    if bad_extents(fp, s.extents) {
+        return Err(Refusal::Faulty(Fault::VoidExtent));
+    }
+    Ok(())
 }
 
-// The refusal of a symbolic block at a footprint, 0 for none.
-pub fn refusal(fp: u8, s: SymbolicBlock) -> u8
-    ensures { result ≡ refusal_of fp s }
+// The refusal of a symbolic block at a footprint, where it is not acceptable.
+pub fn refusal(fp: u8, s: SymbolicBlock) -> Result<(), Refusal>
+    ensures { refusal_told result ≡ refusal_of fp s }
 {
     if s.mark == 1 {
         return void_refusal(fp, s);

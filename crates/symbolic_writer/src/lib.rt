@@ -18,7 +18,7 @@ ghost use Rattle.symbolic_writer.specs.inner.Piled.{with_value, piled, extent_ce
 
 use bits::PhysicalBlock;
 use block_header::BlockHeader;
-use block_mode::{FoundMode, WeightGrid};
+use block_mode::WeightGrid;
 use encoding::Stored;
 use symbolic_block::SymbolicBlock;
 
@@ -72,11 +72,7 @@ fn header_of(s: SymbolicBlock) -> BlockHeader
 fn mode_number(g: WeightGrid) -> u64
     ensures { result ≡ mode_number (block_mode_of g) }
 {
-    let m = volume_mode::block_mode_of(g);
-    match m {
-        FoundMode::Mode(bits) => wide16(bits),
-        FoundMode::NoMode => 0,
-    }
+    volume_mode::block_mode_of(g).map_or(0, wide16)
 }
 
 fn power(i: u32) -> u64
@@ -108,12 +104,10 @@ fn modes_code(h: BlockHeader) -> u64
     let count = h.partitions as u32;
     let mut classes: u64 = 0;
     let mut lows: u64 = 0;
-    let mut i: u32 = 0;
-    while i < count {
+    for i in 0..count {
         let m = wide(modes[i as usize]);
         classes = class_bit(selector, m) * power(i) + classes;
         lows = (m % 4) * power(2 * i) + lows;
-        i += 1;
     }
     lows * power(count) + classes
 }
@@ -163,11 +157,8 @@ fn lengthened(xs: [Stored; 18]) -> [Stored; 64]
     ensures { result ≡ padded 64 18 (λ i. get_or xs i (stored 0)) (stored 0) }
 {
     let mut out = no_numbers();
-    let mut i: usize = 0;
-    while i < 18 {
-        let x = xs[i];
-        out[i] = x;
-        i += 1;
+    for i in 0..18 {
+        out[i] = xs[i];
     }
     out
 }

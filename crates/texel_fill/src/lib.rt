@@ -37,10 +37,8 @@ fn few_numbers(t: Texel, at: usize, n: usize, out: &mut [u16])
     requires { (n ≤ 3) × (at + 4 * n ≤ length out.old) }
     ensures { Pasted (shown_of Unorm16) (everywhere t) 0 (4 * n) out.old at out.new }
 {
-    let mut i: usize = 0;
-    while i < n {
+    for i in 0..n {
         put_numbers(out, at + 4 * i, t);
-        i += 1;
     }
 }
 
@@ -76,7 +74,8 @@ fn byte_word(t: Texel) -> u32
     r + 256 * g + 65536 * b + 16777216 * a
 }
 
-// The four bytes of a number at place i, as one store.
+// The four bytes of a number at place i, as one store. From here on bytes stand beside 16-bit numbers: `Pasted` speaks of lists of numbers,
+// and the elements of a slice of a type parameter are none.
 fn put_bytes(out: &mut [u8], i: usize, w: u32)
     requires { i + 4 ≤ length out.old }
     ensures { out.new ≡ put_four out.old i (w % 256) (w / 256 % 256) (w / 65536 % 256) (w / 16777216) }
@@ -104,10 +103,8 @@ fn few_bytes(t: Texel, at: usize, n: usize, out: &mut [u8])
     requires { (n ≤ 3) × (at + 4 * n ≤ length out.old) }
     ensures { Pasted (shown_of Srgb8) (everywhere t) 0 (4 * n) out.old at out.new }
 {
-    let mut i: usize = 0;
-    while i < n {
+    for i in 0..n {
         put_bytes(out, at + 4 * i, byte_word(t));
-        i += 1;
     }
 }
 

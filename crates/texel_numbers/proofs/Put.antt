@@ -1,13 +1,13 @@
 -- What is told and put, test by test.
 -- Assumes nothing.
-use mathlib.Core.Path.{◌≡◌, refl, sym, ap, ◌∙◌}
+use mathlib.Core.Path.{◌≡◌, refl, ◌∙◌}
 use mathlib.Core.List.{List, [], ◌∷◌}
 use Prim.Native.Nat.{ℕ}
 use native.Mathlib.Omega.{arith}
-use lib.ListN.{length, set}
+use lib.ListN.{length}
 use borrow.Author.Tests.{eq-eqb, ne_eqb}
 use Rattle.laws.specs.inner.Filled.{put_four}
-use Rattle.image_texel.specs.declared.Asked.{Asked}
+use Rattle.image_texel.specs.Asking.{Asked}
 use Rattle.texel_numbers.specs.Calls.{texel_told, texel_out}
 
 module _ (a : Asked) (n : ℕ) where

@@ -2,7 +2,7 @@
 -- Assumes nothing.
 use Rattle.std.specs.Prelude.{ℕ, List, [], ◌∷◌, eqb, length}
 use Rattle.laws.specs.Choice.{pick}
-use Rattle.image_texel.specs.declared.Asked.{Asked}
+use Rattle.image_texel.specs.Asking.{Asked}
 
 -- the number told, with so many places: 44; 5 where they are not four; else the fault of the texel's block, 0 for none
 unfoldable pub texel_told : Asked → ℕ → ℕ

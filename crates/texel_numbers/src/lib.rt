@@ -1,33 +1,46 @@
-// One texel of an image (02, f) into a lent list of four numbers, for callers without structs.
+// One texel of an image into a lent list of four numbers, for callers without structs.
 #![tactic(auto)]
 
 ghost use Rattle.std.specs.Prelude.{◌≡◌, ◌≤◌, length};
 ghost use Rattle.interpolation.specs.declared.Kind.TheVariants.{Srgb8};
-ghost use Rattle.image_texel.specs.Asking.{asked_at};
+ghost use Rattle.image_texel.specs.Asking.{asked_of, asked_at};
 ghost use Rattle.texel_numbers.specs.Calls.{texel_told, texel_out};
 
-use image_texel::Asked;
-use interpolation::Kind;
+use interpolation::{Kind, Texel};
+use one_texel::OneTexel;
+use reason::Refusal;
 
-// The number told: 44, then 5 for a list that is not of four, then the block's fault.
-fn told(a: Asked, places: usize) -> u8
-    ensures { result ≡ texel_told a places }
+// The number told: the refusal, then 5 for a list that is not of four, then the block's fault.
+fn told(answer: Result<OneTexel, Refusal>, places: usize) -> u8
+    ensures { result ≡ texel_told (asked_of answer) places }
 {
-    let refusal = a.refusal;
-    if refusal != 0 {
-        return refusal;
+    match answer {
+        Err(refusal) => refusal.into(),
+        Ok(_) if places != 4 => 5,
+        Ok(t) => t.fault,
     }
-    if places != 4 {
-        return 5;
+}
+
+// The texel told, four zeros on a refusal.
+fn texel_of(answer: Result<OneTexel, Refusal>) -> Texel
+    ensures { result ≡ (asked_of answer).texel }
+{
+    match answer {
+        Err(_) => Texel {
+            r: 0,
+            g: 0,
+            b: 0,
+            a: 0,
+        },
+        Ok(t) => t.texel,
     }
-    a.fault
 }
 
 // The texel's four numbers into a list of four; another list stays as it was.
-fn put_words(a: Asked, out: &mut [u16])
-    ensures { out.new ≡ texel_out a out.old }
+fn put_words(answer: Result<OneTexel, Refusal>, out: &mut [u16])
+    ensures { out.new ≡ texel_out (asked_of answer) out.old }
 {
-    let t = a.texel;
+    let t = texel_of(answer);
     if out.len() == 4 {
         out[0] = t.r;
         out[1] = t.g;
@@ -36,11 +49,11 @@ fn put_words(a: Asked, out: &mut [u16])
     }
 }
 
-fn put_bytes(a: Asked, out: &mut [u8])
-    requires { (a.texel.r ≤ 255) × (a.texel.g ≤ 255) × (a.texel.b ≤ 255) × (a.texel.a ≤ 255) }
-    ensures { out.new ≡ texel_out a out.old }
+fn put_bytes(answer: Result<OneTexel, Refusal>, out: &mut [u8])
+    requires { let t = (asked_of answer).texel in (t.r ≤ 255) × (t.g ≤ 255) × (t.b ≤ 255) × (t.a ≤ 255) }
+    ensures { out.new ≡ texel_out (asked_of answer) out.old }
 {
-    let t = a.texel;
+    let t = texel_of(answer);
     let r = t.r as u8;
     let g = t.g as u8;
     let b = t.b as u8;
@@ -67,9 +80,9 @@ pub fn texel_words(
     ensures value { result ≡ texel_told (asked_at footprint width height blocks.now kind x y) (length out.old) }
     ensures out_after { out.new ≡ texel_out (asked_at footprint width height blocks.now kind x y) out.old }
 {
-    let a = image_texel::texel_at(blocks, footprint, width, height, kind, x, y);
-    let n = told(a, out.len());
-    put_words(a, out);
+    let answer = image_texel::texel_at(blocks, footprint, width, height, kind, x, y);
+    let n = told(answer, out.len());
+    put_words(answer, out);
     n
 }
 
@@ -86,8 +99,8 @@ pub fn texel_bytes(
     ensures value { result ≡ texel_told (asked_at footprint width height blocks.now Srgb8 x y) (length out.old) }
     ensures out_after { out.new ≡ texel_out (asked_at footprint width height blocks.now Srgb8 x y) out.old }
 {
-    let a = image_texel::asked_at(blocks, footprint, width, height, Kind::Srgb8, x, y);
-    let n = told(a, out.len());
-    put_bytes(a, out);
+    let answer = image_texel::asked_at(blocks, footprint, width, height, Kind::Srgb8, x, y);
+    let n = told(answer, out.len());
+    put_bytes(answer, out);
     n
 }

@@ -1,4 +1,4 @@
-// The text that the program `unpack` writes (01, "The program"), into a lent buffer.
+// The text that the program `unpack` writes, into a lent buffer.
 #![tactic(auto)]
 
 ghost use Rattle.std.specs.Prelude.{◌≡◌, ◌≤◌, ◌<◌, eqb, length, get_or};
@@ -8,24 +8,26 @@ ghost use Rattle.footprint.specs.Footprint.{width_of, texels_of};
 ghost use Rattle.interpolation.specs.Expansion.{shown_of};
 ghost use Rattle.line_text.specs.Lines.{texel_line, lines_of, text_over};
 ghost use Rattle.line_text.specs.inner.Written.{Puts};
+ghost use Rattle.reason.specs.Numbers.{refusal_told};
 ghost use Rattle.unpack_text.specs.Text.{block_text, program_refusal, program_text};
 
 use interpolation::Kind;
+use reason::Refusal;
 
-// The first refusal that holds, 0 for none.
-pub fn refusal(bytes: usize, fp: u8, kind: u8) -> u8
-    ensures { result ≡ program_refusal bytes fp kind }
+// Refuses another length than 18, then a footprint above 13, then a kind above 2.
+pub fn check(bytes: usize, fp: u8, kind: u8) -> Result<(), Refusal>
+    ensures { refusal_told result ≡ program_refusal bytes fp kind }
 {
     if bytes != 18 {
-        return 4;
+        return Err(Refusal::Bytes);
     }
     if 13 < fp {
-        return 1;
+        return Err(Refusal::Footprint);
     }
     if 2 < kind {
-        return 2;
+        return Err(Refusal::Kind);
     }
-    0
+    Ok(())
 }
 
 // The texels' lines, behind a text that ends at `from`.
@@ -37,10 +39,8 @@ fn put_texels(out: &mut [u8], from: usize, fp: u8, kind: Kind, numbers: &[u16; 8
     let width = footprint::width(fp);
     let count = footprint::texels(fp) as usize;
     let mut at = from;
-    let mut k: usize = 0;
-    while k < count {
+    for k in 0..count {
         at = line_text::put_texel(out, at, width, k, kind, numbers);
-        k += 1;
     }
     at
 }
@@ -72,9 +72,8 @@ pub fn program_text(input: &[u8], out: &mut [u8]) -> usize
     }
     let fp = input[0];
     let kind = input[1];
-    let refused = refusal(18, fp, kind);
-    if refused != 0 {
-        return line_text::put_told(out, b"refused", refused);
+    match check(18, fp, kind) {
+        Err(refusal) => line_text::put_told(out, b"refused", refusal.into()),
+        Ok(()) => put_block(out, fp, kind_number::kind_of(kind), &input[2..18]),
     }
-    put_block(out, fp, kind_number::kind_of(kind), &input[2..18])
 }

@@ -7,16 +7,14 @@ use mathlib.Core.List.{List}
 use lib.ListN.{length}
 use denote.Ref.{Bor}
 use Rattle.interpolation.specs.declared.Kind.{Kind}
-use Rattle.image_texel.specs.declared.Asked.{Asked}
-use Rattle.image_texel.specs.declared.Sides.{Sides}
-use Rattle.image_texel.specs.Making.{view_refusal, view_sides}
-use Rattle.image_texel.specs.Asking.{refused_asking, asked_at}
+use Rattle.image_texel.specs.Making.{MadeSides, view_refusal}
+use Rattle.image_texel.specs.Asking.{Asked, refused_asking, asked_at}
 use Rattle.image_texel.proofs.Ask.{sides_taken, sides_refused, no_sides}
 use Rattle.view.specs.View.{view_of}
 use Rattle.view.specs.Made.{asked, MadeViews}
 
 module _ (s : Bor (List ℕ)) (fp w h : ℕ) (kind : Kind) (x y : ℕ) where
-  abbrev by : Sides → Asked
+  abbrev by : MadeSides → Asked
   by m = asked_at fp m.width m.height s.now kind x y
 
   made_asked : view_refusal fp w h (length s.now) ≡ 0 → asked (view_of s fp w h) kind x y ≡ asked_at fp w h s.now kind x y
@@ -32,15 +30,15 @@ module _ (s : Bor (List ℕ)) (fp w h : ℕ) where
   told : (view_of s fp w h).refusal ≡ view_refusal fp w h (length s.now)
   unfolding view_of
   told = elim (ℕ_discrete (view_refusal fp w h (length s.now)) 0) [
-    | yes e ↦ ap (λ (m : Sides). m.refusal) (sides_taken (length s.now) fp w h e) ∙ sym e
-    | no e ↦ ap (λ (m : Sides). m.refusal) (sides_refused (length s.now) fp w h e)
+    | yes e ↦ ap (λ (m : MadeSides). m.refusal) (sides_taken (length s.now) fp w h e) ∙ sym e
+    | no e ↦ ap (λ (m : MadeSides). m.refusal) (sides_refused (length s.now) fp w h e)
   ]
 
   refused_sides : (view_refusal fp w h (length s.now) ≡ 0 → ⊥) → ((view_of s fp w h).width ≡ 0) × ((view_of s fp w h).height ≡ 0)
   unfolding view_of
   refused_sides e =
       let q = sides_refused (length s.now) fp w h e in
-      (ap (λ (m : Sides). m.width) q, ap (λ (m : Sides). m.height) q)
+      (ap (λ (m : MadeSides). m.width) q, ap (λ (m : MadeSides). m.height) q)
 
 pub made_views : MadeViews
 made_views = record { told = told; made_asked = made_asked; refused_sides = refused_sides; refused_asked = refused_asked }

@@ -4,14 +4,12 @@
 use Rattle.std.specs.Prelude.{◌≡◌, ℕ, List, length}
 use Rattle.std.specs.Borrow.{Bor}
 use Rattle.interpolation.specs.declared.Kind.{Kind}
-use Rattle.image_texel.specs.declared.Asked.{Asked}
 use Rattle.image_texel.specs.Making.{view_refusal}
-use Rattle.image_texel.specs.Asking.{refused_asking, asked_at}
-use Rattle.view.specs.declared.View.{View}
-use Rattle.view.specs.View.{view_of}
+use Rattle.image_texel.specs.Asking.{Asked, refused_asking, asked_at}
+use Rattle.view.specs.View.{MadeView, view_of}
 
 -- what a view is asked
-abbrev pub asked : View → Kind → ℕ → ℕ → Asked
+abbrev pub asked : MadeView → Kind → ℕ → ℕ → Asked
 asked v kind x y = asked_at v.footprint v.width v.height v.blocks.now kind x y
 
 pub record MadeViews : Type 0 where

@@ -1,15 +1,28 @@
 -- 02, f: "a view that keeps the lent blocks beside footprint and size".
 -- Assumes nothing.
-use Rattle.std.specs.Prelude.{ℕ, List, length}
+use Rattle.std.specs.Prelude.{ℕ, List, length, Result, Ok, Err}
 use Rattle.std.specs.Borrow.{Bor}
-use Rattle.image_texel.specs.declared.Sides.{Sides}
-use Rattle.image_texel.specs.Making.{view_sides}
+use Rattle.reason.specs.declared.Refusal.{Refusal}
+use Rattle.image_texel.specs.Making.{MadeSides, view_sides, sides_told}
 use Rattle.view.specs.declared.View.{View}
 
+-- what making tells: the lent blocks, the footprint, the sides, and the refusal, 0 for none
+pub record MadeView : Type 0 where
+  pub blocks : Bor (List ℕ)
+  pub footprint : ℕ
+  pub width : ℕ
+  pub height : ℕ
+  pub refusal : ℕ
+
 -- the view of these sides
-abbrev pub view_with : Bor (List ℕ) → ℕ → Sides → View
+abbrev pub view_with : Bor (List ℕ) → ℕ → MadeSides → MadeView
 view_with s fp m = record { blocks = s; footprint = fp; width = m.width; height = m.height; refusal = m.refusal }
 
 -- the view that making gives: its blocks and footprint as given, its sides and refusal as `view_sides` has them
-unfoldable pub view_of : Bor (List ℕ) → ℕ → ℕ → ℕ → View
+unfoldable pub view_of : Bor (List ℕ) → ℕ → ℕ → ℕ → MadeView
 view_of s fp w h = view_with s fp (view_sides (length s.now) fp w h)
+
+-- what is told by each case of the answer: a view that is made keeps the blocks and the footprint, a refused one has the sides of a refusal
+abbrev pub view_told : Bor (List ℕ) → ℕ → Result View Refusal → MadeView
+view_told s fp (Ok v) = record { blocks = v.blocks; footprint = v.footprint; width = v.width; height = v.height; refusal = 0 }
+view_told s fp (Err refusal) = view_with s fp (sides_told (Err refusal))

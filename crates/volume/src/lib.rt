@@ -1,4 +1,4 @@
-// The volume picture calls (02, h): blocks, x fastest, then y, then z, to the texels of a whole volume, in each kind, in the ordinary reading and in
+// The volume picture calls: blocks, x fastest, then y, then z, to the texels of a whole volume, in each kind, in the ordinary reading and in
 // the strict one.
 #![tactic(auto)]
 
@@ -14,13 +14,13 @@ ghost use Rattle.image_layout.specs.Call.{told_of};
 ghost use Rattle.volume_layout.specs.inner.Rows.{volume_picture};
 ghost use Rattle.volume_layout.specs.Numbers.{volume_numbers_in};
 ghost use Rattle.volume_layout.specs.Call.{volume_answer, volume_out, volume_told, volume_answer_in, volume_out_in, volume_told_in};
-ghost use Rattle.volume_layout.specs.inner.Checked.{checked_of};
 ghost use Rattle.volume_layout.specs.inner.Parts.{SoundGrid, volume_by_rows, PartFits, PlacedRows};
 
 use block_reading::Reading;
-use image_layout::{ImageAnswer, Tally};
+use image_layout::Tally;
 use interpolation::Kind;
-use volume_layout::{CheckedVolume, VolumeGrid, VolumePart};
+use reason::Refusal;
+use volume_layout::{VolumeGrid, VolumePart};
 
 // ---- kinds 0 and 2: 16-bit numbers
 
@@ -90,32 +90,6 @@ fn decode_numbers(reading: Reading, g: VolumeGrid, kind: Kind, s: &[u8], out: &m
     t
 }
 
-// A volume in a kind of 16-bit numbers, once it is checked.
-fn answer_numbers(
-    reading: Reading,
-    checked: CheckedVolume,
-    footprint: u8,
-    kind: Kind,
-    width: u32,
-    height: u32,
-    depth: u32,
-    blocks: &[u8],
-    out: &mut [u16],
-) -> ImageAnswer
-    requires words { Words kind }
-    requires checked_value { checked ≡ checked_of footprint width height depth (length blocks.now) (length out.old) }
-    ensures answer { result ≡ volume_answer_in reading footprint kind width height depth blocks.now (length out.old) }
-    ensures told { told_of result ≡ volume_told_in reading footprint kind width height depth blocks.now (length out.old) }
-    ensures volume { out.new ≡ volume_out_in reading footprint kind width height depth blocks.now out.old }
-{
-    match checked {
-        CheckedVolume::Rejected(e) => ImageAnswer::Refused(e),
-        CheckedVolume::Accepted(g) => ImageAnswer::Decoded(decode_numbers(
-            reading, g, kind, blocks, out,
-        )),
-    }
-}
-
 // A volume in a kind of 16-bit numbers, kinds 0 and 2, in a reading.
 pub fn decode_volume_words_in(
     reading: Reading,
@@ -126,16 +100,14 @@ pub fn decode_volume_words_in(
     depth: u32,
     blocks: &[u8],
     out: &mut [u16],
-) -> ImageAnswer
+) -> Result<Tally, Refusal>
     requires { Words kind }
-    ensures answer { result ≡ volume_answer_in reading fp kind width height depth blocks.now (length out.old) }
+    ensures answer { volume_answer_in reading fp kind width height depth blocks.now (length out.old) result }
     ensures told { told_of result ≡ volume_told_in reading fp kind width height depth blocks.now (length out.old) }
     ensures volume { out.new ≡ volume_out_in reading fp kind width height depth blocks.now out.old }
 {
-    let checked = volume_layout::check_volume(fp, width, height, depth, blocks.len(), out.len());
-    answer_numbers(
-        reading, checked, fp, kind, width, height, depth, blocks, out,
-    )
+    let g = volume_layout::check_volume(fp, width, height, depth, blocks.len(), out.len())?;
+    Ok(decode_numbers(reading, g, kind, blocks, out))
 }
 
 // ---- kind 1: bytes
@@ -203,28 +175,6 @@ fn decode_bytes(reading: Reading, g: VolumeGrid, s: &[u8], out: &mut [u8]) -> Ta
     t
 }
 
-// A volume in kind 1, once it is checked.
-fn answer_bytes(
-    reading: Reading,
-    checked: CheckedVolume,
-    footprint: u8,
-    width: u32,
-    height: u32,
-    depth: u32,
-    blocks: &[u8],
-    out: &mut [u8],
-) -> ImageAnswer
-    requires { checked ≡ checked_of footprint width height depth (length blocks.now) (length out.old) }
-    ensures answer { result ≡ volume_answer_in reading footprint Srgb8 width height depth blocks.now (length out.old) }
-    ensures told { told_of result ≡ volume_told_in reading footprint Srgb8 width height depth blocks.now (length out.old) }
-    ensures volume { out.new ≡ volume_out_in reading footprint Srgb8 width height depth blocks.now out.old }
-{
-    match checked {
-        CheckedVolume::Rejected(e) => ImageAnswer::Refused(e),
-        CheckedVolume::Accepted(g) => ImageAnswer::Decoded(decode_bytes(reading, g, blocks, out)),
-    }
-}
-
 // A volume in kind 1, in a reading.
 pub fn decode_volume_srgb8_in(
     reading: Reading,
@@ -234,13 +184,13 @@ pub fn decode_volume_srgb8_in(
     depth: u32,
     blocks: &[u8],
     out: &mut [u8],
-) -> ImageAnswer
-    ensures answer { result ≡ volume_answer_in reading fp Srgb8 width height depth blocks.now (length out.old) }
+) -> Result<Tally, Refusal>
+    ensures answer { volume_answer_in reading fp Srgb8 width height depth blocks.now (length out.old) result }
     ensures told { told_of result ≡ volume_told_in reading fp Srgb8 width height depth blocks.now (length out.old) }
     ensures volume { out.new ≡ volume_out_in reading fp Srgb8 width height depth blocks.now out.old }
 {
-    let checked = volume_layout::check_volume(fp, width, height, depth, blocks.len(), out.len());
-    answer_bytes(reading, checked, fp, width, height, depth, blocks, out)
+    let g = volume_layout::check_volume(fp, width, height, depth, blocks.len(), out.len())?;
+    Ok(decode_bytes(reading, g, blocks, out))
 }
 
 // ---- the calls
@@ -253,8 +203,8 @@ pub fn decode_volume_unorm16(
     depth: u32,
     blocks: &[u8],
     out: &mut [u16],
-) -> ImageAnswer
-    ensures answer { result ≡ volume_answer footprint Unorm16 width height depth blocks.now (length out.old) }
+) -> Result<Tally, Refusal>
+    ensures answer { volume_answer footprint Unorm16 width height depth blocks.now (length out.old) result }
     ensures told { told_of result ≡ volume_told footprint Unorm16 width height depth blocks.now (length out.old) }
     ensures volume { out.new ≡ volume_out footprint Unorm16 width height depth blocks.now out.old }
 {
@@ -278,8 +228,8 @@ pub fn decode_volume_srgb8(
     depth: u32,
     blocks: &[u8],
     out: &mut [u8],
-) -> ImageAnswer
-    ensures answer { result ≡ volume_answer footprint Srgb8 width height depth blocks.now (length out.old) }
+) -> Result<Tally, Refusal>
+    ensures answer { volume_answer footprint Srgb8 width height depth blocks.now (length out.old) result }
     ensures told { told_of result ≡ volume_told footprint Srgb8 width height depth blocks.now (length out.old) }
     ensures volume { out.new ≡ volume_out footprint Srgb8 width height depth blocks.now out.old }
 {
@@ -302,8 +252,8 @@ pub fn decode_volume_float16(
     depth: u32,
     blocks: &[u8],
     out: &mut [u16],
-) -> ImageAnswer
-    ensures answer { result ≡ volume_answer footprint Float16 width height depth blocks.now (length out.old) }
+) -> Result<Tally, Refusal>
+    ensures answer { volume_answer footprint Float16 width height depth blocks.now (length out.old) result }
     ensures told { told_of result ≡ volume_told footprint Float16 width height depth blocks.now (length out.old) }
     ensures volume { out.new ≡ volume_out footprint Float16 width height depth blocks.now out.old }
 {
@@ -329,8 +279,8 @@ pub fn decode_volume_unorm16_strict(
     depth: u32,
     blocks: &[u8],
     out: &mut [u16],
-) -> ImageAnswer
-    ensures answer { result ≡ volume_answer_in Strict footprint Unorm16 width height depth blocks.now (length out.old) }
+) -> Result<Tally, Refusal>
+    ensures answer { volume_answer_in Strict footprint Unorm16 width height depth blocks.now (length out.old) result }
     ensures told { told_of result ≡ volume_told_in Strict footprint Unorm16 width height depth blocks.now (length out.old) }
     ensures volume { out.new ≡ volume_out_in Strict footprint Unorm16 width height depth blocks.now out.old }
 {
@@ -354,8 +304,8 @@ pub fn decode_volume_srgb8_strict(
     depth: u32,
     blocks: &[u8],
     out: &mut [u8],
-) -> ImageAnswer
-    ensures answer { result ≡ volume_answer_in Strict footprint Srgb8 width height depth blocks.now (length out.old) }
+) -> Result<Tally, Refusal>
+    ensures answer { volume_answer_in Strict footprint Srgb8 width height depth blocks.now (length out.old) result }
     ensures told { told_of result ≡ volume_told_in Strict footprint Srgb8 width height depth blocks.now (length out.old) }
     ensures volume { out.new ≡ volume_out_in Strict footprint Srgb8 width height depth blocks.now out.old }
 {
@@ -378,8 +328,8 @@ pub fn decode_volume_float16_strict(
     depth: u32,
     blocks: &[u8],
     out: &mut [u16],
-) -> ImageAnswer
-    ensures answer { result ≡ volume_answer_in Strict footprint Float16 width height depth blocks.now (length out.old) }
+) -> Result<Tally, Refusal>
+    ensures answer { volume_answer_in Strict footprint Float16 width height depth blocks.now (length out.old) result }
     ensures told { told_of result ≡ volume_told_in Strict footprint Float16 width height depth blocks.now (length out.old) }
     ensures volume { out.new ≡ volume_out_in Strict footprint Float16 width height depth blocks.now out.old }
 {

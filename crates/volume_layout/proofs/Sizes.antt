@@ -14,11 +14,9 @@ use Rattle.block_core.proofs.Frames.{texels_by_layers}
 use Rattle.image_size.specs.Sides.{bad_side, blocks_across}
 use Rattle.image_size.proofs.Laws.{limit_le, within_limit, side_fine, across_le, across_pos}
 use Rattle.volume_layout.specs.declared.VolumeGrid.{VolumeGrid}
-use Rattle.volume_layout.specs.declared.CheckedVolume.{CheckedVolume}
-use Rattle.volume_layout.specs.declared.CheckedVolume.TheVariants.{Rejected, Accepted}
 use Rattle.volume_layout.specs.Numbers.{texels_in}
 use Rattle.volume_layout.specs.Call.{depth_limit, bad_depth, bad_sizes, blocks_of, volume_refusal}
-use Rattle.volume_layout.specs.inner.Checked.{volume_grid, checked_of}
+use Rattle.volume_layout.specs.inner.Grid.{volume_grid}
 use Rattle.volume_layout.specs.Sizes.{NeverWraps}
 use Rattle.volume_layout.specs.inner.Parts.{SoundGrid}
 use Rattle.image_layout.proofs.Sizes.{across_most}
@@ -84,14 +82,6 @@ module _ (fp w h d bytes places : ℕ) where
         pub refused_none : places ≡ 4 * texels_in w h d → volume_refusal fp w h d bytes places ≡ 0
         unfolding volume_refusal
         refused_none e = rw (le-ltb 23 fp a, b, eq-eqb bytes (16 * blocks_of fp w h d) c, eq-eqb places (4 * texels_in w h d) e)
-
-  pub rejected : (e : ℕ) → volume_refusal fp w h d bytes places ≡ e → (e ≡ 0 → ⊥) → checked_of fp w h d bytes places ≡ Rejected e
-  unfolding checked_of
-  rejected e r n = rw (r, ne_eqb e 0 n)
-
-  pub accepted : volume_refusal fp w h d bytes places ≡ 0 → checked_of fp w h d bytes places ≡ Accepted (volume_grid fp w h d)
-  unfolding checked_of
-  accepted r = rw r
 
 -- ---- counts
 
@@ -201,7 +191,7 @@ module _ (fp w h d : ℕ) {g : VolumeGrid} (e : g ≡ volume_grid fp w h d) wher
   unfolding texels_in volume_grid
   texel_count k = rw (k, e)
 
--- ---- the first stage by its two cases
+-- ---- what an accepted call is
 
 by_bool : {X : Type 0} (b : Bool) → (b ≡ true → X) → (b ≡ false → X) → X
 by_bool true f g = f refl
@@ -230,47 +220,17 @@ accept fp w h d n m z =
     ]
 
 module _ (fp w h d bytes places : ℕ) where
-  pub record Stopped (e : ℕ) : Type 0 where
-    pub told : volume_refusal fp w h d bytes places ≡ e
-    pub some : e ≡ 0 → ⊥
-
-  pub was_rejected : (e : ℕ) → checked_of fp w h d bytes places ≡ Rejected e → Stopped e
-  was_rejected e q =
-      elim (ℕ_discrete (volume_refusal fp w h d bytes places) 0) [
-        | yes z ↦
-            let k : ◌≡◌ {A = CheckedVolume} (Accepted (volume_grid fp w h d)) (Rejected e) = sym (accepted fp w h d bytes places z) ∙ q in
-            let z2 : ◌≡◌ {A = ℕ} 0 1 = cc in
-            absurd (omega arith)
-        | no z ↦
-            let k : ◌≡◌ {A = CheckedVolume} (Rejected (volume_refusal fp w h d bytes places)) (Rejected e) = sym (rejected fp w h d bytes places _ refl z) ∙ q in
-            let r : volume_refusal fp w h d bytes places ≡ e = cc in
-            record { told = r; some = λ s. z (r ∙ s) }
-      ]
-
   pub record Passed (g : VolumeGrid) : Type 0 where
-    pub none : volume_refusal fp w h d bytes places ≡ 0
-    pub layout : g ≡ volume_grid fp w h d
     pub is_sound : SoundGrid g
     pub exact_bytes : bytes ≡ 16 * (g.deep * g.down * g.across)
     pub exact_places : places ≡ 4 * (g.depth * g.height * g.width)
 
-  pub was_accepted : (g : VolumeGrid) → checked_of fp w h d bytes places ≡ Accepted g → Passed g
+  pub passed : (g : VolumeGrid) → volume_refusal fp w h d bytes places ≡ 0 → g ≡ volume_grid fp w h d → Passed g
   unfolding volume_grid blocks_of texels_in
-  was_accepted g q =
-      elim (ℕ_discrete (volume_refusal fp w h d bytes places) 0) [
-        | yes z ↦
-            let k : ◌≡◌ {A = CheckedVolume} (Accepted (volume_grid fp w h d)) (Accepted g) = sym (accepted fp w h d bytes places z) ∙ q in
-            let r : g ≡ volume_grid fp w h d = cc in
-            let a = accept fp w h d bytes places z in
-            record {
-              none = z;
-              layout = r;
-              is_sound = rw r (sound fp w h d a.footprint a.sizes);
-              exact_bytes = rw r a.exact_bytes;
-              exact_places = rw r a.exact_places;
-            }
-        | no z ↦
-            let k : ◌≡◌ {A = CheckedVolume} (Rejected (volume_refusal fp w h d bytes places)) (Accepted g) = sym (rejected fp w h d bytes places _ refl z) ∙ q in
-            let z2 : ◌≡◌ {A = ℕ} 0 1 = cc in
-            absurd (omega arith)
-      ]
+  passed g z r =
+      let a = accept fp w h d bytes places z in
+      record {
+        is_sound = rw r (sound fp w h d a.footprint a.sizes);
+        exact_bytes = rw r a.exact_bytes;
+        exact_places = rw r a.exact_places;
+      }

@@ -1,17 +1,17 @@
 -- 02, h: what a volume picture call refuses, answers and leaves in the result buffer: "in these refusal 1 is a footprint above 23", "Refusal 3 also
 -- holds for a depth of 0 or above 2,048". Flat footprints are taken too: their blocks are one layer thick.
 -- Assumes nothing.
-use Rattle.std.specs.Prelude.{ℕ, ◌*◌, Bool, not, List, [], ◌∷◌, eqb, ltb, length}
+use Rattle.std.specs.Prelude.{ℕ, ◌*◌, Bool, not, List, [], ◌∷◌, eqb, ltb, length, Result}
 use Rattle.laws.specs.Choice.{pick, either}
 use Rattle.laws.specs.Reasons.{when, first_of}
+use Rattle.reason.specs.declared.Refusal.{Refusal}
+use Rattle.reason.specs.Answers.{Answers}
 use Rattle.image_size.specs.Sides.{bad_side, blocks_across}
 use Rattle.footprint.specs.Footprint.{width_of, height_of, depth_of}
 use Rattle.interpolation.specs.declared.Kind.{Kind}
 use Rattle.block_reading.specs.declared.Reading.{Reading}
 use Rattle.block_reading.specs.declared.Reading.TheVariants.{Ordinary}
 use Rattle.image_layout.specs.declared.Tally.{Tally}
-use Rattle.image_layout.specs.declared.ImageAnswer.{ImageAnswer}
-use Rattle.image_layout.specs.declared.ImageAnswer.TheVariants.{Refused, Decoded}
 use Rattle.image_layout.specs.Numbers.{fault_at_in}
 use Rattle.image_layout.specs.Faulty.{tally_of}
 use Rattle.image_layout.specs.Call.{Told, told_decoded}
@@ -48,13 +48,11 @@ volume_refusal fp w h d bytes places =
 unfoldable pub volume_tally_in : Reading → ℕ → Kind → ℕ → ℕ → ℕ → List ℕ → Tally
 volume_tally_in reading fp kind w h d s = tally_of (fault_at_in reading fp kind s) (blocks_of fp w h d)
 
--- the answer, for every input
-unfoldable pub volume_answer_in : Reading → ℕ → Kind → ℕ → ℕ → ℕ → List ℕ → ℕ → ImageAnswer
-volume_answer_in reading fp kind w h d s places =
-    let e = volume_refusal fp w h d (length s) places in
-    pick (eqb e 0) (Decoded (volume_tally_in reading fp kind w h d s)) (Refused e)
+-- what is answered, for every input: the refusal, or the faults of the blocks
+abbrev pub volume_answer_in : Reading → ℕ → Kind → ℕ → ℕ → ℕ → List ℕ → ℕ → Result Tally Refusal → Type 0
+volume_answer_in reading fp kind w h d s places = Answers (volume_refusal fp w h d (length s) places) (volume_tally_in reading fp kind w h d s)
 
-abbrev pub volume_answer : ℕ → Kind → ℕ → ℕ → ℕ → List ℕ → ℕ → ImageAnswer
+abbrev pub volume_answer : ℕ → Kind → ℕ → ℕ → ℕ → List ℕ → ℕ → Result Tally Refusal → Type 0
 volume_answer fp kind w h d s places = volume_answer_in Ordinary fp kind w h d s places
 
 -- the result buffer after the call: "nothing is written" on a refusal

@@ -1,3 +1,3 @@
 pub mod Rows
 pub mod Parts
-pub mod Checked
+pub mod Grid

@@ -1,9 +1,12 @@
-// Volume pictures (02, h): where their blocks and texels lie, their numbers, and the refusals of a call: types, definitions and laws.
+// Volume pictures: where their blocks and texels lie, their numbers, and the refusals of a call: types, definitions and laws.
 #![tactic(auto)]
 
 ghost use Rattle.std.specs.Prelude.{◌≡◌, false, ◌*◌, ◌≤◌, ◌<◌};
-ghost use Rattle.volume_layout.specs.Call.{bad_depth, bad_sizes, volume_blocks, volume_places};
-ghost use Rattle.volume_layout.specs.inner.Checked.{volume_grid, checked_of};
+ghost use Rattle.reason.specs.Answers.{Answers};
+ghost use Rattle.volume_layout.specs.Call.{bad_depth, bad_sizes, volume_blocks, volume_places, volume_refusal};
+ghost use Rattle.volume_layout.specs.inner.Grid.{volume_grid};
+
+use reason::Refusal;
 
 // The layout of a volume: its footprint, its sides in texels, a block's sides in texels, and how many blocks lie across, down and deep.
 #[derive(Clone, Copy)]
@@ -31,14 +34,7 @@ pub struct VolumePart {
     pub layers: usize,
 }
 
-// The first stage of a volume picture call: its refusal, or the volume's layout.
-#[derive(Clone, Copy)]
-pub enum CheckedVolume {
-    Rejected(u8),
-    Accepted(VolumeGrid),
-}
-
-// 02, h: "a depth of 0 or above 2,048".
+// The greatest depth that is taken.
 const DEPTH_LIMIT: u32 = 2048;
 
 pub fn bad_depth(n: u32) -> bool
@@ -104,25 +100,25 @@ pub fn check_volume(
     depth: u32,
     bytes: usize,
     places: usize,
-) -> CheckedVolume
-    ensures { result ≡ checked_of footprint width height depth bytes places }
+) -> Result<VolumeGrid, Refusal>
+    ensures { Answers (volume_refusal footprint width height depth bytes places) (volume_grid footprint width height depth) result }
 {
     if footprint > 23 {
-        return CheckedVolume::Rejected(1);
+        return Err(Refusal::Footprint);
     }
     if bad_sizes(width, height, depth) {
-        return CheckedVolume::Rejected(3);
+        return Err(Refusal::Side);
     }
     let g = grid_of(footprint, width, height, depth);
     let blocks = product(g.deep, g.down, g.across);
     if bytes != 16 * blocks {
-        return CheckedVolume::Rejected(4);
+        return Err(Refusal::Bytes);
     }
     let texels = product(g.depth, g.height, g.width);
     if places != 4 * texels {
-        return CheckedVolume::Rejected(5);
+        return Err(Refusal::Places);
     }
-    CheckedVolume::Accepted(g)
+    Ok(g)
 }
 
 // How many blocks a volume has: 0 where its footprint or a size is refused.

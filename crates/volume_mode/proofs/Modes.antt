@@ -1,5 +1,6 @@
 -- The block mode of a volume both ways, by one test over all modes and one over all grids; then that of any block.
 -- Assumes nothing.
+use Rattle.std.specs.Prelude.{None, Option, Some}
 use mathlib.Core.Path.{◌≡◌, refl, subst, sym, ap, ◌∙◌}
 use mathlib.Core.Bool.{Bool, true, false, not}
 use Prim.Native.Nat.{ℕ, zero, suc, ◌+◌, ◌-◌, ◌*◌, ◌%◌, ◌≤◌, ◌<◌}
@@ -12,8 +13,6 @@ use Rattle.laws.proofs.Computed.{both_left, both_right, each}
 use Rattle.block_mode.specs.declared.WeightGrid.{WeightGrid}
 use Rattle.block_mode.specs.declared.BlockMode.{BlockMode}
 use Rattle.block_mode.specs.declared.BlockMode.TheVariants.{VoidExtent, Reserved, Grid}
-use Rattle.block_mode.specs.declared.FoundMode.{FoundMode}
-use Rattle.block_mode.specs.declared.FoundMode.TheVariants.{Mode, NoMode}
 use Rattle.block_mode.specs.Mode2D.{block_mode}
 use Rattle.block_mode.specs.Back2D.{Limits, R21, flat_mode_of}
 use Rattle.block_mode.proofs.Modes as flat
@@ -28,9 +27,9 @@ use Rattle.volume_mode.proofs.Limits.{edges, edge_limits}
 -- ---- tests
 
 -- the answer is a mode not above m, and m itself unless the grid has two
-reaches : FoundMode → WeightGrid → ℕ → Bool
-reaches (Mode n) g m = both (leb n m) (either (eqb n m) (is_double g))
-reaches NoMode g m = false
+reaches : Option ℕ → WeightGrid → ℕ → Bool
+reaches (Some n) g m = both (leb n m) (either (eqb n m) (is_double g))
+reaches None g m = false
 
 -- a grid that is read is in its limits, and bits not above those that were read are found for it
 read_back : BlockMode → ℕ → Bool
@@ -39,9 +38,9 @@ read_back Reserved m = true
 read_back (Grid g) m = both (in_volume g) (reaches (volume_bits g) g m)
 
 -- bits that are written are read as the grid
-written_back : FoundMode → WeightGrid → Bool
-written_back (Mode m) g = both (ltb m 2048) (is_grid (volume_mode m) g)
-written_back NoMode g = true
+written_back : Option ℕ → WeightGrid → Bool
+written_back (Some m) g = both (ltb m 2048) (is_grid (volume_mode m) g)
+written_back None g = true
 
 abbrev grid : ℕ → ℕ → ℕ → ℕ → ℕ → WeightGrid
 grid w h d r p = record { width = w; height = h; depth = d; range = r; planes = p }
@@ -61,9 +60,9 @@ test_written = tt
 -- ---- what the tests say
 
 -- the bits found for a grid: not above m, and m itself unless the grid has two modes
-pub record Found (bits : FoundMode) (double : Bool) (m : ℕ) : Type 0 where
+pub record Found (bits : Option ℕ) (double : Bool) (m : ℕ) : Type 0 where
   pub mode : ℕ
-  pub is : bits ≡ Mode mode
+  pub is : bits ≡ Some mode
   pub least : mode ≤ m
   pub only : double ≡ false → mode ≡ m
 
@@ -71,15 +70,15 @@ either_left : (a b : Bool) → T (either a b) → b ≡ false → T a
 either_left true b t e = tt
 either_left false b t e = absurd (subst (λ (c : Bool). T c) e t)
 
-reached : (x : FoundMode) (g : WeightGrid) (m : ℕ) → T (reaches x g m) → Found x (is_double g) m
+reached : (x : Option ℕ) (g : WeightGrid) (m : ℕ) → T (reaches x g m) → Found x (is_double g) m
 unfolding reaches
-reached (Mode n) g m t = record {
+reached (Some n) g m t = record {
   mode = n;
   is = refl;
   least = leb→le n m (both_left (leb n m) (either (eqb n m) (is_double g)) t);
   only = λ e. eqb→eq n m (either_left (eqb n m) (is_double g) (both_right (leb n m) (either (eqb n m) (is_double g)) t) e);
 }
-reached NoMode g m t = absurd t
+reached None g m t = absurd t
 
 -- ---- a volume's mode
 
@@ -95,7 +94,7 @@ module _ (m : ℕ) (h : m < 2048) (g : WeightGrid) (e : volume_mode m ≡ Grid g
   pub volume_found : Found (volume_bits g) (is_double g) m
   volume_found = reached (volume_bits g) g m (both_right (in_volume g) (reaches (volume_bits g) g m) read)
 
-past_limits : (g : WeightGrid) → in_volume g ≡ false → volume_bits g ≡ NoMode
+past_limits : (g : WeightGrid) → in_volume g ≡ false → volume_bits g ≡ None
 unfolding volume_bits
 past_limits g e = rw e
 
@@ -113,7 +112,7 @@ written g l =
     (same_grid (grid (w + 2) (h + 2) (d + 2) r (p + 1)) g (omega arith) (omega arith) (omega arith) refl (omega arith)) t
 
 -- bits that are found for a grid are a mode that is this grid
-pub found_volume : (g : WeightGrid) (m : ℕ) → volume_bits g ≡ Mode m → (m < 2048) × (volume_mode m ≡ Grid g)
+pub found_volume : (g : WeightGrid) (m : ℕ) → volume_bits g ≡ Some m → (m < 2048) × (volume_mode m ≡ Grid g)
 unfolding written_back
 found_volume g m e = go (in_volume g) refl where
   back : T (both (ltb m 2048) (is_grid (volume_mode m) g)) → (m < 2048) × (volume_mode m ≡ Grid g)
@@ -166,23 +165,23 @@ mode_found false m h g e =
     (record { mode = m; is = flat.mode_found m h g e; least = omega arith; only = λ n. refl })
 
 -- bits that are found for a grid are a mode that is this grid
-pub found_mode : (g : WeightGrid) (m : ℕ) → block_mode_of g ≡ Mode m → (m < 2048) × (block_mode_in (is_deep g) m ≡ Grid g)
+pub found_mode : (g : WeightGrid) (m : ℕ) → block_mode_of g ≡ Some m → (m < 2048) × (block_mode_in (is_deep g) m ≡ Grid g)
 unfolding block_mode_in block_mode_of
 found_mode g m e = go (is_deep g) refl e where
-  go : (b : Bool) → is_deep g ≡ b → pick b (volume_bits g) (flat_mode_of g) ≡ Mode m → (m < 2048) × (pick b (volume_mode m) (block_mode m) ≡ Grid g)
+  go : (b : Bool) → is_deep g ≡ b → pick b (volume_bits g) (flat_mode_of g) ≡ Some m → (m < 2048) × (pick b (volume_mode m) (block_mode m) ≡ Grid g)
   go true i q = found_volume g m q
   go false i q = flat.found_mode g m q
 
-number : FoundMode → ℕ
-number (Mode k) = k
-number NoMode = 0
+number : Option ℕ → ℕ
+number (Some k) = k
+number None = 0
 
-mode_number_lem : (a b : ℕ) → Mode a ≡ Mode b → a ≡ b
+mode_number_lem : (a b : ℕ) → Some a ≡ Some b → a ≡ b
 unfolding number
 mode_number_lem a b p = ap number p
 
 -- so they are the smallest of the modes that are this grid
-pub least_mode : (g : WeightGrid) (n : ℕ) → block_mode_of g ≡ Mode n → (m : ℕ) → m < 2048 → block_mode_in (is_deep g) m ≡ Grid g → n ≤ m
+pub least_mode : (g : WeightGrid) (n : ℕ) → block_mode_of g ≡ Some n → (m : ℕ) → m < 2048 → block_mode_in (is_deep g) m ≡ Grid g → n ≤ m
 least_mode g n e m h r =
     let f = mode_found (is_deep g) m h g r in
     let q : f.mode ≡ n = mode_number_lem f.mode n (sym f.is ∙ e) in
@@ -195,15 +194,15 @@ any_limits true m g e = mode_limits true (m % 2048) (mod-lt m (omega arith)) g (
 any_limits false m g e = flat.any_limits m g e
 
 -- where no bits are found, no mode is this grid
-pub no_mode : (volume : Bool) (g : WeightGrid) → block_mode_of g ≡ NoMode → (m : ℕ) → m < 2048 → block_mode_in volume m ≡ Grid g → ⊥
+pub no_mode : (volume : Bool) (g : WeightGrid) → block_mode_of g ≡ None → (m : ℕ) → m < 2048 → block_mode_in volume m ≡ Grid g → ⊥
 no_mode volume g n m h e = let f = mode_found volume m h g e in never f.mode (sym n ∙ f.is)
 
 -- and where no mode is this grid, none are found
-not_found : (g : WeightGrid) → ((m : ℕ) → m < 2048 → block_mode_in (is_deep g) m ≡ Grid g → ⊥) → block_mode_of g ≡ NoMode
+not_found : (g : WeightGrid) → ((m : ℕ) → m < 2048 → block_mode_in (is_deep g) m ≡ Grid g → ⊥) → block_mode_of g ≡ None
 not_found g h = go (block_mode_of g) refl where
-  go : (x : FoundMode) → block_mode_of g ≡ x → x ≡ NoMode
-  go NoMode e = refl
-  go (Mode m) e = let f = found_mode g m e in absurd (h m f.0 f.1)
+  go : (x : Option ℕ) → block_mode_of g ≡ x → x ≡ None
+  go None e = refl
+  go (Some m) e = let f = found_mode g m e in absurd (h m f.0 f.1)
 
 -- ---- grids with two modes
 
@@ -216,9 +215,9 @@ unfolding axis_of
 other_of g = 4 * R21 g + 16 * (g.range % 2) + 384 + 32 * axis_of g
 
 -- the answer is a mode below the other, and both are read as the grid
-paired : FoundMode → WeightGrid → Bool
-paired (Mode n) g = both (ltb n (other_of g)) (both (ltb (other_of g) 2048) (both (is_grid (volume_mode n) g) (is_grid (volume_mode (other_of g)) g)))
-paired NoMode g = false
+paired : Option ℕ → WeightGrid → Bool
+paired (Some n) g = both (ltb n (other_of g)) (both (ltb (other_of g) 2048) (both (is_grid (volume_mode n) g) (is_grid (volume_mode (other_of g)) g)))
+paired None g = false
 
 test_paired : (a b c : ℕ) → Bool
 test_paired a b c = all (λ r. paired (volume_bits (grid a b c r 1)) (grid a b c r 1)) 6
@@ -284,10 +283,10 @@ module _ (g : WeightGrid) (double : is_double g ≡ true) where
         by r p false e true f t = let k = is_turn_lem _ _ _ (subst (λ (b : Bool). T b) (sym f) tt) in turned g 2 6 2 high k.1.0 k.0 k.1.1 r p
         by r p false e false f t = let k = is_turn_lem _ _ _ t in turned g 2 2 6 deep k.1.0 k.1.1 k.0 r p
 
-  two_of : (x : FoundMode) → volume_bits g ≡ x → T (paired x g) → TwoModes g
+  two_of : (x : Option ℕ) → volume_bits g ≡ x → T (paired x g) → TwoModes g
   unfolding paired one_of_two is_mode block_mode_in block_mode_of
-  two_of NoMode e t = absurd t
-  two_of (Mode n) e t =
+  two_of None e t = absurd t
+  two_of (Some n) e t =
       let m = other_of g in
       let t1 = both_right (ltb n m) (both (ltb m 2048) (both (is_grid (volume_mode n) g) (is_grid (volume_mode m) g))) t in
       let t2 = both_right (ltb m 2048) (both (is_grid (volume_mode n) g) (is_grid (volume_mode m) g)) t1 in
@@ -307,7 +306,7 @@ module _ (g : WeightGrid) (double : is_double g ≡ true) where
         no_other = λ k h q other.
             let u : T (either (not (is_double g)) (either (is_mode (volume_bits g) k) (eqb k m))) = rw q at (each (λ m. one_of_two (volume_mode m) m) 2048 test_two k h) in
             let v : T (either (is_mode (volume_bits g) k) (eqb k m)) = either_right (not (is_double g)) (either (is_mode (volume_bits g) k) (eqb k m)) u (ap not double) in
-            eqb→eq k m (either_right (is_mode (volume_bits g) k) (eqb k m) v (ap (λ (x : FoundMode). is_mode x k) e ∙ apart k (eqb n k) refl other));
+            eqb→eq k m (either_right (is_mode (volume_bits g) k) (eqb k m) v (ap (λ (x : Option ℕ). is_mode x k) e ∙ apart k (eqb n k) refl other));
       } where
         apart : (k : ℕ) → (b : Bool) → eqb n k ≡ b → (k ≡ n → ⊥) → eqb n k ≡ false
         apart k true q other = absurd (other (sym (eqb→eq n k (subst (λ (b : Bool). T b) (sym q) tt))))
@@ -323,7 +322,7 @@ least = record {
   mode_deep = mode_deep;
   found_mode = found_mode;
   least_mode = least_mode;
-  only_mode = λ volume m h g e n. let f = mode_found volume m h g e in f.is ∙ ap Mode (f.only n);
+  only_mode = λ volume m h g e n. let f = mode_found volume m h g e in f.is ∙ ap Some (f.only n);
   two_modes = two_modes;
   no_mode = no_mode;
   not_found = not_found;

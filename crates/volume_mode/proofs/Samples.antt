@@ -1,9 +1,8 @@
 -- All 2,048 modes and the bits of all 3,000 grids, as one number each, as a second reckoning has them (outside/tables/make_volumes.py).
 -- Assumes nothing.
+use Rattle.std.specs.Prelude.{None, Option, Some}
 use mathlib.Core.Path.{◌≡◌, refl}
 use Prim.Native.Nat.{ℕ, zero, suc, ◌+◌, ◌*◌, ◌/◌, ◌%◌}
-use Rattle.block_mode.specs.declared.FoundMode.{FoundMode}
-use Rattle.block_mode.specs.declared.FoundMode.TheVariants.{Mode, NoMode}
 use Rattle.block_mode.specs.declared.BlockMode.{BlockMode}
 use Rattle.block_mode.specs.declared.BlockMode.TheVariants.{VoidExtent, Reserved, Grid}
 use Rattle.volume_mode.specs.Mode3D.{volume_mode}
@@ -18,9 +17,9 @@ said VoidExtent = 1
 said Reserved = 2
 said (Grid g) = 3 + g.width + 7 * (g.height + 7 * (g.depth + 7 * (g.range + 12 * g.planes)))
 
-unfoldable pub written : FoundMode → ℕ
-written (Mode m) = 1 + m
-written NoMode = 0
+unfoldable pub written : Option ℕ → ℕ
+written (Some m) = 1 + m
+written None = 0
 
 -- grid k, width first, then height, depth, range and planes
 unfoldable pub bits : ℕ → ℕ

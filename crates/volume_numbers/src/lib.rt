@@ -1,16 +1,17 @@
-// The volume picture calls (02, h) over lent lists: what a call tells, in a tally of three numbers that the caller lends.
+// The volume picture calls over lent lists: what a call tells, in a tally of three numbers that the caller lends.
 #![tactic(auto)]
 
 ghost use Rattle.std.specs.Prelude.{◌≡◌, length};
 ghost use Rattle.interpolation.specs.declared.Kind.TheVariants.{Srgb8};
 ghost use Rattle.one_block.specs.Calls.{Words};
+ghost use Rattle.reason.specs.Numbers.{refusal_number};
 ghost use Rattle.image_numbers.specs.Calls.{refusal_or5};
 ghost use Rattle.volume_layout.specs.Call.{volume_refusal};
 ghost use Rattle.volume_numbers.specs.Calls.{volume_number_in, volume_shown_in, tally_shown_in};
 
 use block_reading::Reading;
 use interpolation::Kind;
-use volume_layout::CheckedVolume;
+use reason::Refusal;
 
 // The first refusal of a volume picture call, else 5.
 pub fn refusal_or_5(
@@ -20,13 +21,12 @@ pub fn refusal_or_5(
     depth: u32,
     bytes: usize,
     places: usize,
-) -> u8
-    ensures { result ≡ refusal_or5 (volume_refusal footprint width height depth bytes places) }
+) -> Refusal
+    ensures { refusal_number result ≡ refusal_or5 (volume_refusal footprint width height depth bytes places) }
 {
-    let checked = volume_layout::check_volume(footprint, width, height, depth, bytes, places);
-    match checked {
-        CheckedVolume::Rejected(e) => e,
-        CheckedVolume::Accepted(_) => 5,
+    match volume_layout::check_volume(footprint, width, height, depth, bytes, places) {
+        Err(refusal) => refusal,
+        Ok(_) => Refusal::Places,
     }
 }
 
@@ -48,13 +48,13 @@ pub fn volume_words(
     ensures tally_after { tally.new ≡ tally_shown_in reading footprint kind width height depth blocks.now (length out.old) tally.old }
 {
     if tally.len() != 3 {
-        return refusal_or_5(footprint, width, height, depth, blocks.len(), out.len());
+        return refusal_or_5(footprint, width, height, depth, blocks.len(), out.len()).into();
     }
     let answer = volume::decode_volume_words_in(
         reading, kind, footprint, width, height, depth, blocks, out,
     );
     image_numbers::put_tally(image_numbers::tally_told(answer), tally);
-    image_numbers::refusal_told(answer)
+    reason::refusal_told(answer)
 }
 
 // A volume in kind 1, in a reading, with its tally.
@@ -73,11 +73,11 @@ pub fn volume_srgb8(
     ensures tally_after { tally.new ≡ tally_shown_in reading footprint Srgb8 width height depth blocks.now (length out.old) tally.old }
 {
     if tally.len() != 3 {
-        return refusal_or_5(footprint, width, height, depth, blocks.len(), out.len());
+        return refusal_or_5(footprint, width, height, depth, blocks.len(), out.len()).into();
     }
     let answer = volume::decode_volume_srgb8_in(
         reading, footprint, width, height, depth, blocks, out,
     );
     image_numbers::put_tally(image_numbers::tally_told(answer), tally);
-    image_numbers::refusal_told(answer)
+    reason::refusal_told(answer)
 }

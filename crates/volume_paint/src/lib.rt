@@ -50,17 +50,14 @@ pub fn paint_volume(
     requires byte_levels { ByteLevels points }
     ensures { length out.old ≡ 864 → out.new ≡ painted f.width (by_rows f.height (volume_texel kind width height depth component points lines.now index partitions small f)) (f.depth * f.height * f.width) out.old }
 {
-    let mut z: u8 = 0;
-    while z < f.depth {
+    for z in 0..f.depth {
         let gr = weight_grid::grid_place(f.inward, z, depth);
         let seeds = partition::layer_seeds(index, partitions, small, z);
-        let mut y: u8 = 0;
-        while y < f.height {
+        for y in 0..f.height {
             let gt = weight_grid::grid_place(f.down, y, height);
             let which = partition::row_partitions(seeds, partitions, y);
             let q = row_of(f.height, y, z);
-            let mut x: u8 = 0;
-            while x < f.width {
+            for x in 0..f.width {
                 let gs = weight_grid::grid_place(f.across, x, width);
                 let k = volume_infill::route_at(width, height, depth, gs, gt, gr);
                 let n0 = k.n0;
@@ -75,10 +72,7 @@ pub fn paint_volume(
                 let line = lines[which[x as usize] as usize];
                 let t = half_line::mix(kind, line, both, component);
                 put(out, place(f.width, x, q), t.r, t.g, t.b, t.a);
-                x += 1;
             }
-            y += 1;
         }
-        z += 1;
     }
 }

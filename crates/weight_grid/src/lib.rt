@@ -101,10 +101,8 @@ pub fn columns(scale: u16, points: u8, width: u8) -> [Column; 12]
         part: 0,
     };
     let mut out = [none; 12];
-    let mut x: u8 = 0;
-    while x < width {
+    for x in 0..width {
         out[x as usize] = column_at(scale, x, points);
-        x += 1;
     }
     out
 }
@@ -127,10 +125,8 @@ pub fn pairs(points: [LevelPair; 64]) -> [PointPair; 64]
 {
     let none = PointPair(0);
     let mut out = [none; 64];
-    let mut i: usize = 0;
-    while i < 63 {
+    for i in 0..63 {
         out[i] = pair_of(points[i], points[i + 1]);
-        i += 1;
     }
     out[63] = pair_of(points[63], LevelPair(0));
     out
@@ -143,10 +139,8 @@ pub fn places(scale: u16, points: u8, width: u8) -> [u16; 16]
     ensures { result ≡ padded 16 width (λ x. grid_place scale x points) 0 }
 {
     let mut out: [u16; 16] = [0; 16];
-    let mut i: u8 = 0;
-    while i < width {
+    for i in 0..width {
         out[i as usize] = grid_place(scale, i, points) as u16;
-        i += 1;
     }
     out
 }
@@ -175,13 +169,11 @@ pub fn factor_pairs(places: &[u16; 16], gt: u32, upper: &mut [u16; 16], lower: &
     ensures lower_after { length lower.old ≡ 16 → lower.new ≡ tab (λ x. lower_pair (get_or places.now x 0 % 16) (gt % 16)) 16 }
 {
     let ft = (gt % 16) as u16;
-    let mut x: usize = 0;
-    while x < 16 {
+    for x in 0..16 {
         let fs = places[x] % 16;
         let below = lower_pair(fs, ft);
         lower[x] = below;
         upper[x] = upper_pair(fs, ft, below);
-        x += 1;
     }
 }
 

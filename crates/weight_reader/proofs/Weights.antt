@@ -2,11 +2,9 @@
 -- Assumes nothing.
 use mathlib.Core.Path.{◌≡◌, sym, ap, ◌∙◌, subst}
 use mathlib.Core.List.{List}
-use Prim.Native.Nat.{ℕ, ◌+◌, ◌*◌, ◌^◌, ◌≤◌, ◌<◌}
-use native.Mathlib.Nat.{lt_of_lt_of_le, mul-le-mul_left}
-use native.Mathlib.Decide.{dec_le}
+use Prim.Native.Nat.{ℕ, ◌*◌, ◌^◌, ◌≤◌, ◌<◌}
+use native.Mathlib.Nat.{lt_of_lt_of_le}
 use native.Mathlib.Omega.{arith}
-use lib.Pow.{pow_mono}
 use lib.Dec.{ltb}
 use lib.ListN.{get_or}
 use Rattle.laws.specs.Choice.{pick}
@@ -22,17 +20,6 @@ use Rattle.quantization.proofs.Ranges.{reach, weight_most_le}
 use Rattle.integer_sequence.specs.Reading.{number}
 use Rattle.integer_sequence.proofs.Groups.{number_lt}
 use Rattle.weight_reader.specs.inner.Weights.{no_levels, one_plane, point_by, by_table, weights_of}
-
--- so few bits that the numbers stay below 32
-pub few : (r b m : ℕ) → b ≤ m → r * 2 ^ m ≤ 32 → r * 2 ^ b ≤ 32
-few r b m h l = let p : r * 2 ^ b ≤ r * 2 ^ m = mul-le-mul_left r (pow_mono {i = b} {j = m} h) in omega arith
-
--- and so many at most
-pub below : (r b m : ℕ) → r * 2 ^ b ≤ 32 → 32 < r * 2 ^ (m + 1) → b ≤ m
-below r b m h l = elim (dec_le b m) [
-  | yes k ↦ k
-  | no k ↦ let p : r * 2 ^ (m + 1) ≤ r * 2 ^ b = mul-le-mul_left r (pow_mono {i = m + 1} {j = b} (omega arith)) in absurd (omega arith)
-]
 
 -- the point of number k, from the number that was read
 pub looked_up : (table : List ℕ) (κ : Encoding) (b s k : ℕ) {v : ℕ} {p : LevelPair} → radix κ * 2 ^ b ≤ 32 → v ≡ number κ b s k

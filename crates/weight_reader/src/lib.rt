@@ -12,7 +12,7 @@ ghost use Rattle.weight_reader.specs.inner.Weights.{no_levels, by_table, weights
 
 use bits::PhysicalBlock;
 use encoding::{Encoding, LevelPair, Stored};
-use integer_sequence::reading;
+use integer_sequence::group::{FiveTrits, Group, OneNumber, ThreeQuints};
 
 fn no_weights() -> [LevelPair; 64]
     ensures { result ≡ tab (λ k. no_levels) 64 }
@@ -20,81 +20,24 @@ fn no_weights() -> [LevelPair; 64]
     [LevelPair(0); 64]
 }
 
-// The levels of the first n numbers of the sequence s by a table; rest is what is left of it.
-fn read_bits(s: PhysicalBlock, b: u32, n: usize, table: &[u8; 32]) -> [LevelPair; 64]
-    requires { (b ≤ 5) × (n ≤ 64) }
-    ensures { result ≡ by_table table.now Bits b (block_number s) n }
+// The levels of the first n numbers of the sequence s by a table, group by group; the last group may be cut. `integer_sequence` keeps the
+// numbers themselves in such a loop: one for both would fill an array of a type parameter, of which no size is known.
+fn read_groups<G: Group>(s: PhysicalBlock, b: u32, n: usize, table: &[u8; 32]) -> [LevelPair; 64]
+    requires { (radix G.form * 2 ^ b ≤ 32) × (n ≤ 64) }
+    ensures { result ≡ by_table table.now G.form b (block_number s) n }
 {
     let mut out = no_weights();
     let mut rest = s;
-    let mut i: usize = 0;
-    while i < n {
+    for i in (0..n).step_by(G::size() as usize) {
         let word = bits::word_at(rest, 0);
-        let v = reading::cut(word, 0, b);
-        out[i] = quantization::weight_point(table, Stored(v as u8));
-        rest = bits::later(rest, b);
-        i += 1;
-    }
-    out
-}
-
-// The same group by group; the last group may be cut.
-fn read_trits(s: PhysicalBlock, b: u32, n: usize, table: &[u8; 32]) -> [LevelPair; 64]
-    requires { (b ≤ 3) × (n ≤ 64) }
-    ensures { result ≡ by_table table.now Trits b (block_number s) n }
-{
-    let mut out = no_weights();
-    let mut rest = s;
-    let mut i: usize = 0;
-    while i < n {
-        let word = bits::word_at(rest, 0);
-        let g = reading::trit_group(word, b);
-        let p0 = quantization::weight_point(table, Stored((g % 256) as u8));
-        let p1 = quantization::weight_point(table, Stored((g / 256 % 256) as u8));
-        let p2 = quantization::weight_point(table, Stored((g / 65536 % 256) as u8));
-        let p3 = quantization::weight_point(table, Stored((g / 16777216 % 256) as u8));
-        let p4 = quantization::weight_point(table, Stored((g / 4294967296 % 256) as u8));
-        out[i] = p0;
-        if i + 1 < n {
-            out[i + 1] = p1;
+        let x = G::numbers(word, b);
+        for k in 0..G::size() as usize {
+            if i + k < n {
+                let stored = Stored(((x >> (8 * k)) % 256) as u8);
+                out[i + k] = quantization::weight_point(table, stored);
+            }
         }
-        if i + 2 < n {
-            out[i + 2] = p2;
-        }
-        if i + 3 < n {
-            out[i + 3] = p3;
-        }
-        if i + 4 < n {
-            out[i + 4] = p4;
-        }
-        rest = bits::later(rest, 5 * b + 8);
-        i += 5;
-    }
-    out
-}
-
-fn read_quints(s: PhysicalBlock, b: u32, n: usize, table: &[u8; 32]) -> [LevelPair; 64]
-    requires { (b ≤ 2) × (n ≤ 64) }
-    ensures { result ≡ by_table table.now Quints b (block_number s) n }
-{
-    let mut out = no_weights();
-    let mut rest = s;
-    let mut i: usize = 0;
-    while i < n {
-        let word = bits::word_at(rest, 0);
-        let g = reading::quint_group(word, b);
-        let p0 = quantization::weight_point(table, Stored((g % 256) as u8));
-        let p1 = quantization::weight_point(table, Stored((g / 256 % 256) as u8));
-        let p2 = quantization::weight_point(table, Stored((g / 65536 % 256) as u8));
-        out[i] = p0;
-        if i + 1 < n {
-            out[i + 1] = p1;
-        }
-        if i + 2 < n {
-            out[i + 2] = p2;
-        }
-        rest = bits::later(rest, 3 * b + 7);
-        i += 3;
+        rest = bits::later(rest, G::bits(b));
     }
     out
 }
@@ -104,9 +47,9 @@ fn read_by(s: PhysicalBlock, e: Encoding, b: u8, n: usize, table: &[u8; 32]) -> 
     ensures { result ≡ by_table table.now e b (block_number s) n }
 {
     match e {
-        Encoding::Bits => read_bits(s, b as u32, n, table),
-        Encoding::Trits => read_trits(s, b as u32, n, table),
-        Encoding::Quints => read_quints(s, b as u32, n, table),
+        Encoding::Bits => read_groups::<OneNumber>(s, b as u32, n, table),
+        Encoding::Trits => read_groups::<FiveTrits>(s, b as u32, n, table),
+        Encoding::Quints => read_groups::<ThreeQuints>(s, b as u32, n, table),
     }
 }
 
@@ -128,12 +71,10 @@ pub fn paired(weights: [LevelPair; 64], count: usize) -> [LevelPair; 64]
     ensures { result ≡ paired_of weights count }
 {
     let mut out = no_weights();
-    let mut i: usize = 0;
-    while i < count {
+    for i in 0..count {
         let first = weights[2 * i];
         let second = weights[2 * i + 1];
         out[i] = LevelPair(first.0 % 256 + 65536 * (second.0 % 256));
-        i += 1;
     }
     out
 }

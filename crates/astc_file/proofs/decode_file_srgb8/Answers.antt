@@ -1,34 +1,24 @@
-use mathlib.Core.Path.{◌≡◌, sym, ◌∙◌}
-use Rattle.interpolation.specs.declared.Kind.TheVariants.{Srgb8}
-use Rattle.astc_header.specs.declared.HeaderAnswer.TheVariants.{Accepted}
-use Rattle.astc_header.specs.Header.{header_answer}
-use Rattle.astc_file.proofs.Calls.{file_refused, file_decoded, long, behind}
 use borrow.Author.Rules.{rules}
+use Rattle.interpolation.specs.declared.Kind.TheVariants.{Srgb8}
+use Rattle.std.proofs.lemmas.Result.{err_from_is_err_and}
+use Rattle.astc_file.proofs.Calls.{file_refused, file_decoded, long, behind}
 use Rattle.astc_file.proofs.decode_file_srgb8.Goals as goal
-use Rattle.astc_file.proofs.decode_file_srgb8.Goals.{After-slice_known-in-Accepted-1, In-Accepted}
 
--- the header of a file that is not refused
-accepted-In-Accepted : (c : In-Accepted) → header_answer c.args.file.now ≡ Accepted c.in-Accepted.h
-accepted-In-Accepted c = sym c.read_header-answer.ensures.answer ∙ c.in-Accepted.is
+pub returns-in_err-h : goal.returns-in_err-h
+returns-in_err-h c =
+    let p = err_from_is_err_and c.from_residual.result c.from_residual.ensures.1 in
+    let it = file_refused Srgb8 _ c.args.out.now _ c.in_err-h.ensures.answer in
+    rw (p.1, p.2) (record { answer = it.answer; told = it.told; image = it.image })
 
--- the header of a file that is not refused
-accepted-After-slice_known-in-Accepted-1 : (c : After-slice_known-in-Accepted-1) → header_answer c.args.file.now ≡ Accepted c.in-Accepted.h
-accepted-After-slice_known-in-Accepted-1 c = sym c.read_header-answer.ensures.answer ∙ c.in-Accepted.is
-
--- src/lib.rt:35:71
 pub slice_bounds-decode_image_srgb8-count : goal.slice_bounds-decode_image_srgb8-count
-slice_bounds-decode_image_srgb8-count c = long _ _ (accepted-In-Accepted c)
+slice_bounds-decode_image_srgb8-count c = long _ _ c.in_ok-h.ensures.answer
 
--- src/lib.rt:35:71
 pub slice_bounds-decode_image_srgb8-start : goal.slice_bounds-decode_image_srgb8-start
-slice_bounds-decode_image_srgb8-start c = let l = long _ _ (accepted-In-Accepted c) in search rules
+slice_bounds-decode_image_srgb8-start c = let l = long _ _ c.in_ok-h.ensures.answer in search rules
 
--- src/lib.rt:26:1
-pub returns-in-Refused : goal.returns-in-Refused
-returns-in-Refused c = let a = c.args in let it = file_refused Srgb8 a.file.now a.out.now _ (sym c.read_header-answer.ensures.answer ∙ c.in-Refused.is) in record { answer = it.0; told = it.1.0; image = it.1.1 }
-
--- src/lib.rt:26:1
-pub returns-in-Accepted : goal.returns-in-Accepted
-returns-in-Accepted c = let k = c in
-    let a = k.args in
-    let h = accepted-After-slice_known-in-Accepted-1 c in let it = file_decoded Srgb8 a.file.now a.out.now _ h _ _ _ (behind _ _ h) (c.decode_image_srgb8.ensures.answer, (c.decode_image_srgb8.ensures.told, c.decode_image_srgb8.ensures.image)) in record { answer = it.0; told = it.1.0; image = it.1.1 }
+pub returns : goal.returns
+returns c =
+    let h = c.in_ok-h.ensures.answer in
+    let d = c.decode_image_srgb8.ensures in
+    let it = file_decoded Srgb8 _ c.args.out.now _ h _ _ _ (behind _ _ h) (record { answer = d.answer; told = d.told; image = d.image }) in
+    record { answer = it.answer; told = it.told; image = it.image }

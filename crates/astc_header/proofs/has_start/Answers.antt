@@ -1,8 +1,4 @@
 use Rattle.astc_header.specs.Header.{has_start}
-use borrow.Author.Rules.{rules}
-use Rattle.astc_header.proofs.has_start.Reads as reads
-use Rattle.astc_header.proofs.has_start.Lts as lts
-use Rattle.astc_header.proofs.same_four.Reads as same-four-reads
 use Rattle.astc_header.proofs.has_start.Goals as goal
 
 -- src/lib.rt:54:1

@@ -1,9 +1,4 @@
 use Rattle.astc_header.specs.Header.{header_in}
-use borrow.Author.Rules.{rules}
-use Rattle.astc_header.proofs.header_in.Reads as reads
-use Rattle.astc_header.proofs.header_in.Lts as lts
-use Rattle.astc_header.proofs.footprint_for.Reads as footprint-for-reads
-use Rattle.astc_header.proofs.size_at.Reads as size-at-reads
 use Rattle.astc_header.proofs.header_in.Goals as goal
 
 -- src/lib.rt:84:1

@@ -1,26 +1,35 @@
-use mathlib.Core.Path.{◌≡◌, sym, ap, ◌∙◌}
-use Rattle.astc_header.specs.declared.HeaderAnswer.TheVariants.{Refused, Accepted}
-use Rattle.astc_header.specs.Header.{header_refusal, told_refused, told_accepted}
-use Rattle.astc_header.proofs.Refusals.{answer_refused, told_refused_lem, answer_accepted, told_accepted_lem, taken}
-use borrow.Author.Rules.{rules}
-use Rattle.astc_header.proofs.read_header.Reads as reads
-use Rattle.astc_header.proofs.read_header.Lts as lts
-use Rattle.astc_header.proofs.header_in.Reads as header-in-reads
-use Rattle.astc_header.proofs.refusal.Reads as refusal-reads
+use mathlib.Core.Path.{sym, ap, ◌∙◌}
+use Rattle.std.proofs.lemmas.Result.{err_from_is_err_and}
+use Rattle.reason.specs.declared.Refusal.TheVariants.{Bytes}
+use Rattle.astc_header.specs.Header.{told_accepted}
+use Rattle.astc_header.proofs.Refusals.{formed, by_form, by_sides, other_length, own_length, told_refused_lem, told_accepted_lem}
 use Rattle.astc_header.proofs.read_header.Goals as goal
 
--- src/lib.rt:147:9
-pub returns-then-e-ne0 : goal.returns-then-e-ne0
-returns-then-e-ne0 c = let s = c.args.file.now in
-    let q = c.refusal-e.ensures in
-    let n : header_refusal s ≡ 0 → ⊥ = λ e. c.if-e-ne0.true (q ∙ e) in record { answer = ap Refused q ∙ answer_refused s n; told = ap told_refused q ∙ told_refused_lem s n }
+pub returns-in_err-check_form : goal.returns-in_err-check_form
+returns-in_err-check_form c =
+    let p = err_from_is_err_and c.from_residual.result c.from_residual.ensures.1 in
+    rw (p.1, p.2) (let e = by_form _ _ c.in_err-check_form.ensures in record { answer = e; told = told_refused_lem _ _ e })
 
--- src/lib.rt:149:28
-pub header_in-requires : goal.header_in-requires
-header_in-requires c = (taken _ (sym c.refusal-e.ensures ∙ c.if-e-ne0.false)).form.long
+pub header_in-h-requires : goal.header_in-h-requires
+header_in-h-requires c = (formed _ (sym c.in_ok-check_form.ensures)).long
 
--- src/lib.rt:141:1
+pub overflow_sub-file : goal.overflow_sub-file
+overflow_sub-file c = (formed _ (sym c.in_ok-check_form.ensures)).long
+
+pub returns-in_err-check_size : goal.returns-in_err-check_size
+returns-in_err-check_size c =
+    let p = err_from_is_err_and c.from_residual-in_err-check_size.result c.from_residual-in_err-check_size.ensures.1 in
+    let f = formed _ (sym c.in_ok-check_form.ensures) in
+    rw (p.1, p.2) (let e = by_sides _ _ f c.header_in-h.ensures c.in_err-check_size.ensures in record { answer = e; told = told_refused_lem _ _ e })
+
+pub returns-then-file-blocks : goal.returns-then-file-blocks
+returns-then-file-blocks c =
+    let f = formed _ (sym c.in_ok-check_form.ensures) in
+    let e = other_length _ f c.header_in-h.ensures c.in_ok-check_size.ensures c.blocks_of-blocks.ensures.0 c.if-file-blocks.true in
+    record { answer = e; told = told_refused_lem _ Bytes e }
+
 pub returns : goal.returns
-returns c = let s = c.args.file.now in
-    let z : header_refusal s ≡ 0 = sym c.refusal-e.ensures ∙ c.if-e-ne0.false in
-    let h = c.header_in.ensures in record { answer = ap Accepted h ∙ answer_accepted s z; told = ap told_accepted h ∙ told_accepted_lem s z }
+returns c =
+    let f = formed _ (sym c.in_ok-check_form.ensures) in
+    let z = own_length _ f c.header_in-h.ensures c.in_ok-check_size.ensures c.blocks_of-blocks.ensures.0 c.if-file-blocks.false in
+    record { answer = (z, c.header_in-h.ensures); told = ap told_accepted c.header_in-h.ensures ∙ told_accepted_lem _ z }

@@ -1,8 +1,4 @@
 use Rattle.astc_header.specs.Header.{size_at}
-use borrow.Author.Rules.{rules}
-use Rattle.astc_header.proofs.size_at.Reads as reads
-use Rattle.astc_header.proofs.size_at.Lts as lts
-use Rattle.astc_header.proofs.wide.Reads as wide-reads
 use Rattle.astc_header.proofs.size_at.Goals as goal
 
 -- src/lib.rt:76:1

@@ -1,7 +1,4 @@
 use Rattle.byte_list.proofs.Tables.{three}
-use borrow.Author.Rules.{rules}
-use Rattle.astc_numbers.proofs.put_header.Reads as reads
-use Rattle.astc_numbers.proofs.put_header.Lts as lts
 use Rattle.astc_numbers.proofs.put_header.Goals as goal
 
 -- src/lib.rt:43:1

@@ -1,29 +1,39 @@
-use mathlib.Core.Path.{◌≡◌, ap, ◌∙◌}
+use mathlib.Core.Path.{refl, sym, ap, ◌∙◌}
+use native.Mathlib.Omega.{arith}
 use lib.ListN.{length}
 use Rattle.block_answer.specs.Told.{number_told}
-use borrow.Author.Rules.{rules}
 use Rattle.laws.specs.Table.{Bytes}
+use Rattle.reason.proofs.Told.{refusal_some}
 use Rattle.bc7_calls.proofs.Laws.{refused_answer, refused_out, sizes, shown_answer, shown_out, answer_told, texels_length}
 use Rattle.bc7_calls.proofs.decode_bc7.Goals as goal
 
-pub returns-then-n-ne0 : goal.returns-then-n-ne0
-returns-then-n-ne0 c = let e = c.refusal-n.ensures in
-    let z = c.if-n-ne0.true in
+pub returns-in-Err : goal.returns-in-Err
+returns-in-Err c =
+    let e = c.into.ensures ∙ c.in-Err.ensures in
     let block = c.args.block.now in
     let out = c.args.out.now in
-    let a = refused_answer block out _ e z in record { value = a; out_after = refused_out block out _ e z; result_value = ap number_told a ∙ answer_told block (length out) }
+    let a = refused_answer block out _ e (λ z. omega (arith, refusal_some c.in-Err.refusal, c.into.ensures, z)) in
+    record {
+      value = a;
+      out_after = refused_out block out _ e (λ z. omega (arith, refusal_some c.in-Err.refusal, c.into.ensures, z));
+      result_value = ap number_told a ∙ answer_told block (length out);
+    }
 
-pub copy-requires : goal.copy-requires
-copy-requires c = (
-  texels_length _ _ c.decode_into-fault.ensures.out_after,
-  (sizes c.args.block.now c.args.out.now _ c.refusal-n.ensures c.if-n-ne0.false).1,
-)
+pub copy_from_slice-requires : goal.copy_from_slice-requires
+copy_from_slice-requires c =
+    (sizes c.args.block.now c.args.out.now _ c.in-Ok.ensures refl).1 ∙ sym (texels_length _ _ c.decode_into-fault.ensures.out_after)
 
-pub returns : goal.returns
-returns c = let block = c.args.block.now in
+pub returns-in-Ok : goal.returns-in-Ok
+returns-in-Ok c =
+    let block = c.args.block.now in
     let out = c.args.out.now in
-    let e = c.refusal-n.ensures in
-    let z = c.if-n-ne0.false in
-    let bytes : Bytes block = λ i. (c.shared_slice_known-1.given i).fits in
+    let e = c.in-Ok.ensures in
+    let bytes : Bytes block = λ i. (c.type_inv.block i).fits in
     let l = c.load.ensures in
-    let a = c.answer_for.ensures ∙ shown_answer block out _ e z _ bytes l _ c.decode_into-fault.ensures.value in record { value = a; out_after = c.copy.ensures ∙ c.decode_into-fault.ensures.out_after ∙ shown_out block out _ e z _ bytes l; result_value = ap number_told a ∙ answer_told block (length out) }
+    let d = c.decode_into-fault.ensures in
+    let a = c.answer_for.ensures ∙ shown_answer block out _ e refl _ bytes l _ d.value in
+    record {
+      value = a;
+      out_after = c.copy_from_slice.ensures.after ∙ d.out_after ∙ shown_out block out _ e refl _ bytes l;
+      result_value = ap number_told a ∙ answer_told block (length out);
+    }

@@ -1,8 +1,6 @@
-use mathlib.Core.Path.{◌≡◌, refl, sym, ap, ◌∙◌}
-use native.Mathlib.Omega.{arith}
+use mathlib.Core.Path.{◌∙◌}
 use Rattle.laws.specs.Table.{Bytes}
 use Rattle.bc7_calls.proofs.Laws.{wrong_length, right_length, reading_told}
-use borrow.Author.Rules.{rules}
 use Rattle.bc7_calls.proofs.read_bc7.Goals as goal
 
 pub returns-then-block-ne16 : goal.returns-then-block-ne16

@@ -1,8 +1,7 @@
-use mathlib.Core.Path.{◌≡◌, refl, sym, ap, ◌∙◌}
+use mathlib.Core.Path.{sym, ◌∙◌}
 use native.Mathlib.Omega.{arith}
 use Rattle.bc7_block.proofs.Known.{known-mode}
 use Rattle.bc7_calls.proofs.Laws.{faulty, done}
-use borrow.Author.Rules.{rules}
 use Rattle.bc7_calls.proofs.read_number.Goals as goal
 
 pub returns-then-m-eq8 : goal.returns-then-m-eq8

@@ -1,5 +1,5 @@
-use mathlib.Core.Path.{◌≡◌, refl, sym, ap, ◌∙◌}
-use Rattle.bc7_calls.specs.Calls.{nothing, refused_with}
+use mathlib.Core.Path.{refl}
+use Rattle.bc7_calls.specs.Calls.{refused_with}
 use Rattle.laws.specs.Table.{tab}
 use Rattle.bc7_calls.proofs.refused.Goals as goal
 

@@ -1,6 +1,4 @@
-use mathlib.Core.Path.{◌≡◌, refl, sym, ap, ◌∙◌}
-use Rattle.bc7_calls.specs.Calls.{nothing, refused_with}
-use borrow.Author.Rules.{rules}
+use Rattle.bc7_calls.specs.Calls.{nothing}
 use Rattle.bc7_calls.proofs.told.Goals as goal
 
 pub returns : goal.returns

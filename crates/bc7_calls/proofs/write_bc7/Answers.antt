@@ -1,13 +1,16 @@
-use mathlib.Core.Path.{◌≡◌, refl, sym, ap, ◌∙◌}
+use mathlib.Core.Path.{refl, sym, ◌∙◌}
+use native.Mathlib.Omega.{arith}
+use Rattle.reason.proofs.Told.{refusal_some}
 use Rattle.bc7_calls.proofs.Laws.{not_written, stored, writing_told}
-use borrow.Author.Rules.{rules}
 use Rattle.bc7_calls.proofs.write_bc7.Goals as goal
 
-pub returns-then-n-ne0 : goal.returns-then-n-ne0
-returns-then-n-ne0 c = let e = c.refused.ensures ∙ not_written _ _ c.refusal-n.ensures c.if-n-ne0.true in record { value = e; answer_value = writing_told _ _ e }
+pub returns-in-Err : goal.returns-in-Err
+returns-in-Err c =
+    let e = c.refused.ensures ∙ not_written _ _ (c.into.ensures ∙ c.in-Err.ensures) (λ z. omega (arith, refusal_some c.in-Err.refusal, c.into.ensures, z)) in
+    record { value = e; answer_value = writing_told _ _ e }
 
 pub block_of-requires : goal.block_of-requires
-block_of-requires c = sym c.refusal-n.ensures ∙ c.if-n-ne0.false
+block_of-requires c = sym c.in-Ok.ensures
 
-pub returns : goal.returns
-returns c = let e = stored _ _ _ _ c.refusal-n.ensures c.if-n-ne0.false c.block_of.ensures c.store-bytes.ensures in record { value = e; answer_value = writing_told _ _ e }
+pub returns-in-Ok : goal.returns-in-Ok
+returns-in-Ok c = let e = stored _ _ _ _ c.in-Ok.ensures refl c.block_of.ensures c.store.ensures in record { value = e; answer_value = writing_told _ _ e }

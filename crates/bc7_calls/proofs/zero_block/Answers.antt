@@ -1,4 +1,4 @@
-use mathlib.Core.Path.{◌≡◌, refl, sym, ap, ◌∙◌}
+use mathlib.Core.Path.{refl}
 use Rattle.laws.specs.Table.{tab}
 use Rattle.bc7_block.specs.Reading.{bc7_block, zero_block}
 use Rattle.bc7_calls.proofs.zero_block.Goals as goal

@@ -1,6 +1,5 @@
-use mathlib.Core.Path.{◌≡◌, refl, sym, ap, ◌∙◌}
-use borrow.Author.Rules.{rules}
-use Rattle.bc7_block.proofs.Fits.{Fitting, fitting}
+use mathlib.Core.Path.{◌∙◌}
+use Rattle.bc7_block.proofs.Fits.{fitting}
 use Rattle.bc7_codec.proofs.Whole.{fields_fit, stream_is}
 use Rattle.bc7_codec.proofs.block_of.Goals as goal
 

@@ -1,18 +1,16 @@
-use mathlib.Core.Path.{◌≡◌, refl, sym, ap, ◌∙◌}
+use mathlib.Core.Path.{refl}
 use native.Mathlib.Omega.{arith}
-use Prim.Native.Nat.{ℕ, ◌+◌, ◌-◌, ◌*◌, ◌^◌, ◌≤◌, ◌<◌}
-use Rattle.laws.proofs.Filling.{Filling, filling_start, filling_more, filling_done}
-use Rattle.bc7_block.specs.Fields.{value_in}
+use Rattle.laws.proofs.Filling.{filling_start, filling_more, filling_done}
 use Rattle.bc7_codec.proofs.fields_of.Goals as goal
 
 pub loop-k-init : goal.loop-k-init
-loop-k-init c = (omega arith, filling_start _ 0 60 _ refl)
+loop-k-init c = filling_start _ 0 60 _ refl
 
 pub value_in-requires : goal.value_in-requires
 value_in-requires c = (c.requires, omega arith)
 
 pub loop-k-preserved : goal.loop-k-preserved
-loop-k-preserved c = (omega arith, filling_more _ 0 60 _ _ _ (omega arith) c.loop-k.invariant.1 c.value_in.ensures)
+loop-k-preserved c = filling_more _ 0 60 _ _ _ (omega arith) c.loop-k.invariant c.value_in.ensures
 
 pub returns : goal.returns
-returns c = filling_done _ 0 60 _ _ (omega arith) c.loop-k.invariant.1
+returns c = filling_done _ 0 60 _ _ (omega arith) c.loop-k.invariant

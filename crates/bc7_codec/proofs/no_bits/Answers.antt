@@ -1,4 +1,4 @@
-use mathlib.Core.Path.{◌≡◌, refl, sym, ap, ◌∙◌}
+use mathlib.Core.Path.{refl}
 use Rattle.bits.specs.Block.{block_number}
 use Rattle.bc7_codec.proofs.no_bits.Goals as goal
 

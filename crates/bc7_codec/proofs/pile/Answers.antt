@@ -1,23 +1,18 @@
-use mathlib.Core.Path.{◌≡◌, refl, sym, ap, ◌∙◌}
+use mathlib.Core.Path.{◌≡◌, ◌∙◌}
 use native.Mathlib.Omega.{arith}
-use Prim.Native.Nat.{ℕ, ◌+◌, ◌-◌, ◌*◌, ◌^◌, ◌≤◌, ◌<◌}
-use lib.ListN.{get_or}
-use borrow.Author.Rules.{rules}
-use Rattle.bits.specs.Block.{block_number}
-use Rattle.bits.specs.Field.{field, stream}
-use Rattle.bc7_layout.specs.Layout.{field_width, place_of, lowest_one, mode_at, partition_field_at, field_at}
+use Rattle.bits.specs.Field.{stream}
 use Rattle.bc7_codec.proofs.Steps.{place_start, next_place, place_bound, piled}
 use Rattle.bc7_codec.proofs.pile.Goals as goal
 
 pub loop-k-init : goal.loop-k-init
 unfolding stream
-loop-k-init c = (omega arith, place_start _ _, c.no_bits-b.ensures)
+loop-k-init c = (place_start _ _, c.no_bits-b.ensures)
 
 pub overflow_add-at : goal.overflow_add-at
-overflow_add-at c = omega (arith, c.width_of-at.ensures.1, c.loop-k.invariant.1, place_bound c.args.m c.args.p c.loop-k.k c.requires.0.mode)
+overflow_add-at c = omega (arith, c.width_of-at.ensures.1, c.loop-k.invariant.0, place_bound c.args.m c.args.p c.loop-k.k c.requires.0.mode)
 
 pub loop-k-preserved : goal.loop-k-preserved
-loop-k-preserved c = (omega arith, next_place _ _ _ _ _ c.loop-k.invariant.1 c.width_of-at.ensures.0, c.append-b.ensures ∙ piled _ _ _ c.requires.0 _ _ _ _ (omega arith) c.loop-k.invariant.2 c.loop-k.invariant.1 c.wide.ensures)
+loop-k-preserved c = (next_place _ _ _ _ _ c.loop-k.invariant.0 c.width_of-at.ensures.0, c.append-b.ensures ∙ piled _ _ _ c.requires.0 _ _ _ _ (omega arith) c.loop-k.invariant.1 c.loop-k.invariant.0 c.wide.ensures)
 
 pub returns : goal.returns
-returns c = let e : c.loop-k.k ≡ 60 = omega arith in rw e at c.loop-k.invariant.2
+returns c = let e : c.loop-k.k ≡ 60 = omega arith in rw e at c.loop-k.invariant.1

@@ -1,8 +1,7 @@
-use mathlib.Core.Path.{◌≡◌, ap, ◌∙◌}
+use mathlib.Core.Path.{ap, ◌∙◌}
 use Rattle.bc7_layout.specs.declared.Mode.{Mode}
 use Rattle.bc7_layout.specs.Modes.{subsets}
 use Rattle.bc7_layout.specs.inner.Plan.{plan_of}
-use borrow.Author.Rules.{rules}
 use Rattle.bc7_codec.proofs.plan_for.Goals as goal
 
 pub returns : goal.returns

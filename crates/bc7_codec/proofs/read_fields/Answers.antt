@@ -1,6 +1,5 @@
-use mathlib.Core.Path.{◌≡◌, refl, sym, ap, ◌∙◌}
+use mathlib.Core.Path.{◌∙◌}
 use Rattle.bc7_codec.proofs.Whole.{fields_read}
-use borrow.Author.Rules.{rules}
 use Rattle.bc7_codec.proofs.read_fields.Goals as goal
 
 pub returns : goal.returns

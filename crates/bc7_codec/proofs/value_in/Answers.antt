@@ -1,5 +1,4 @@
-use mathlib.Core.Path.{◌≡◌, sym, ◌∙◌}
-use borrow.Author.Rules.{rules}
+use mathlib.Core.Path.{sym, ◌∙◌}
 use Rattle.bc7_block.specs.Fields.{value_in}
 use Rattle.bc7_codec.proofs.Whole.{numbered}
 use Rattle.bc7_codec.proofs.value_in.Goals as goal

@@ -1,12 +1,7 @@
-use mathlib.Core.Path.{◌≡◌, sym, subst, ◌∙◌}
+use mathlib.Core.Path.{sym, subst}
 use Rattle.bc7_core.specs.inner.Sets.{SetIn, set_factor}
 use Rattle.bc7_core.proofs.Indices.{alpha_set_in, alpha_by_set}
 use Rattle.bc7_core.proofs.Painting.{first_is, own_set, factors_by}
-use borrow.Author.Rules.{rules}
-use Rattle.bc7_core.proofs.alpha_factors.Reads as reads
-use Rattle.bc7_core.proofs.alpha_factors.Lts as lts
-use Rattle.bc7_core.proofs.alpha_set.Reads as alpha-set-reads
-use Rattle.bc7_core.proofs.factors.Reads as factors-reads
 use Rattle.bc7_core.proofs.alpha_factors.Goals as goal
 
 -- src/lib.rt:169:5

@@ -1,5 +1,4 @@
 use mathlib.Core.Path.{refl}
-use borrow.Author.Rules.{rules}
 use Rattle.bc7_core.proofs.Indices.{alpha_alone, some_secondary, alpha_always, alpha_second, alpha_first, set_by}
 use Rattle.bc7_core.proofs.alpha_set.Goals as goal
 

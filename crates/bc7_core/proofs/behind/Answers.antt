@@ -1,5 +1,4 @@
 use mathlib.Core.Path.{refl}
-use borrow.Author.Rules.{rules}
 use Rattle.bc7_core.specs.inner.Sets.{behind_of}
 use Rattle.bc7_core.proofs.behind.Goals as goal
 

@@ -1,12 +1,7 @@
-use mathlib.Core.Path.{◌≡◌, sym, subst, ◌∙◌}
+use mathlib.Core.Path.{sym, subst}
 use Rattle.bc7_core.specs.inner.Sets.{SetIn, set_factor}
 use Rattle.bc7_core.proofs.Indices.{colour_set_in, colour_by_set}
 use Rattle.bc7_core.proofs.Painting.{first_is, own_set, factors_by}
-use borrow.Author.Rules.{rules}
-use Rattle.bc7_core.proofs.colour_factors.Reads as reads
-use Rattle.bc7_core.proofs.colour_factors.Lts as lts
-use Rattle.bc7_core.proofs.colour_set.Reads as colour-set-reads
-use Rattle.bc7_core.proofs.factors.Reads as factors-reads
 use Rattle.bc7_core.proofs.colour_factors.Goals as goal
 
 -- src/lib.rt:162:5

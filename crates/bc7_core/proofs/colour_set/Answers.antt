@@ -1,5 +1,4 @@
 use mathlib.Core.Path.{refl}
-use borrow.Author.Rules.{rules}
 use Rattle.bc7_core.proofs.Indices.{colour_unselected, colour_second, colour_first, has_secondary, set_by}
 use Rattle.bc7_core.proofs.colour_set.Goals as goal
 

@@ -5,15 +5,6 @@ use Rattle.bc7_layout.specs.Modes.{secondary_bits}
 use Rattle.bc7_layout.specs.Layout.{mode_at}
 use Rattle.bc7_core.proofs.Painting.{fault_told, no_fault_told, bytes_reserved, bytes_shown, factors_by, one_set}
 use borrow.Author.Rules.{rules}
-use Rattle.bc7_core.proofs.decode_into.Reads as reads
-use Rattle.bc7_core.proofs.decode_into.Lts as lts
-use Rattle.bc7_core.proofs.alpha_factors.Reads as alpha-factors-reads
-use Rattle.bc7_core.proofs.clear.Reads as clear_reads
-use Rattle.bc7_core.proofs.colour_factors.Reads as colour-factors-reads
-use Rattle.bc7_core.proofs.paint.Reads as paint-reads
-use Rattle.bc7_ends.proofs.frame_of.Reads as frame-of-reads
-use Rattle.bc7_ends.proofs.lines_of.Reads as lines-of-reads
-use Rattle.bc7_layout.proofs.mode_at.Reads as mode-at-reads
 use Rattle.bc7_core.proofs.decode_into.Goals as goal
 
 -- src/lib.rt:250:9

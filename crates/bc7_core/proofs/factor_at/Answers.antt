@@ -1,9 +1,4 @@
 use Rattle.bc7_core.proofs.Painting.{bits_least, bits_most, factor_at_lem}
-use borrow.Author.Rules.{rules}
-use Rattle.bc7_core.proofs.factor_at.Reads as reads
-use Rattle.bc7_core.proofs.factor_at.Lts as lts
-use Rattle.bc7_core.proofs.next_factor.Reads as next-factor-reads
-use Rattle.bc7_layout.proofs.anchor_in.Reads as anchor-in-reads
 use Rattle.bc7_core.proofs.factor_at.Goals as goal
 
 -- src/lib.rt:146:5

@@ -1,10 +1,5 @@
 use mathlib.Core.Path.{◌∙◌}
 use Rattle.bc7_core.proofs.Painting.{bits_least, bits_most, behind_is}
-use borrow.Author.Rules.{rules}
-use Rattle.bc7_core.proofs.past.Reads as reads
-use Rattle.bc7_core.proofs.past.Lts as lts
-use Rattle.bc7_core.proofs.behind.Reads as behind-reads
-use Rattle.bc7_layout.proofs.anchor_in.Reads as anchor-in-reads
 use Rattle.bc7_core.proofs.past.Goals as goal
 
 -- src/lib.rt:155:5

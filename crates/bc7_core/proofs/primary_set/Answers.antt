@@ -1,5 +1,3 @@
-use mathlib.Core.Path.{◌≡◌, ap, ◌∙◌}
-use borrow.Author.Rules.{rules}
 use Rattle.bc7_core.proofs.Indices.{primary_set_is}
 use Rattle.bc7_core.proofs.primary_set.Goals as goal
 

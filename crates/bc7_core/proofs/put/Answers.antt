@@ -1,5 +1,4 @@
 use mathlib.Core.Path.{refl}
-use borrow.Author.Rules.{rules}
 use Rattle.bc7_ends.specs.inner.Lanes.{lane_byte}
 use Rattle.bc7_core.proofs.put.Goals as goal
 

@@ -1,6 +1,4 @@
-use mathlib.Core.Path.{◌≡◌, ap, ◌∙◌}
 use native.Mathlib.Omega.{arith}
-use borrow.Author.Rules.{rules}
 use Rattle.bc7_core.proofs.Indices.{secondary_set_is, has_index}
 use Rattle.bc7_core.proofs.secondary_set.Goals as goal
 

@@ -1,12 +1,5 @@
-use mathlib.Core.Path.{◌≡◌, ◌∙◌}
-use native.Mathlib.Omega.{arith}
 use Rattle.laws.specs.inner.Filled.{Filled}
 use Rattle.bc7_core.proofs.Painting.{subset_here, subset_small, line_small, shows}
-use borrow.Author.Rules.{rules}
-use Rattle.bc7_core.proofs.sum_at.Reads as reads
-use Rattle.bc7_core.proofs.sum_at.Lts as lts
-use Rattle.bc7_core.proofs.sum_on.Reads as sum-on-reads
-use Rattle.bc7_layout.proofs.subset_in.Reads as subset-in-reads
 use Rattle.bc7_core.proofs.sum_at.Goals as goal
 
 -- src/lib.rt:200:13

@@ -1,6 +1,5 @@
 use mathlib.Core.Path.{◌∙◌}
 use native.Mathlib.Omega.{arith}
-use borrow.Author.Rules.{rules}
 use Rattle.bc7_ends.proofs.Mixing.{alpha_still, alpha_red, alpha_green, alpha_blue}
 use Rattle.bc7_ends.proofs.alpha_lanes.Goals as goal
 

@@ -1,7 +1,4 @@
-use mathlib.Core.Path.{◌≡◌, ap, ◌∙◌}
-use Prim.Native.Nat.{ℕ, ◌<◌}
 use native.Mathlib.Omega.{arith}
-use borrow.Author.Rules.{rules}
 use Rattle.bc7_ends.proofs.Places.{alpha_bits_lem, alpha_end, opaque, end_byte_of}
 use Rattle.bc7_ends.proofs.alpha_of.Goals as goal
 

@@ -1,6 +1,5 @@
 use mathlib.Core.Path.{◌∙◌}
 use native.Mathlib.Omega.{arith}
-use borrow.Author.Rules.{rules}
 use Rattle.bc7_ends.proofs.Mixing.{lanes_still, lanes_red, lanes_green, lanes_blue}
 use Rattle.bc7_ends.proofs.colour_lanes.Goals as goal
 

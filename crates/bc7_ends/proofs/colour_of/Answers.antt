@@ -1,5 +1,4 @@
 use native.Mathlib.Omega.{arith}
-use borrow.Author.Rules.{rules}
 use Rattle.bc7_ends.proofs.Places.{colour_bits_lem, colour_end, coloured, end_byte_of}
 use Rattle.bc7_ends.proofs.colour_of.Goals as goal
 

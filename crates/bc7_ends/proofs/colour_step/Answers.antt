@@ -1,5 +1,4 @@
 use native.Mathlib.Omega.{arith}
-use borrow.Author.Rules.{rules}
 use Rattle.bc7_ends.proofs.Places.{step_is}
 use Rattle.bc7_ends.proofs.colour_step.Goals as goal
 

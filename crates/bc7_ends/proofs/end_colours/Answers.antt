@@ -1,5 +1,4 @@
-use mathlib.Core.Path.{◌≡◌, ◌∙◌}
-use borrow.Author.Rules.{rules}
+use mathlib.Core.Path.{◌∙◌}
 use Rattle.bc7_block.proofs.Bounds.{rotated_lt}
 use Rattle.bc7_ends.proofs.Mixing.{colours_are}
 use Rattle.bc7_ends.proofs.end_colours.Goals as goal

@@ -1,4 +1,3 @@
-use borrow.Author.Rules.{rules}
 use Rattle.bc7_ends.proofs.Places.{ends_is}
 use Rattle.bc7_ends.proofs.ends_at.Goals as goal
 

@@ -1,6 +1,5 @@
-use mathlib.Core.Path.{◌≡◌, sym, ap, ◌∙◌}
-use Prim.Native.Nat.{ℕ, ◌*◌, ◌<◌}
-use borrow.Author.Rules.{rules}
+use mathlib.Core.Path.{ap, ◌∙◌}
+use Prim.Native.Nat.{ℕ, ◌*◌}
 use Rattle.bc7_layout.specs.Modes.{mode_row, subsets, colour_bits}
 use Rattle.bc7_layout.specs.Layout.{place_of}
 use Rattle.bc7_ends.proofs.Places.{plan_is}

@@ -1,5 +1,4 @@
 use native.Mathlib.Omega.{arith}
-use borrow.Author.Rules.{rules}
 use Rattle.bc7_ends.proofs.Places.{indices_is}
 use Rattle.bc7_ends.proofs.indices_at.Goals as goal
 

@@ -1,7 +1,4 @@
-use mathlib.Core.Path.{◌≡◌, sym, ap, ◌∙◌}
-use Prim.Native.Nat.{ℕ, ◌+◌, ◌*◌, ◌/◌, ◌%◌, ◌<◌, ◌≤◌}
 use native.Mathlib.Omega.{arith}
-use borrow.Author.Rules.{rules}
 use Rattle.bc7_layout.proofs.Tables.{subsets_most}
 use Rattle.bc7_ends.proofs.Mixing.{line_is}
 use Rattle.bc7_ends.proofs.line_of.Goals as goal

@@ -1,14 +1,10 @@
 use mathlib.Core.Path.{◌≡◌, sym, ap, ◌∙◌}
-use mathlib.Core.Bool.{Bool, true, false}
+use mathlib.Core.Bool.{true}
 use Prim.Native.Nat.{ℕ, ◌*◌, ◌≤◌, ◌<◌}
 use native.Mathlib.Omega.{arith}
-use lib.Dec.{eqb}
-use borrow.Author.Rules.{rules}
 use borrow.Author.Tests.{eqb-true, ne_eqb}
-use Rattle.laws.specs.Choice.{either}
 use Rattle.bits.proofs.Fields.{field_lt}
 use Rattle.bc7_layout.specs.declared.Mode.{Mode}
-use Rattle.bc7_layout.specs.Layout.{mode_at}
 use Rattle.bc7_layout.specs.Modes.{mode_row, subsets, endpoint_pbits, shared_pbits}
 use Rattle.bc7_layout.proofs.Tables.{subsets_most}
 use Rattle.bc7_block.specs.Picture.{has_pbit}

@@ -1,5 +1,4 @@
 use native.Mathlib.Omega.{arith}
-use borrow.Author.Rules.{rules}
 use Rattle.bc7_ends.proofs.Places.{p_bits_is}
 use Rattle.bc7_ends.proofs.p_bits_at.Goals as goal
 

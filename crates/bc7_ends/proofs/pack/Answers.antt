@@ -1,5 +1,4 @@
 use mathlib.Core.Path.{refl}
-use borrow.Author.Rules.{rules}
 use Rattle.bc7_ends.specs.inner.Lanes.{four_lanes}
 use Rattle.bc7_ends.proofs.Mixing.{lanes_most}
 use Rattle.bc7_ends.proofs.pack.Goals as goal

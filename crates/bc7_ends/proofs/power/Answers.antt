@@ -1,9 +1,8 @@
 use mathlib.Core.Path.{◌≡◌}
 use native.Mathlib.Omega.{arith}
-use Prim.Native.Nat.{ℕ, ◌*◌, ◌%◌, ◌^◌, ◌<◌}
+use Prim.Native.Nat.{◌*◌, ◌%◌, ◌^◌, ◌<◌}
 use native.Mathlib.Nat.{one-mul, mod-eq_of_lt}
 use lib.Pow.{pow_pos, pow-lt, pow_mono}
-use borrow.Author.Rules.{rules}
 use Rattle.bc7_ends.proofs.power.Goals as goal
 
 pub returns : goal.returns

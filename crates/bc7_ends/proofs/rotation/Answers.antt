@@ -1,5 +1,4 @@
 use mathlib.Core.Path.{◌∙◌}
-use borrow.Author.Rules.{rules}
 use Rattle.bc7_block.proofs.Bounds.{rotation_here}
 use Rattle.bc7_block.proofs.Known.{fits}
 use Rattle.bc7_ends.proofs.Places.{rotation_bits_lem, rotation_is}

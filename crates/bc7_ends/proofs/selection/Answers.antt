@@ -1,5 +1,4 @@
 use mathlib.Core.Path.{◌∙◌}
-use borrow.Author.Rules.{rules}
 use Rattle.bc7_ends.proofs.Places.{selection_bits_lem, selection_is}
 use Rattle.bc7_ends.proofs.selection.Goals as goal
 

@@ -1,12 +1,10 @@
-use mathlib.Core.Path.{◌≡◌, sym, ap, ◌∙◌}
+use mathlib.Core.Path.{◌≡◌, ◌∙◌}
 use Prim.Native.Nat.{ℕ, ◌*◌, ◌≤◌, ◌<◌}
 use native.Mathlib.Nat.{mul-le-mul}
 use native.Mathlib.Omega.{arith}
-use borrow.Author.Rules.{rules}
-use Rattle.bc7_layout.specs.Layout.{mode_at}
 use Rattle.bc7_layout.specs.Modes.{subsets}
 use Rattle.bc7_layout.proofs.Tables.{subsets_most}
-use Rattle.bc7_ends.specs.inner.Frame.{Framed, channel_bits}
+use Rattle.bc7_ends.specs.inner.Frame.{channel_bits}
 use Rattle.bc7_ends.proofs.Places.{channel_most, stored_is}
 use Rattle.bc7_ends.proofs.stored.Goals as goal
 

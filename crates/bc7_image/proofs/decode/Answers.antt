@@ -1,5 +1,4 @@
 use mathlib.Core.Path.{◌∙◌}
-use Prim.Native.Nat.{◌-◌}
 use native.Mathlib.Omega.{arith}
 use Rattle.image_layout.proofs.Walking.{walking_start, walking_more, walking_done}
 use Rattle.bc7_image.specs.Image.{bc7_numbers}

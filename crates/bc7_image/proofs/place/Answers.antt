@@ -1,5 +1,4 @@
 use mathlib.Core.Path.{◌∙◌}
-use Prim.Native.Nat.{◌-◌}
 use native.Mathlib.Omega.{arith}
 use Rattle.image_layout.proofs.Parts.{placing_none, placing_more, placing_all}
 use Rattle.bc7_image.proofs.Tiles.{run_fits_64}

@@ -1,10 +1,7 @@
-use Prim.Native.Nat.{◌+◌, ◌-◌, ◌≤◌}
+use Prim.Native.Nat.{◌+◌}
 use lib.ListN.{get_or}
 use Rattle.laws.proofs.Filling.{Filling}
 use Rattle.bc7_image.proofs.row_from.Given as goal
 
 abbrev pub invariant-loop-i : goal.invariant-loop-i
-invariant-loop-i l = (l.i ≤ 16) × Filling (λ k. get_or l.src (l.from + k) 0) 0 16 l.row l.i
-
-abbrev pub decreases-loop-i : goal.decreases-loop-i
-decreases-loop-i l = 16 - l.i
+invariant-loop-i l = Filling (λ k. get_or l.src (l.from + k) 0) 0 16 l.row l.i

@@ -15,6 +15,6 @@ pub returns : goal.returns
 returns c = let a = c.args in
     let e = c.if-block-ne16.false in
     let h = c.if-numbers-ne60.false in
-    let f = c.array_of-f.ensures in
+    let f = c.copy_from_slice.ensures.after in
     let s = c.sheet_of-s.ensures in
     let w = c.write_bc7-writing.ensures.value in record { value = c.number_told.ensures ∙ write_told a.numbers.now a.block.now e h _ f _ s _ w; block_after = c.put_block.ensures ∙ block_written a.numbers.now a.block.now e h _ f _ s _ w }

@@ -1,11 +1,8 @@
 use mathlib.Core.Path.{◌≡◌}
-use Prim.Native.Nat.{◌+◌, ◌-◌, ◌*◌, ◌≤◌}
+use Prim.Native.Nat.{◌+◌, ◌-◌, ◌*◌}
 use Rattle.bits.specs.Field.{field}
 use Rattle.bits.specs.Block.{number_of}
 use Rattle.bits.proofs.cut_word.Given as goal
 
 abbrev pub invariant-loop-left : goal.invariant-loop-left
-invariant-loop-left l = (l.left ≤ 8) × (l.word ≡ field (number_of l.s) (8 * (l.k + l.left)) (64 - 8 * l.left))
-
-abbrev pub decreases-loop-left : goal.decreases-loop-left
-decreases-loop-left l = l.left
+invariant-loop-left l = l.word ≡ field (number_of l.s) (8 * (l.k + l.left)) (64 - 8 * l.left)

@@ -1,4 +1,4 @@
-use Prim.Native.Nat.{ℕ, ◌-◌, ◌*◌, ◌≤◌}
+use Prim.Native.Nat.{ℕ, ◌*◌}
 use Rattle.laws.proofs.Filling.{Filling}
 use Rattle.bits.specs.declared.PhysicalBlock.{PhysicalBlock}
 use Rattle.bits.specs.Field.{field}
@@ -10,7 +10,4 @@ abbrev pub bytes : PhysicalBlock → ℕ → ℕ
 bytes b i = field (block_number b) (8 * i) 8
 
 abbrev pub invariant-loop-k : goal.invariant-loop-k
-invariant-loop-k l = (l.k ≤ 16) × Filling (bytes l.b) 0 16 l.s l.k
-
-abbrev pub decreases-loop-k : goal.decreases-loop-k
-decreases-loop-k l = 16 - l.k
+invariant-loop-k l = Filling (bytes l.b) 0 16 l.s l.k

@@ -1,10 +1,4 @@
-use mathlib.Core.Path.{◌≡◌, sym, ap, ◌∙◌}
-use mathlib.Core.List.{List}
-use Prim.Native.Nat.{ℕ}
-use lib.ListN.{length}
-use Rattle.footprint.specs.Footprint.{width_of, texels_of}
-use Rattle.block_buffer.specs.inner.Painted.{painted}
-use borrow.Author.Rules.{rules}
+use mathlib.Core.Path.{sym}
 use Rattle.block_core.proofs.buffered.Goals as goal
 
 pub returns-in-Buffered : goal.returns-in-Buffered

@@ -1,4 +1,3 @@
-use borrow.Author.Rules.{rules}
 use Rattle.block_core.proofs.decode_into.Goals as goal
 
 pub returns : goal.returns

@@ -1,5 +1,4 @@
 use mathlib.Core.Path.{sym, ◌∙◌}
-use borrow.Author.Rules.{rules}
 use Rattle.texel.specs.Meaning.{error_texel}
 use Rattle.block_core.proofs.error_texel.Goals as goal
 

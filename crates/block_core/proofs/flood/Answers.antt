@@ -1,5 +1,4 @@
 use native.Mathlib.Omega.{arith}
-use borrow.Author.Rules.{rules}
 use Rattle.footprint.specs.Footprint.{width_of}
 use Rattle.footprint.proofs.Laws.{texels_le}
 use Rattle.block_core.proofs.flood.Goals as goal

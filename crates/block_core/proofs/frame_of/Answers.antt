@@ -1,5 +1,3 @@
-use mathlib.Core.Path.{◌≡◌}
-use borrow.Author.Rules.{rules}
 use Rattle.block_core.specs.inner.Prepared.{frame_of}
 use Rattle.block_core.proofs.frame_of.Goals as goal
 

@@ -1,347 +1,170 @@
--- ---- where the row lies
--- ---- where the texel lies
 use mathlib.Core.Path.{◌≡◌, refl, ap, ◌∙◌}
 use mathlib.Core.List.{List}
 use Prim.Native.Nat.{ℕ, ◌+◌, ◌-◌, ◌*◌, ◌/◌, ◌≤◌, ◌<◌}
 use native.Mathlib.Nat.{mul-le-mul}
 use native.Mathlib.Omega.{arith}
-use lib.ListN.{length, get_or}
-use borrow.Author.Rules.{rules}
+use lib.ListN.{get_or}
 use Rattle.laws.proofs.Filling.{padded_here}
 use Rattle.weight_grid.proofs.Points.{step_le}
 use Rattle.weight_grid.specs.declared.Column.{Column}
 use Rattle.weight_grid.specs.inner.Columns.{grid_column, no_column}
-use Rattle.block_core.specs.inner.Prepared.{prepared_texel}
 use Rattle.partition.proofs.Rows.{which_lt}
-use Rattle.block_buffer.proofs.Painting.{Laid, laid_texel, laid_as, laid_none, laid_done, row_end, place_fits}
+use Rattle.block_buffer.proofs.Painting.{laid_texel, laid_as, laid_none, laid_done, row_end, place_fits}
 use Rattle.block_core.proofs.Painting.{reach_column, on_grid_told, told, room_for}
 use Rattle.block_core.proofs.paint.Goals as goal
-use Rattle.block_core.proofs.paint.Goals.{After-grid_place-gt, After-infill_both-both, After-p00-1, After-p01-1, After-p10-1, After-place, After-put, After-step, After-struct_known-in-loop-x-3-1, In-loop-x}
+use Rattle.block_core.proofs.paint.Goals.{After-grid_place-gt, In-loop-x}
 
-down_le-After-grid_place-gt : (c : After-grid_place-gt) → c.grid_place-gt.result ≤ 16 * (c.args.g.height - 1)
-down_le-After-grid_place-gt c = omega (arith, c.grid_place-gt.ensures, c.requires.inside.rows c.loop-y.y c.loop-y-test.true)
+-- the row of points above a row of texels begins within the grid
+from_le : (c : After-grid_place-gt) → c.grid_place-gt.result / 16 * c.args.g.width ≤ 11 * 12
+from_le c =
+    let p = c.requires.inside in
+    let d : c.grid_place-gt.result ≤ 16 * (c.args.g.height - 1) = omega (arith, c.grid_place-gt.ensures, p.rows c.loop-y.y c.loop-y-test.true) in
+    mul-le-mul {n₂ = 11} {m₂ = 12} (omega (arith, d, p.limits.height_most)) p.limits.width_most
 
-down_le-After-p00-1 : (c : After-p00-1) → c.grid_place-gt.result ≤ 16 * (c.args.g.height - 1)
-down_le-After-p00-1 c = omega (arith, c.grid_place-gt.ensures, c.requires.inside.rows c.loop-y.y c.loop-y-test.true)
+-- at a texel of a row
+module _ (c : In-loop-x) where
+  abbrev x : ℕ
+  x = c.loop-x.x
 
-down_le-After-p01-1 : (c : After-p01-1) → c.grid_place-gt.result ≤ 16 * (c.args.g.height - 1)
-down_le-After-p01-1 c = omega (arith, c.grid_place-gt.ensures, c.requires.inside.rows c.loop-y.y c.loop-y-test.true)
+  abbrev y : ℕ
+  y = c.loop-y.y
 
-down_le-After-p10-1 : (c : After-p10-1) → c.grid_place-gt.result ≤ 16 * (c.args.g.height - 1)
-down_le-After-p10-1 c = omega (arith, c.grid_place-gt.ensures, c.requires.inside.rows c.loop-y.y c.loop-y-test.true)
+  abbrev column : Column
+  column = get_or c.columns-columns.result x no_column
 
-down_le-After-step : (c : After-step) → c.grid_place-gt.result ≤ 16 * (c.args.g.height - 1)
-down_le-After-step c = omega (arith, c.grid_place-gt.ensures, c.requires.inside.rows c.loop-y.y c.loop-y-test.true)
+  abbrev upper : ℕ
+  upper = c.grid_place-gt.result / 16 * c.args.g.width
 
-down_le-After-struct_known-in-loop-x-3-1 : (c : After-struct_known-in-loop-x-3-1) → c.grid_place-gt.result ≤ 16 * (c.args.g.height - 1)
-down_le-After-struct_known-in-loop-x-3-1 c = omega (arith, c.grid_place-gt.ensures, c.requires.inside.rows c.loop-y.y c.loop-y-test.true)
+  abbrev lower : ℕ
+  lower = upper + c.step.result
 
-from_le-After-grid_place-gt : (c : After-grid_place-gt) → c.grid_place-gt.result / 16 * c.args.g.width ≤ 11 * 12
-from_le-After-grid_place-gt c =
-    let s = c in
-    mul-le-mul {n₂ = 11} {m₂ = 12} (omega (arith, down_le-After-grid_place-gt c, s.requires.inside.limits.height_most)) s.requires.inside.limits.width_most
+  narrow : x < 12
+  narrow = omega (arith, c.loop-x-test.true, c.requires.inside.width_most)
 
-from_le-After-step : (c : After-step) → c.grid_place-gt.result / 16 * c.args.g.width ≤ 11 * 12
-from_le-After-step c =
-    let s = c in
-    mul-le-mul {n₂ = 11} {m₂ = 12} (omega (arith, down_le-After-step c, s.requires.inside.limits.height_most)) s.requires.inside.limits.width_most
+  column_is : column ≡ grid_column c.args.f.across c.args.g.width x
+  column_is =
+      let a = c.args in
+      ap (λ (l : List Column). get_or l x no_column) c.columns-columns.ensures
+      ∙ padded_here (grid_column a.f.across a.g.width) no_column 12 a.f.width x no_column narrow c.loop-x-test.true
 
-abbrev x_of-After-infill_both-both : After-infill_both-both → ℕ
-x_of-After-infill_both-both t = t.loop-x.x
+  -- the points that are read are the grid's
+  room : (lower + column.next < 64) × (column.at ≤ column.next) × (upper ≤ lower)
+  room =
+      let a = c.args in
+      let p = c.requires.inside in
+      reach_column a.g a.f x column column_is refl (ap (λ (k : ℕ). upper + k) c.step.ensures) p.limits p.count (p.columns x c.loop-x-test.true)
+      (omega (arith, c.grid_place-gt.ensures, p.rows y c.loop-y-test.true))
 
-abbrev x_of-After-p00-1 : After-p00-1 → ℕ
-x_of-After-p00-1 t = t.loop-x.x
+  -- the partition that is found has a line
+  which_line : get_or c.row_partitions-which.result x 0 < 4
+  which_line = which_lt c.args.seeds c.args.partitions y x c.row_partitions-which.ensures (omega (arith, narrow))
 
-abbrev x_of-After-p01-1 : After-p01-1 → ℕ
-x_of-After-p01-1 t = t.loop-x.x
-
-abbrev x_of-After-p10-1 : After-p10-1 → ℕ
-x_of-After-p10-1 t = t.loop-x.x
-
-abbrev x_of-After-place : After-place → ℕ
-x_of-After-place t = t.loop-x.x
-
-abbrev x_of-After-put : After-put → ℕ
-x_of-After-put t = t.loop-x.x
-
-abbrev x_of-After-struct_known-in-loop-x-3-1 : After-struct_known-in-loop-x-3-1 → ℕ
-x_of-After-struct_known-in-loop-x-3-1 t = t.loop-x.x
-
-abbrev x_of-In-loop-x : In-loop-x → ℕ
-x_of-In-loop-x t = t.loop-x.x
-
-abbrev y_of-After-put : After-put → ℕ
-y_of-After-put t = t.loop-y.y
-
-abbrev y_of-After-infill_both-both : After-infill_both-both → ℕ
-y_of-After-infill_both-both t = t.loop-y.y
-
-abbrev y_of-After-place : After-place → ℕ
-y_of-After-place t = t.loop-y.y
-
-abbrev column_at-After-p00-1 : After-p00-1 → Column
-column_at-After-p00-1 t = get_or t.columns-columns.result (x_of-After-p00-1 t) no_column
-
-abbrev column_at-After-p01-1 : After-p01-1 → Column
-column_at-After-p01-1 t = get_or t.columns-columns.result (x_of-After-p01-1 t) no_column
-
-abbrev column_at-After-p10-1 : After-p10-1 → Column
-column_at-After-p10-1 t = get_or t.columns-columns.result (x_of-After-p10-1 t) no_column
-
-abbrev column_at-After-put : After-put → Column
-column_at-After-put t = get_or t.columns-columns.result (x_of-After-put t) no_column
-
-abbrev column_at-After-struct_known-in-loop-x-3-1 : After-struct_known-in-loop-x-3-1 → Column
-column_at-After-struct_known-in-loop-x-3-1 t = get_or t.columns-columns.result (x_of-After-struct_known-in-loop-x-3-1 t) no_column
-
-narrow-After-infill_both-both : (t : After-infill_both-both) → x_of-After-infill_both-both t < 12
-narrow-After-infill_both-both t = omega (arith, t.loop-x-test.true, t.requires.inside.width_most)
-
-narrow-In-loop-x : (t : In-loop-x) → x_of-In-loop-x t < 12
-narrow-In-loop-x t = omega (arith, t.loop-x-test.true, t.requires.inside.width_most)
-
-narrow-After-put : (t : After-put) → x_of-After-put t < 12
-narrow-After-put t = omega (arith, t.loop-x-test.true, t.requires.inside.width_most)
-
-narrow-After-p00-1 : (t : After-p00-1) → x_of-After-p00-1 t < 12
-narrow-After-p00-1 t = omega (arith, t.loop-x-test.true, t.requires.inside.width_most)
-
-narrow-After-p01-1 : (t : After-p01-1) → x_of-After-p01-1 t < 12
-narrow-After-p01-1 t = omega (arith, t.loop-x-test.true, t.requires.inside.width_most)
-
-narrow-After-p10-1 : (t : After-p10-1) → x_of-After-p10-1 t < 12
-narrow-After-p10-1 t = omega (arith, t.loop-x-test.true, t.requires.inside.width_most)
-
-narrow-After-struct_known-in-loop-x-3-1 : (t : After-struct_known-in-loop-x-3-1) → x_of-After-struct_known-in-loop-x-3-1 t < 12
-narrow-After-struct_known-in-loop-x-3-1 t = omega (arith, t.loop-x-test.true, t.requires.inside.width_most)
-
-column_is-After-p00-1 : (t : After-p00-1) → column_at-After-p00-1 t ≡ grid_column t.args.f.across t.args.g.width (x_of-After-p00-1 t)
-column_is-After-p00-1 t =
-    let a = t.args in
-    ap (λ (l : List Column). get_or l (x_of-After-p00-1 t) no_column) t.columns-columns.ensures
-    ∙ (padded_here (grid_column a.f.across a.g.width) no_column 12 a.f.width (x_of-After-p00-1 t) no_column (narrow-After-p00-1 t) t.loop-x-test.true)
-
-column_is-After-p01-1 : (t : After-p01-1) → column_at-After-p01-1 t ≡ grid_column t.args.f.across t.args.g.width (x_of-After-p01-1 t)
-column_is-After-p01-1 t =
-    let a = t.args in
-    ap (λ (l : List Column). get_or l (x_of-After-p01-1 t) no_column) t.columns-columns.ensures
-    ∙ (padded_here (grid_column a.f.across a.g.width) no_column 12 a.f.width (x_of-After-p01-1 t) no_column (narrow-After-p01-1 t) t.loop-x-test.true)
-
-column_is-After-p10-1 : (t : After-p10-1) → column_at-After-p10-1 t ≡ grid_column t.args.f.across t.args.g.width (x_of-After-p10-1 t)
-column_is-After-p10-1 t =
-    let a = t.args in
-    ap (λ (l : List Column). get_or l (x_of-After-p10-1 t) no_column) t.columns-columns.ensures
-    ∙ (padded_here (grid_column a.f.across a.g.width) no_column 12 a.f.width (x_of-After-p10-1 t) no_column (narrow-After-p10-1 t) t.loop-x-test.true)
-
-column_is-After-put : (t : After-put) → column_at-After-put t ≡ grid_column t.args.f.across t.args.g.width (x_of-After-put t)
-column_is-After-put t =
-    let a = t.args in
-    ap (λ (l : List Column). get_or l (x_of-After-put t) no_column) t.columns-columns.ensures
-    ∙ (padded_here (grid_column a.f.across a.g.width) no_column 12 a.f.width (x_of-After-put t) no_column (narrow-After-put t) t.loop-x-test.true)
-
-column_is-After-struct_known-in-loop-x-3-1 : (t : After-struct_known-in-loop-x-3-1) → column_at-After-struct_known-in-loop-x-3-1 t ≡ grid_column t.args.f.across t.args.g.width (x_of-After-struct_known-in-loop-x-3-1 t)
-column_is-After-struct_known-in-loop-x-3-1 t =
-    let a = t.args in
-    ap (λ (l : List Column). get_or l (x_of-After-struct_known-in-loop-x-3-1 t) no_column) t.columns-columns.ensures
-    ∙ (padded_here (grid_column a.f.across a.g.width) no_column 12 a.f.width (x_of-After-struct_known-in-loop-x-3-1 t) no_column (narrow-After-struct_known-in-loop-x-3-1 t) t.loop-x-test.true)
-
-abbrev upper-After-p00-1 : After-p00-1 → ℕ
-upper-After-p00-1 t = t.grid_place-gt.result / 16 * t.args.g.width
-
-abbrev upper-After-p01-1 : After-p01-1 → ℕ
-upper-After-p01-1 t = t.grid_place-gt.result / 16 * t.args.g.width
-
-abbrev upper-After-p10-1 : After-p10-1 → ℕ
-upper-After-p10-1 t = t.grid_place-gt.result / 16 * t.args.g.width
-
-abbrev upper-After-put : After-put → ℕ
-upper-After-put t = t.grid_place-gt.result / 16 * t.args.g.width
-
-abbrev upper-After-struct_known-in-loop-x-3-1 : After-struct_known-in-loop-x-3-1 → ℕ
-upper-After-struct_known-in-loop-x-3-1 t = t.grid_place-gt.result / 16 * t.args.g.width
-
-abbrev lower-After-p00-1 : After-p00-1 → ℕ
-lower-After-p00-1 t = upper-After-p00-1 t + t.step.result
-
-abbrev lower-After-p01-1 : After-p01-1 → ℕ
-lower-After-p01-1 t = upper-After-p01-1 t + t.step.result
-
-abbrev lower-After-p10-1 : After-p10-1 → ℕ
-lower-After-p10-1 t = upper-After-p10-1 t + t.step.result
-
-abbrev lower-After-struct_known-in-loop-x-3-1 : After-struct_known-in-loop-x-3-1 → ℕ
-lower-After-struct_known-in-loop-x-3-1 t = upper-After-struct_known-in-loop-x-3-1 t + t.step.result
-
--- the points that are read are the grid's
-room-After-p00-1 : (t : After-p00-1) → (lower-After-p00-1 t + (column_at-After-p00-1 t).next < 64) × ((column_at-After-p00-1 t).at ≤ (column_at-After-p00-1 t).next) × (upper-After-p00-1 t ≤ lower-After-p00-1 t)
-room-After-p00-1 t =
-    let s = t in
-    let p = s.requires.inside in
-    reach_column s.args.g s.args.f (x_of-After-p00-1 t) (column_at-After-p00-1 t) (column_is-After-p00-1 t) refl (ap (λ (k : ℕ). upper-After-p00-1 t + k) t.step.ensures) p.limits p.count (p.columns (x_of-After-p00-1 t) t.loop-x-test.true) (down_le-After-p00-1 t)
-
--- the points that are read are the grid's
-room-After-p01-1 : (t : After-p01-1) → (lower-After-p01-1 t + (column_at-After-p01-1 t).next < 64) × ((column_at-After-p01-1 t).at ≤ (column_at-After-p01-1 t).next) × (upper-After-p01-1 t ≤ lower-After-p01-1 t)
-room-After-p01-1 t =
-    let s = t in
-    let p = s.requires.inside in
-    reach_column s.args.g s.args.f (x_of-After-p01-1 t) (column_at-After-p01-1 t) (column_is-After-p01-1 t) refl (ap (λ (k : ℕ). upper-After-p01-1 t + k) t.step.ensures) p.limits p.count (p.columns (x_of-After-p01-1 t) t.loop-x-test.true) (down_le-After-p01-1 t)
-
--- the points that are read are the grid's
-room-After-p10-1 : (t : After-p10-1) → (lower-After-p10-1 t + (column_at-After-p10-1 t).next < 64) × ((column_at-After-p10-1 t).at ≤ (column_at-After-p10-1 t).next) × (upper-After-p10-1 t ≤ lower-After-p10-1 t)
-room-After-p10-1 t =
-    let s = t in
-    let p = s.requires.inside in
-    reach_column s.args.g s.args.f (x_of-After-p10-1 t) (column_at-After-p10-1 t) (column_is-After-p10-1 t) refl (ap (λ (k : ℕ). upper-After-p10-1 t + k) t.step.ensures) p.limits p.count (p.columns (x_of-After-p10-1 t) t.loop-x-test.true) (down_le-After-p10-1 t)
-
--- the points that are read are the grid's
-room-After-struct_known-in-loop-x-3-1 : (t : After-struct_known-in-loop-x-3-1) → (lower-After-struct_known-in-loop-x-3-1 t + (column_at-After-struct_known-in-loop-x-3-1 t).next < 64) × ((column_at-After-struct_known-in-loop-x-3-1 t).at ≤ (column_at-After-struct_known-in-loop-x-3-1 t).next) × (upper-After-struct_known-in-loop-x-3-1 t ≤ lower-After-struct_known-in-loop-x-3-1 t)
-room-After-struct_known-in-loop-x-3-1 t =
-    let s = t in
-    let p = s.requires.inside in
-    reach_column s.args.g s.args.f (x_of-After-struct_known-in-loop-x-3-1 t) (column_at-After-struct_known-in-loop-x-3-1 t) (column_is-After-struct_known-in-loop-x-3-1 t) refl (ap (λ (k : ℕ). upper-After-struct_known-in-loop-x-3-1 t + k) t.step.ensures) p.limits p.count (p.columns (x_of-After-struct_known-in-loop-x-3-1 t) t.loop-x-test.true) (down_le-After-struct_known-in-loop-x-3-1 t)
-
--- the partition that is found has a line
-which_line : (c : After-infill_both-both) → get_or c.row_partitions-which.result (x_of-After-infill_both-both c) 0 < 4
-which_line c =
-    let t = c in
-    let a = c.args in
-    which_lt a.seeds a.partitions (y_of-After-infill_both-both c) _ t.row_partitions-which.ensures (omega (arith, narrow-After-infill_both-both c))
-
--- the texel at the place
-shown : (d : After-put) → d.mix-t.result
-    ≡ prepared_texel d.args.kind d.args.g d.args.component d.args.points d.args.lines.now d.args.seeds d.args.partitions d.args.f (x_of-After-put d) (y_of-After-put d)
-shown d =
-    let t = d in
-    let a = d.args in
-    let i = d in
-    told a.kind a.g a.component a.points a.lines.now a.seeds a.partitions a.f (x_of-After-put d) (y_of-After-put d) (omega (arith, narrow-After-put d)) t.row_partitions-which.ensures
-    (on_grid_told a.g a.f (x_of-After-put d) (column_at-After-put d) (column_is-After-put d) refl (ap (λ (k : ℕ). upper-After-put d + k) t.step.ensures)
-    a.kind a.component a.points a.lines.now (y_of-After-put d) _ i.infill_both-both.result d.grid_place-gt.ensures i.infill_both-both.ensures.result_value i.infill_both-both.ensures.result_value_2 d.mix-t.ensures)
-
--- it lies in the buffer
-fits-After-place : (d : After-place) → 4 * (y_of-After-place d * d.args.f.width + x_of-After-place d) + 4 ≤ 864
-fits-After-place d =
-    let t = d in
-    let s = d in
-    place_fits s.args.f.width s.args.f.height _ _ (room_for s.args.f.width s.args.f.height s.requires.inside.width_most s.requires.inside.height_most) t.loop-x-test.true d.loop-y-test.true
-
--- it lies in the buffer
-fits-After-put : (d : After-put) → 4 * (y_of-After-put d * d.args.f.width + x_of-After-put d) + 4 ≤ 864
-fits-After-put d =
-    let t = d in
-    let s = d in
-    place_fits s.args.f.width s.args.f.height _ _ (room_for s.args.f.width s.args.f.height s.requires.inside.width_most s.requires.inside.height_most) t.loop-x-test.true d.loop-y-test.true
+  -- it lies in the buffer
+  fits : 4 * (y * c.args.f.width + x) + 4 ≤ 864
+  fits =
+      let f = c.args.f in
+      let p = c.requires.inside in
+      place_fits f.width f.height _ _ (room_for f.width f.height p.width_most p.height_most) c.loop-x-test.true c.loop-y-test.true
 
 pub bounds-columns-x : goal.bounds-columns-x
-bounds-columns-x c = narrow-In-loop-x c
+bounds-columns-x c = narrow (goal.at.bounds-columns-x c).In-loop-x
 
 pub bounds-lines-which : goal.bounds-lines-which
-bounds-lines-which c = which_line c
+bounds-lines-which c = which_line (goal.at.bounds-lines-which c).In-loop-x
 
+-- the texel at the place is painted
 pub loop-x-preserved : goal.loop-x-preserved
 loop-x-preserved c =
-    let d = c in
-    let t = c in
-    let l = t.loop-x in (
-      omega (arith, t.loop-x-test.true),
-      λ old e w. rw c.put.ensures (laid_texel c.args.f.width _ old l.out l.x (y_of-After-put c) e t.loop-x-test.true (fits-After-put c) (shown c) d.place.ensures (l.invariant.1 old e w)),
-    )
+    let t = (goal.at.loop-x-preserved c).In-loop-x in
+    let a = c.args in
+    let l = c.loop-x in
+    let shown = told a.kind a.g a.component a.points a.lines.now a.seeds a.partitions a.f (x t) (y t) (omega (arith, narrow t)) c.row_partitions-which.ensures
+    (on_grid_told a.g a.f (x t) (column t) (column_is t) refl (ap (λ (k : ℕ). upper t + k) c.step.ensures)
+    a.kind a.component a.points a.lines.now (y t) _ c.infill_both-both.result c.grid_place-gt.ensures c.infill_both-both.ensures.result_value c.infill_both-both.ensures.result_value_2 c.mix-t.ensures) in
+    λ old e w. rw c.put.ensures (laid_texel a.f.width _ old l.out l.x c.loop-y.y e c.loop-x-test.true (fits t) shown c.place.ensures (l.invariant old e w))
 
 pub loop-y-preserved : goal.loop-y-preserved
 loop-y-preserved c =
     let l = c.loop-x in
-    let k = c.loop-y in (
-      omega (arith, c.loop-y-test.true),
-      λ e. laid_as _ _ _ _ (row_end c.args.f.width l.x k.y (omega (arith, c.loop-x-test.false, l.invariant.0))) (l.invariant.1 _ e (k.invariant.1 e)),
-    )
+    λ e. laid_as _ _ _ _ (row_end c.args.f.width l.x c.loop-y.y (omega (arith, c.loop-x-test.false))) (l.invariant _ e (c.loop-y.invariant e))
 
 pub returns : goal.returns
 returns c =
     let l = c.loop-y in
     let a = c.args in
-    let z : l.y ≡ a.f.height = omega (arith, c.loop-y-test.false, l.invariant.0) in
-    λ e. laid_done a.f.width _ _ _ (a.f.height * a.f.width) (ap (λ (n : ℕ). 4 * (n * a.f.width)) z) (l.invariant.1 e)
+    let z : l.y ≡ a.f.height = omega (arith, c.loop-y-test.false) in
+    λ e. laid_done a.f.width _ _ _ (a.f.height * a.f.width) (ap (λ (n : ℕ). 4 * (n * a.f.width)) z) (l.invariant e)
 
 pub columns-columns-requires : goal.columns-columns-requires
 columns-columns-requires c = let p = c.requires.inside in record { by_index = p.columns; points_bound = (p.limits.width_most, p.width_most) }
 
 pub loop-y-init : goal.loop-y-init
-loop-y-init c = (omega arith, λ e. laid_none _ _ _ (omega arith))
+loop-y-init c = λ e. laid_none _ _ _ (omega arith)
 
 pub overflow_mul-upper : goal.overflow_mul-upper
-overflow_mul-upper c = omega (arith, from_le-After-grid_place-gt c)
+overflow_mul-upper c = omega (arith, from_le c)
 
 pub overflow_add-lower : goal.overflow_add-lower
-overflow_add-lower c = let a = c.args in omega (arith, from_le-After-step c, c.step.ensures, step_le c.grid_place-gt.result a.g.height a.g.width, c.requires.inside.limits.width_most)
+overflow_add-lower c =
+    let a = c.args in
+    omega (arith, from_le (goal.at.overflow_add-lower c).After-grid_place-gt, c.step.ensures, step_le c.grid_place-gt.result a.g.height a.g.width, c.requires.inside.limits.width_most)
 
 pub loop-x-init : goal.loop-x-init
-loop-x-init c = (omega arith, λ old e w. laid_as _ _ _ _ (omega arith) w)
+loop-x-init c = λ old e w. laid_as _ _ _ _ (omega arith) w
 
 pub offset_bounds-columns-x : goal.offset_bounds-columns-x
-offset_bounds-columns-x c = omega (arith, narrow-In-loop-x c)
+offset_bounds-columns-x c = omega (arith, narrow (goal.at.offset_bounds-columns-x c).In-loop-x)
 
 pub overflow_add-p00 : goal.overflow_add-p00
-overflow_add-p00 c = omega (arith, room-After-struct_known-in-loop-x-3-1 c)
+overflow_add-p00 c = omega (arith, room (goal.at.overflow_add-p00 c).In-loop-x)
 
 pub offset_bounds-points-upper : goal.offset_bounds-points-upper
-offset_bounds-points-upper c = omega (arith, room-After-struct_known-in-loop-x-3-1 c)
+offset_bounds-points-upper c = omega (arith, room (goal.at.offset_bounds-points-upper c).In-loop-x)
 
 pub bounds-points-upper : goal.bounds-points-upper
-bounds-points-upper c = omega (arith, room-After-struct_known-in-loop-x-3-1 c)
+bounds-points-upper c = omega (arith, room (goal.at.bounds-points-upper c).In-loop-x)
 
 pub overflow_add-p01 : goal.overflow_add-p01
-overflow_add-p01 c = omega (arith, room-After-p00-1 c)
+overflow_add-p01 c = omega (arith, room (goal.at.overflow_add-p01 c).In-loop-x)
 
 pub offset_bounds-points-upper-in-loop-x : goal.offset_bounds-points-upper-in-loop-x
-offset_bounds-points-upper-in-loop-x c = omega (arith, room-After-p00-1 c)
+offset_bounds-points-upper-in-loop-x c = omega (arith, room (goal.at.offset_bounds-points-upper-in-loop-x c).In-loop-x)
 
 pub bounds-points-upper-in-loop-x : goal.bounds-points-upper-in-loop-x
-bounds-points-upper-in-loop-x c = omega (arith, room-After-p00-1 c)
+bounds-points-upper-in-loop-x c = omega (arith, room (goal.at.bounds-points-upper-in-loop-x c).In-loop-x)
 
 pub overflow_add-p10 : goal.overflow_add-p10
-overflow_add-p10 c = omega (arith, room-After-p01-1 c)
+overflow_add-p10 c = omega (arith, room (goal.at.overflow_add-p10 c).In-loop-x)
 
 pub offset_bounds-points-lower : goal.offset_bounds-points-lower
-offset_bounds-points-lower c = omega (arith, room-After-p01-1 c)
+offset_bounds-points-lower c = omega (arith, room (goal.at.offset_bounds-points-lower c).In-loop-x)
 
 pub bounds-points-lower : goal.bounds-points-lower
-bounds-points-lower c = omega (arith, room-After-p01-1 c)
+bounds-points-lower c = omega (arith, room (goal.at.bounds-points-lower c).In-loop-x)
 
 pub overflow_add-p11 : goal.overflow_add-p11
-overflow_add-p11 c = omega (arith, room-After-p10-1 c)
+overflow_add-p11 c = omega (arith, room (goal.at.overflow_add-p11 c).In-loop-x)
 
 pub offset_bounds-points-lower-in-loop-x : goal.offset_bounds-points-lower-in-loop-x
-offset_bounds-points-lower-in-loop-x c = omega (arith, room-After-p10-1 c)
+offset_bounds-points-lower-in-loop-x c = omega (arith, room (goal.at.offset_bounds-points-lower-in-loop-x c).In-loop-x)
 
 pub bounds-points-lower-in-loop-x : goal.bounds-points-lower-in-loop-x
-bounds-points-lower-in-loop-x c = omega (arith, room-After-p10-1 c)
+bounds-points-lower-in-loop-x c = omega (arith, room (goal.at.bounds-points-lower-in-loop-x c).In-loop-x)
 
 pub infill_both-both-requires : goal.infill_both-both-requires
 infill_both-both-requires c = let h = c.requires.byte_levels in (h _, h _, h _, h _)
 
 pub offset_bounds-which-x : goal.offset_bounds-which-x
-offset_bounds-which-x c = omega (arith, narrow-After-infill_both-both c)
+offset_bounds-which-x c = omega (arith, narrow (goal.at.offset_bounds-which-x c).In-loop-x)
 
 pub bounds-which-x : goal.bounds-which-x
-bounds-which-x c = omega (arith, narrow-After-infill_both-both c)
+bounds-which-x c = omega (arith, narrow (goal.at.bounds-which-x c).In-loop-x)
 
 pub overflow_cast-line-in-loop-x : goal.overflow_cast-line-in-loop-x
-overflow_cast-line-in-loop-x c = omega (arith, which_line c)
+overflow_cast-line-in-loop-x c = omega (arith, which_line (goal.at.overflow_cast-line-in-loop-x c).In-loop-x)
 
 pub offset_bounds-lines-which : goal.offset_bounds-lines-which
-offset_bounds-lines-which c = omega (arith, which_line c)
+offset_bounds-lines-which c = omega (arith, which_line (goal.at.offset_bounds-lines-which c).In-loop-x)
 
 pub put-requires : goal.put-requires
-put-requires c = rw c.place.ensures (fits-After-place c)
-
-pub overflow_add-x : goal.overflow_add-x
-overflow_add-x c = let t = c in omega (arith, t.loop-x-test.true, c.requires.inside.width_most)
-
-pub loop-x-smaller : goal.loop-x-smaller
-loop-x-smaller c = omega (arith, c.loop-x-test.true)
-
-pub overflow_add-y : goal.overflow_add-y
-overflow_add-y c = let r = c in omega (arith, r.loop-y-test.true, c.requires.inside.height_most)
-
-pub loop-y-smaller : goal.loop-y-smaller
-loop-y-smaller c = omega (arith, c.loop-y-test.true)
+put-requires c = rw c.place.ensures (fits (goal.at.put-requires c).In-loop-x)

@@ -14,7 +14,6 @@ use Rattle.block_core.proofs.Painting.{points_true, point_told, four_told, singl
 use native.Mathlib.Nat.{mul_comm}
 use native.Mathlib.Omega.{arith}
 use Rattle.block_core.proofs.Shows.{byte_levels, one_plane_lem, flat_told, volume_told_lem}
-use borrow.Author.Rules.{rules}
 use Rattle.block_core.proofs.paint_coded.Goals as goal
 use Rattle.block_core.proofs.paint_coded.Goals.{After-frame_of-frame, After-second_component-component, Else-volume, Start, Then-on_points}
 

@@ -1,10 +1,7 @@
-use mathlib.Core.Path.{◌≡◌, ◌∙◌}
-use Prim.Native.Nat.{ℕ, ◌+◌, ◌-◌, ◌*◌, ◌/◌, ◌%◌, ◌≤◌, ◌<◌}
+use mathlib.Core.Path.{◌∙◌}
+use Prim.Native.Nat.{◌+◌, ◌*◌, ◌≤◌}
 use native.Mathlib.Omega.{arith}
-use lib.ListN.{length}
-use borrow.Author.Rules.{rules}
-use Rattle.interpolation.specs.declared.Texel.{Texel}
-use Rattle.block_buffer.proofs.Painting.{Laid, laid_more, laid_none, laid_done}
+use Rattle.block_buffer.proofs.Painting.{laid_more, laid_none, laid_done}
 use Rattle.block_core.specs.inner.Prepared.{point_texel}
 use Rattle.block_core.proofs.paint_points.Goals as goal
 use Rattle.block_core.proofs.paint_points.Goals.{In-loop-i}
@@ -16,17 +13,15 @@ pub loop-i-preserved : goal.loop-i-preserved
 unfolding point_texel
 loop-i-preserved c =
     let b = c.before.before.before.before in
-    let l = b.loop-i in (
-      omega arith,
-      λ width texel same e. rw c.put.ensures (laid_more width texel _ l.out l.i e (few b) (c.mix-t.ensures ∙ same l.i (omega arith)) (l.invariant.1 width texel same e)),
-    )
+    let l = b.loop-i in
+    λ width texel same e. rw c.put.ensures (laid_more width texel _ l.out l.i e (few b) (c.mix-t.ensures ∙ same l.i (omega arith)) (l.invariant width texel same e))
 
 pub returns : goal.returns
 returns c = let l = c.loop-i in
-    λ width texel same e. laid_done width texel _ _ c.args.count (omega (arith, l.invariant.0)) (l.invariant.1 width texel same e)
+    λ width texel same e. laid_done width texel _ _ c.args.count (omega arith) (l.invariant width texel same e)
 
 pub loop-i-init : goal.loop-i-init
-loop-i-init c = (omega arith, λ width texel same e. laid_none _ _ _ (omega arith))
+loop-i-init c = λ width texel same e. laid_none _ _ _ (omega arith)
 
 pub offset_bounds-points-i : goal.offset_bounds-points-i
 offset_bounds-points-i c = omega (arith, few c)
@@ -39,6 +34,3 @@ overflow_mul-i c = omega (arith, few c.before.before.before)
 
 pub put-requires : goal.put-requires
 put-requires c = few c.before.before.before
-
-pub overflow_add-i : goal.overflow_add-i
-overflow_add-i c = omega (arith, few c.before.before.before.before)

@@ -1,4 +1,3 @@
-use borrow.Author.Rules.{rules}
 use Rattle.block_core.specs.inner.Prepared.{volume_frame_of}
 use Rattle.block_core.proofs.volume_frame.Goals as goal
 

@@ -1,4 +1,3 @@
-use mathlib.Core.Path.{refl}
 use borrow.Author.Tests.{eq-eqb, ne_eqb}
 use Rattle.block_header.specs.Counts.{partition_index_bits, selector_bits}
 use Rattle.block_fault.specs.Bits.{endpoints_from}

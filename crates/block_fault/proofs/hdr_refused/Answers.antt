@@ -1,5 +1,4 @@
 -- `block_fault::hdr_refused` meets its contract.
-use borrow.Author.Rules.{rules}
 use Rattle.block_fault.proofs.hdr_refused.Goals as goal
 
 pub returns-then-hdr : goal.returns-then-hdr

@@ -1,10 +1,9 @@
-use mathlib.Core.Path.{◌≡◌, refl, sym, ap, ◌∙◌}
+use mathlib.Core.Path.{◌∙◌}
 use Prim.Native.Nat.{◌+◌}
 use native.Mathlib.Omega.{arith}
 use Rattle.bits.specs.Block.{block_number}
 use Rattle.block_fault.specs.Bits.{selector_at}
 use Rattle.block_fault.proofs.Laws.{Narrow, narrow}
-use borrow.Author.Rules.{rules}
 use Rattle.block_fault.proofs.header_at.Goals as goal
 use Rattle.block_fault.proofs.header_at.Goals.{After-field_at-selector}
 

@@ -1,11 +1,10 @@
-use mathlib.Core.Path.{◌≡◌, refl, sym, ap, ◌∙◌}
-use Prim.Native.Nat.{ℕ, ◌+◌, ◌-◌, ◌*◌, ◌≤◌, ◌<◌}
+use mathlib.Core.Path.{◌≡◌, ap, ◌∙◌}
+use Prim.Native.Nat.{◌+◌, ◌-◌, ◌*◌, ◌≤◌, ◌<◌}
 use native.Mathlib.Omega.{arith}
 use Rattle.bits.specs.Field.{field}
 use Rattle.bits.specs.Block.{block_number}
 use Rattle.bits.proofs.Fields.{field_none}
 use Rattle.block_fault.proofs.Laws.{Narrow, narrow, extra_le, extra_none, component_le, made}
-use borrow.Author.Rules.{rules}
 use Rattle.block_fault.proofs.header_with.Goals as goal
 use Rattle.block_fault.proofs.header_with.Goals.{After-field_at-base, After-field_at-component, After-field_at-extra, After-field_at-index, After-selector_bits-selector_width, Start}
 

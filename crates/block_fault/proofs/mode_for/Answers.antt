@@ -1,7 +1,6 @@
 use Prim.Native.Nat.{◌<◌}
 use native.Mathlib.Omega.{arith}
 use Rattle.block_fault.proofs.Laws.{mode_none, mode_same, mode_own}
-use borrow.Author.Rules.{rules}
 use Rattle.block_fault.proofs.mode_for.Goals as goal
 
 pub returns-then-partitions-i : goal.returns-then-partitions-i

@@ -1,5 +1,4 @@
 use Rattle.block_fault.proofs.Laws.{four_modes}
-use borrow.Author.Rules.{rules}
 use Rattle.block_fault.proofs.modes_for.Goals as goal
 
 pub returns : goal.returns

@@ -1,12 +1,7 @@
-use mathlib.Core.Path.{refl}
-use Rattle.block_header.specs.inner.Stages.{stage_of}
-use borrow.Author.Rules.{rules}
 use Rattle.block_fault.proofs.planes_stage.Goals as goal
 
-pub returns-then-both : goal.returns-then-both
-unfolding stage_of
-returns-then-both c = rw (← c.both.ensures, c.if-both.true)
+pub returns-then-planes-partitions : goal.returns-then-planes-partitions
+returns-then-planes-partitions c = rw c.if-planes-partitions.true
 
-pub returns-else-both : goal.returns-else-both
-unfolding stage_of
-returns-else-both c = rw (← c.both.ensures, c.if-both.false)
+pub returns : goal.returns
+returns c = rw c.if-planes-partitions.false

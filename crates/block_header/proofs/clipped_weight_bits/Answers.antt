@@ -1,4 +1,3 @@
-use borrow.Author.Rules.{rules}
 use Rattle.block_header.proofs.clipped_weight_bits.Goals as goal
 
 pub returns : goal.returns

@@ -1,7 +1,6 @@
-use mathlib.Core.Path.{◌≡◌, refl, sym, ap, ◌∙◌}
+use mathlib.Core.Path.{refl}
 use native.Mathlib.Omega.{arith}
 use Rattle.block_header.specs.Counts.{component_bits}
-use borrow.Author.Rules.{rules}
 use Rattle.block_header.proofs.component_bits.Goals as goal
 
 pub returns-then-planes-eq0 : goal.returns-then-planes-eq0

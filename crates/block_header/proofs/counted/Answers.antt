@@ -1,4 +1,3 @@
-use borrow.Author.Rules.{rules}
 use Rattle.block_header.proofs.counted.Goals as goal
 
 pub returns-then-there : goal.returns-then-there

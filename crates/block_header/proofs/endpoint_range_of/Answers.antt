@@ -1,5 +1,4 @@
 use Rattle.block_header.specs.Counts.{endpoint_range_of}
-use borrow.Author.Rules.{rules}
 use Rattle.block_header.proofs.endpoint_range_of.Goals as goal
 
 pub returns : goal.returns

@@ -1,8 +1,7 @@
-use mathlib.Core.Path.{◌≡◌, refl, sym, ap, ◌∙◌}
+use mathlib.Core.Path.{refl}
 use native.Mathlib.Omega.{arith}
 use borrow.Author.Tests.{eq-eqb, ne_eqb}
 use Rattle.block_header.specs.Counts.{extra_bits}
-use borrow.Author.Rules.{rules}
 use Rattle.block_header.proofs.extra_bits.Goals as goal
 
 pub returns-then-selector-eq0 : goal.returns-then-selector-eq0

@@ -1,6 +1,5 @@
 -- `block_header::hdr_refused` meets its contract.
 use Rattle.block_header.specs.Reasons.{hdr_refused}
-use borrow.Author.Rules.{rules}
 use Rattle.block_header.proofs.hdr_refused.Goals as goal
 
 pub returns-then-hdr : goal.returns-then-hdr

@@ -1,5 +1,4 @@
 use Rattle.block_header.specs.Counts.{weight_bits}
-use borrow.Author.Rules.{rules}
 use Rattle.block_header.proofs.weight_bits.Goals as goal
 
 pub returns : goal.returns

@@ -1,9 +1,7 @@
-use mathlib.Core.Path.{◌≡◌, refl, sym, ap, ◌∙◌}
 use Prim.Native.Nat.{◌*◌, ◌≤◌}
 use native.Mathlib.Nat.{mul-le-mul}
 use native.Mathlib.Omega.{arith}
 use Rattle.block_header.specs.Counts.{weight_count}
-use borrow.Author.Rules.{rules}
 use Rattle.block_header.proofs.weight_count.Goals as goal
 use Rattle.block_header.proofs.weight_count.Goals.{After-wide-2, After-wide-3, After-wide-4}
 

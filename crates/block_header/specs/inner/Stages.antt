@@ -1,22 +1,10 @@
--- What a stage of reading a block answers: it passes, or stops with the first reason that holds.
+-- The faults that the stages of reading a block tell: each the first of its reasons that holds, 0 for none.
 -- Assumes nothing.
-use Rattle.std.specs.Prelude.{ℕ, eqb, Bool, [], ◌∷◌}
-use Rattle.laws.specs.Choice.{pick}
-use Rattle.block_header.specs.declared.Stage.{Stage}
-use Rattle.block_header.specs.declared.Stage.TheVariants.{Passed, Stopped}
+use Rattle.std.specs.Prelude.{ℕ, Bool, [], ◌∷◌}
 use Rattle.laws.specs.Reasons.{when, first_of}
 use Rattle.block_mode.specs.declared.WeightGrid.{WeightGrid}
 use Rattle.block_header.specs.declared.BlockHeader.{BlockHeader}
 use Rattle.block_header.specs.Reasons.{grid_too_large, too_many_weights, weight_bits_outside, too_many_endpoints, too_few_endpoint_bits, hdr_refused}
-
--- the answer of a stage that found the reason n, 0 for none
-unfoldable pub stage_of : ℕ → Stage
-stage_of n = pick (eqb n 0) Passed (Stopped n)
-
--- 01's number of an answer, 0 for none
-abbrev pub stage_told : Stage → ℕ
-stage_told Passed = 0
-stage_told (Stopped n) = n
 
 -- 14 to 16, which speak of the grid alone
 unfoldable pub grid_fault : ℕ → WeightGrid → ℕ

@@ -1,7 +1,6 @@
-use mathlib.Core.Path.{◌≡◌, ap, ◌∙◌}
+use mathlib.Core.Path.{◌≡◌}
 use mathlib.Core.Bool.{Bool, not}
 use Prim.Native.Nat.{ℕ}
-use borrow.Author.Rules.{rules}
 use Rattle.laws.specs.Choice.{both}
 use Rattle.interpolation.specs.Expansion.{takes_hdr}
 use Rattle.interpolation.specs.declared.Kind.{Kind}

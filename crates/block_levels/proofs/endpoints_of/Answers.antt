@@ -3,7 +3,6 @@ use Rattle.quantization.specs.Ranges.{encoding_at, bits_at}
 use Rattle.quantization.specs.Unquantise.{unquant_endpoint}
 use Rattle.texel.specs.Meaning.{endpoint_levels}
 use Rattle.block_levels.proofs.Levels.{endpoint_zero, levels_read}
-use borrow.Author.Rules.{rules}
 use Rattle.block_levels.proofs.endpoints_of.Goals as goal
 
 pub returns : goal.returns

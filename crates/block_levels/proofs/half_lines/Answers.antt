@@ -1,5 +1,3 @@
-use borrow.Author.Rules.{rules}
-use mathlib.Core.Path.{◌≡◌, refl}
 use Rattle.laws.specs.Table.{tab_from, tab}
 use Rattle.block_levels.proofs.half_lines.Goals as goal
 

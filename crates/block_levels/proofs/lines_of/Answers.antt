@@ -1,6 +1,5 @@
 use Rattle.bits.specs.Block.{block_number}
 use Rattle.block_levels.proofs.Levels.{lines_told}
-use borrow.Author.Rules.{rules}
 use Rattle.block_levels.proofs.lines_of.Goals as goal
 
 pub returns : goal.returns

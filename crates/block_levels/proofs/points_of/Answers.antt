@@ -1,6 +1,5 @@
 use Prim.Native.Nat.{◌*◌}
 use native.Mathlib.Omega.{arith}
-use borrow.Author.Rules.{rules}
 use Rattle.block_header.specs.Counts.{weight_count}
 use Rattle.block_levels.proofs.Levels.{one_plane_lem, two_planes}
 use Rattle.block_levels.proofs.points_of.Goals as goal

@@ -1,6 +1,5 @@
-use mathlib.Core.Path.{◌≡◌, refl, sym, ◌∙◌}
-use mathlib.Core.Bool.{Bool, true, false, not}
-use borrow.Author.Rules.{rules}
+use mathlib.Core.Path.{◌≡◌, refl, ◌∙◌}
+use mathlib.Core.Bool.{Bool, true, false}
 use Rattle.interpolation.specs.Expansion.{takes_hdr}
 use Rattle.laws.specs.Choice.{both}
 use Rattle.block_levels.proofs.shown_as_half.Goals as goal

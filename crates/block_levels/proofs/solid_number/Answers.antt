@@ -1,4 +1,3 @@
-use borrow.Author.Rules.{rules}
 use Rattle.texel.specs.Meaning.{solid_number}
 use Rattle.block_levels.proofs.solid_number.Goals as goal
 

@@ -2,7 +2,6 @@ use native.Mathlib.Omega.{arith}
 use Rattle.void_extent.specs.Layout.{colour_at}
 use Rattle.block_fault.proofs.Laws.{narrow}
 use Rattle.block_levels.specs.inner.Lines.{colours_of}
-use borrow.Author.Rules.{rules}
 use Rattle.block_levels.proofs.stored_colours.Goals as goal
 
 pub overflow_cast-r : goal.overflow_cast-r

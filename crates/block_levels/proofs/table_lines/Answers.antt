@@ -1,5 +1,4 @@
 use mathlib.Core.Path.{sym, ◌∙◌}
-use borrow.Author.Rules.{rules}
 use Rattle.block_levels.specs.inner.Lines.{lines_by}
 use Rattle.block_levels.proofs.Levels.{lines_same}
 use Rattle.block_levels.proofs.table_lines.Goals as goal

@@ -3,7 +3,6 @@ use Prim.Native.Nat.{◌%◌}
 use native.Mathlib.Omega.{arith}
 use Rattle.block_mode.specs.inner.Forms.{marks_of}
 use Rattle.block_mode.proofs.ByForm.{by_void, by_reserved, by_grid}
-use borrow.Author.Rules.{rules}
 use Rattle.block_mode.proofs.block_mode.Goals as goal
 use Rattle.block_mode.proofs.block_mode.Goals.{After-nibble-marks}
 

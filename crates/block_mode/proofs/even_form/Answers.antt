@@ -1,6 +1,5 @@
 -- `block_mode::even_form` meets its contract. Assumes nothing.
 use Rattle.block_mode.specs.Back2D.{even_form}
-use borrow.Author.Rules.{rules}
 use Rattle.block_mode.proofs.even_form.Goals as goal
 
 pub returns : goal.returns

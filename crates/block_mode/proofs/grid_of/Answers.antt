@@ -1,6 +1,5 @@
 use native.Mathlib.Omega.{arith}
 use Rattle.block_mode.specs.inner.Forms.{grid_of}
-use borrow.Author.Rules.{rules}
 use Rattle.block_mode.proofs.grid_of.Goals as goal
 
 pub returns : goal.returns

@@ -1,6 +1,5 @@
 use borrow.Author.Tests.{lt-ltb, le-ltb}
 use Rattle.block_mode.specs.Back2D.{low_columns}
-use borrow.Author.Rules.{rules}
 use Rattle.block_mode.proofs.low_columns.Goals as goal
 
 pub returns-then-height-lt8 : goal.returns-then-height-lt8

@@ -1,5 +1,4 @@
 use Rattle.block_mode.specs.Back2D.{low_form}
-use borrow.Author.Rules.{rules}
 use Rattle.block_mode.proofs.low_form.Goals as goal
 
 pub returns : goal.returns

@@ -1,6 +1,5 @@
 use borrow.Author.Tests.{lt-ltb, le-ltb}
 use Rattle.block_mode.specs.Back2D.{low_rows}
-use borrow.Author.Rules.{rules}
 use Rattle.block_mode.proofs.low_rows.Goals as goal
 
 pub returns-then-width-lt4 : goal.returns-then-width-lt4

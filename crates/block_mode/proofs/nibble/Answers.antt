@@ -1,7 +1,6 @@
 use mathlib.Core.Path.{refl}
 use native.Mathlib.Omega.{arith}
 use Rattle.block_mode.specs.inner.Forms.{nibble_at}
-use borrow.Author.Rules.{rules}
 use Rattle.block_mode.proofs.nibble.Goals as goal
 
 pub returns : goal.returns

@@ -2,7 +2,6 @@ use Prim.Native.Nat.{◌%◌, ◌≤◌}
 use native.Mathlib.Omega.{arith}
 use lib.Bits.{bit_and, and_le_r}
 use Rattle.block_mode.specs.inner.Forms.{other_side}
-use borrow.Author.Rules.{rules}
 use Rattle.block_mode.proofs.other_side.Goals as goal
 use Rattle.block_mode.proofs.other_side.Goals.{After-nibble}
 

@@ -1,7 +1,6 @@
 use Prim.Native.Nat.{◌≤◌}
 use native.Mathlib.Omega.{arith}
 use Rattle.block_mode.specs.inner.Forms.{range_in}
-use borrow.Author.Rules.{rules}
 use Rattle.block_mode.proofs.range_in.Goals as goal
 use Rattle.block_mode.proofs.range_in.Goals.{After-choose-r21}
 

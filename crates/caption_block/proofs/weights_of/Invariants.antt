@@ -1,6 +1,6 @@
 use mathlib.Core.Path.{◌≡◌}
 use mathlib.Core.List.{List}
-use Prim.Native.Nat.{ℕ, ◌-◌, ◌≤◌}
+use Prim.Native.Nat.{ℕ}
 use lib.ListN.{get_or}
 use Rattle.laws.specs.Table.{padded}
 use Rattle.encoding.specs.declared.Stored.{Stored}
@@ -12,7 +12,4 @@ abbrev pub weight_at : List ℕ → List ℕ → ℕ → Stored
 weight_at shades wanted i = stored (least_at (λ w. squared (get_or shades w 0) (get_or wanted i 0)) 3)
 
 abbrev pub invariant-loop-i : goal.invariant-loop-i
-invariant-loop-i l = (l.i ≤ 16) × (l.out ≡ padded 64 l.i (weight_at l.shades l.wanted) (stored 0))
-
-abbrev pub decreases-loop-i : goal.decreases-loop-i
-decreases-loop-i l = 16 - l.i
+invariant-loop-i l = l.out ≡ padded 64 l.i (weight_at l.shades l.wanted) (stored 0)

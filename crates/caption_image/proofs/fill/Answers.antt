@@ -13,7 +13,7 @@ here : (c : In-loop-b) → Begins c.args.width c.args.height c.loop-b.b c.args.a
 here c = begins _ _ _ _ (length c.args.out.now) _ c.requires.lent c.requires.across_value c.requires.out_len (omega arith)
 
 pub loop-b-init : goal.loop-b-init
-loop-b-init c = (omega arith, filling_start _ 0 _ _ refl)
+loop-b-init c = filling_start _ 0 _ _ refl
 
 pub nonzero_rem-b : goal.nonzero_rem-b
 nonzero_rem-b c = (here c).some
@@ -34,27 +34,21 @@ pub caption-requires : goal.caption-requires
 caption-requires c = tt
 
 pub put-requires : goal.put-requires
-put-requires c = omega (arith, c.loop-b.invariant.1.size)
+put-requires c = omega (arith, c.loop-b.invariant.size)
 
 pub loop-b-preserved : goal.loop-b-preserved
 loop-b-preserved c =
-    let p = c in
-    let g = p in
-    let l = g in
-    let st = c in
-    let a = st.args in (
-      omega arith,
-      block_more _ _ _ _ _ _ p.put.ensures
-          (block_bytes_lem a.e0 a.e1 a.width a.height a.wanted.now l.loop-b.b a.across st.requires.across_value g.gather-greys.ensures p.caption.ensures.value)
-          l.loop-b.invariant.1,
-    )
+    let a = c.args in
+    block_more _ _ _ _ _ _ c.put.ensures
+    (block_bytes_lem a.e0 a.e1 a.width a.height a.wanted.now c.loop-b.b a.across c.requires.across_value c.gather-greys.ensures c.caption.ensures.value)
+    c.loop-b.invariant
 
 pub shape_of-out : goal.shape_of-out
-shape_of-out c = c.loop-b.invariant.1.size
+shape_of-out c = c.loop-b.invariant.size
 
 pub returns : goal.returns
 unfolding caption_blocks
 returns c =
     let st = c in
-    filling_done _ 0 _ _ _ (omega (arith, st.requires.out_len)) c.loop-b.invariant.1
+    filling_done _ 0 _ _ _ (omega (arith, st.requires.out_len)) c.loop-b.invariant
     ∙ ap (tab (byte_at st.args.e0 st.args.e1 st.args.width st.args.height st.args.wanted.now)) st.requires.out_len

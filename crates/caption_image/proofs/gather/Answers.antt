@@ -6,7 +6,7 @@ use Rattle.caption_image.proofs.gather.Invariants.{grey_at}
 use Rattle.caption_image.proofs.gather.Goals as goal
 
 pub loop-i-init : goal.loop-i-init
-loop-i-init c = (omega arith, filling_start _ 0 16 _ refl)
+loop-i-init c = filling_start _ 0 16 _ refl
 
 pub overflow_add-x : goal.overflow_add-x
 overflow_add-x c = omega (arith, c.requires.x_bound.0)
@@ -19,8 +19,7 @@ grey_at-requires c = c.requires.lent
 
 pub loop-i-preserved : goal.loop-i-preserved
 loop-i-preserved c =
-    let l = c.loop-i in
-    (omega arith, filling_more _ 0 16 _ _ _ (omega arith) l.invariant.1 c.grey_at.ensures)
+    filling_more _ 0 16 _ _ _ (omega arith) c.loop-i.invariant c.grey_at.ensures
 
 pub returns : goal.returns
-returns c = filling_done _ 0 16 _ _ (omega arith) c.loop-i.invariant.1
+returns c = filling_done _ 0 16 _ _ (omega arith) c.loop-i.invariant

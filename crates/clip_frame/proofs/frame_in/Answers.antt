@@ -1,4 +1,3 @@
-use borrow.Author.Rules.{rules}
 use Rattle.clip_frame.proofs.frame_in.Goals as goal
 
 pub returns : goal.returns

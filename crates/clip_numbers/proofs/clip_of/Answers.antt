@@ -1,4 +1,3 @@
-use Rattle.std.proofs.Common.{rules}
 use Rattle.clip_numbers.specs.Numbers.{clip_of}
 use Rattle.clip_numbers.proofs.clip_of.Goals as goal
 

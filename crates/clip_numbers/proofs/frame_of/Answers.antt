@@ -1,4 +1,3 @@
-use Rattle.std.proofs.Common.{rules}
 use Rattle.clip_numbers.specs.Numbers.{frame_from}
 use Rattle.clip_numbers.proofs.frame_of.Goals as goal
 

@@ -1,4 +1,4 @@
-use Rattle.std.proofs.Common.{sym, true≢false, leb-true}
+use Rattle.std.proofs.Common.{leb-true}
 use Rattle.clip_numbers.proofs.is_whole.Goals as goal
 
 pub returns : goal.returns

@@ -1,4 +1,4 @@
-use Rattle.std.proofs.Common.{sym, refl, ap, ◌∙◌, rules, le-ltb, lt-ltb}
+use Rattle.std.proofs.Common.{le-ltb, lt-ltb}
 use Rattle.clip.specs.Step.{past}
 use Rattle.clip_numbers.specs.Numbers.{state_numbers}
 use Rattle.clip_numbers.proofs.next_numbers.Goals as goal

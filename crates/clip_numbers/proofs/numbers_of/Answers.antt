@@ -1,5 +1,4 @@
-use Rattle.std.proofs.Common.{◌≡◌, [], ◌∷◌, length, sym, ◌∙◌, rules}
-use lib.ListN.{length-map}
+use Rattle.std.proofs.Common.{◌≡◌, [], ◌∷◌, length, sym, ◌∙◌}
 use Rattle.laws.specs.Table.{tab_from, tab}
 use Rattle.clip.proofs.Timely.{first}
 use Rattle.clip_numbers.proofs.Lists.{numbers_spelt}

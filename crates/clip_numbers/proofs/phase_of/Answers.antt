@@ -1,20 +1,20 @@
-use Rattle.std.proofs.Common.{rules, eq-eqb, ne_eqb}
+use Rattle.std.proofs.Common.{ne_eqb}
 use Rattle.clip_numbers.specs.Numbers.{phase_of}
 use Rattle.clip_numbers.proofs.phase_of.Goals as goal
 
-pub returns-then-n-eq0 : goal.returns-then-n-eq0
+pub returns-in-0 : goal.returns-in-0
 unfolding phase_of
-returns-then-n-eq0 c = rw (eq-eqb _ 0 c.if-n-eq0.true)
+returns-in-0 c = rw c.in-0.is
 
-pub returns-then-n-eq1 : goal.returns-then-n-eq1
+pub returns-in-1 : goal.returns-in-1
 unfolding phase_of
-returns-then-n-eq1 c = rw (ne_eqb _ 0 c.if-n-eq0.false, eq-eqb _ 1 c.if-n-eq1.true)
+returns-in-1 c = rw c.in-1.is
 
-pub returns-then-n-eq2 : goal.returns-then-n-eq2
+pub returns-in-2 : goal.returns-in-2
 unfolding phase_of
-returns-then-n-eq2 c = rw (ne_eqb _ 0 c.if-n-eq0.false, ne_eqb _ 1 c.if-n-eq1.false, eq-eqb _ 2 c.if-n-eq2.true)
+returns-in-2 c = rw c.in-2.is
 
-pub returns : goal.returns
+pub returns-in_default : goal.returns-in_default
 unfolding phase_of
-returns c = let o = c.before in
-    rw (ne_eqb _ 0 o.if-n-eq0.false, ne_eqb _ 1 o.if-n-eq1.false, ne_eqb _ 2 o.if-n-eq2.false, c.low.ensures)
+returns-in_default c = let r = c.in_default.in_default-own.rest in
+    rw (ne_eqb c.args.n 0 r.0.0.1, ne_eqb c.args.n 1 r.0.1, ne_eqb c.args.n 2 r.1, c.low.ensures)

@@ -1,12 +1,6 @@
 use Rattle.clip.specs.declared.Phase.{Phase}
-use Rattle.std.proofs.Common.{◌≡◌, sym, refl, ap, ◌∙◌, rules}
+use Rattle.std.proofs.Common.{sym, ap, ◌∙◌}
 use Rattle.clip.specs.Step.{step_in, step_of}
-use Rattle.clip_reader.proofs.byte_step.Reads as reads
-use Rattle.clip_reader.proofs.byte_step.Lts as lts
-use Rattle.clip_reader.proofs.block_step.Reads as block-step-reads
-use Rattle.clip_reader.proofs.header_step.Reads as header-step-reads
-use Rattle.clip_reader.proofs.quiet.Reads as quiet-reads
-use Rattle.clip_reader.proofs.version_step.Reads as version-step-reads
 use Rattle.clip_reader.proofs.byte_step.Goals as goal
 
 -- src/lib.rt:306:1

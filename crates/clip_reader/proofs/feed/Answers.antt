@@ -1,8 +1,5 @@
-use Rattle.std.proofs.Common.{refl, rules}
+use Rattle.std.proofs.Common.{refl}
 use Rattle.clip_reader.proofs.Feeding.{by_phase}
-use Rattle.clip_reader.proofs.feed.Reads as reads
-use Rattle.clip_reader.proofs.feed.Lts as lts
-use Rattle.clip_reader.proofs.go_on.Reads as go-on-reads
 use Rattle.clip_reader.proofs.feed.Goals as goal
 
 -- src/lib.rt:389:26

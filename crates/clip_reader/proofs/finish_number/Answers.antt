@@ -1,7 +1,3 @@
-use Rattle.std.proofs.Common.{rules}
-use Rattle.clip_reader.proofs.finish_number.Reads as reads
-use Rattle.clip_reader.proofs.finish_number.Lts as lts
-use Rattle.clip_reader.proofs.header_end.Reads as header-end-reads
 use Rattle.clip_reader.proofs.finish_number.Goals as goal
 
 -- src/lib.rt:407:1

@@ -1,4 +1,4 @@
-use Rattle.std.proofs.Common.{sym, rules}
+use Rattle.std.proofs.Common.{sym}
 use Rattle.laws.specs.Table.{tab_from, tab}
 use Rattle.clip.proofs.Timely.{first, first_of}
 use Rattle.clip_reader.proofs.first_block.Goals as goal

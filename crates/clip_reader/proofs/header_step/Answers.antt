@@ -1,10 +1,5 @@
-use Rattle.std.proofs.Common.{◌≡◌, sym, refl, ap, ◌∙◌, rules, le-ltb, lt-ltb, eq-eqb, ne_eqb}
+use Rattle.std.proofs.Common.{le-ltb, lt-ltb}
 use Rattle.clip.specs.Step.{header_step}
-use Rattle.clip_reader.proofs.header_step.Reads as reads
-use Rattle.clip_reader.proofs.header_step.Lts as lts
-use Rattle.clip_reader.proofs.check.Reads as check-reads
-use Rattle.clip_reader.proofs.hold.Reads as hold-reads
-use Rattle.clip_reader.proofs.with.Reads as with-reads
 use Rattle.clip_reader.proofs.header_step.Goals as goal
 
 -- src/lib.rt:244:1

@@ -1,9 +1,5 @@
-use Rattle.std.proofs.Common.{◌≡◌, sym, refl, ap, ◌∙◌, rules, le-ltb, lt-ltb, eq-eqb, ne_eqb}
+use Rattle.std.proofs.Common.{le-ltb, lt-ltb}
 use Rattle.clip.specs.Step.{past}
-use Rattle.clip_reader.proofs.pass.Reads as reads
-use Rattle.clip_reader.proofs.pass.Lts as lts
-use Rattle.clip_reader.proofs.next_block.Reads as next-block-reads
-use Rattle.clip_reader.proofs.next_frame.Reads as next-frame-reads
 use Rattle.clip_reader.proofs.pass.Goals as goal
 
 -- src/lib.rt:291:1

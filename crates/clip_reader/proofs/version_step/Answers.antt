@@ -1,10 +1,5 @@
-use Rattle.std.proofs.Common.{◌≡◌, sym, refl, ap, ◌∙◌, rules, le-ltb, lt-ltb, eq-eqb, ne_eqb}
+use Rattle.std.proofs.Common.{eq-eqb, ne_eqb}
 use Rattle.clip.specs.Step.{version_step}
-use Rattle.clip_reader.proofs.version_step.Reads as reads
-use Rattle.clip_reader.proofs.version_step.Lts as lts
-use Rattle.clip_reader.proofs.enter.Reads as enter-reads
-use Rattle.clip_reader.proofs.quiet.Reads as quiet-reads
-use Rattle.clip_reader.proofs.stop.Reads as stop-reads
 use Rattle.clip_reader.proofs.version_step.Goals as goal
 
 -- src/lib.rt:157:1

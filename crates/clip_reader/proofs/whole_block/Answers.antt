@@ -1,7 +1,4 @@
-use Rattle.std.proofs.Common.{◌≡◌, ℕ, List, length, sym, ap, ◌∙◌, rules}
-use lib.ListN.{length-map}
-use Rattle.clip.specs.declared.Clip.{Clip}
-use Rattle.clip.proofs.Whole.{whole_fed, whole_fed_lem}
+use Rattle.std.proofs.Common.{◌≡◌, length}
 use Rattle.clip_reader.proofs.Feeding.{whole_returned}
 use Rattle.clip_reader.proofs.whole_block.Goals as goal
 use Rattle.clip_reader.proofs.whole_block.Goals.{After-first_block}

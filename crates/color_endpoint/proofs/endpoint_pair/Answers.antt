@@ -1,7 +1,6 @@
 -- `color_endpoint::endpoint_pair` meets its contract.
 use Rattle.color_endpoint.specs.Modes.{pair_of}
 use borrow.Author.Tests.{ne_eqb}
-use borrow.Author.Rules.{rules}
 use Rattle.color_endpoint.proofs.endpoint_pair.Goals as goal
 
 pub returns-in-0 : goal.returns-in-0

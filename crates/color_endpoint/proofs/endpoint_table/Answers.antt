@@ -8,7 +8,6 @@ use Rattle.endpoint_arithmetic.specs.Pair.{zero_pair}
 use Rattle.color_endpoint.specs.Modes.{pair_of}
 use Rattle.color_endpoint.specs.Table.{start_of, entry_by, table_by, table_of}
 use Rattle.color_endpoint.proofs.Laws.{table_next}
-use borrow.Author.Rules.{rules}
 use Rattle.color_endpoint.proofs.endpoint_table.Goals as goal
 use Rattle.color_endpoint.proofs.endpoint_table.Goals.{After-endpoint_pair}
 

@@ -1,7 +1,6 @@
 -- `color_endpoint::high_luminance` meets its contract.
 use native.Mathlib.Omega.{arith}
 use Rattle.color_endpoint.specs.Modes.{high_luminance}
-use borrow.Author.Rules.{rules}
 use Rattle.color_endpoint.proofs.high_luminance.Goals as goal
 
 pub returns-then-l1-lt255 : goal.returns-then-l1-lt255

@@ -1,7 +1,6 @@
 -- `color_endpoint::low_luminance` meets its contract.
 use Rattle.color_endpoint.specs.Modes.{low_luminance}
 use mathlib.Core.Path.{refl}
-use borrow.Author.Rules.{rules}
 use Rattle.color_endpoint.proofs.low_luminance.Goals as goal
 
 pub returns : goal.returns

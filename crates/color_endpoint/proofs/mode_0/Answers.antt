@@ -1,6 +1,5 @@
 -- `color_endpoint::mode_0` meets its contract.
 use Rattle.color_endpoint.specs.Modes.{mode0}
-use borrow.Author.Rules.{rules}
 use Rattle.color_endpoint.proofs.mode_0.Goals as goal
 
 pub returns : goal.returns

@@ -1,6 +1,5 @@
 -- `color_endpoint::mode_1` meets its contract.
 use Rattle.color_endpoint.specs.Modes.{mode1}
-use borrow.Author.Rules.{rules}
 use Rattle.color_endpoint.proofs.mode_1.Goals as goal
 
 pub returns : goal.returns

@@ -1,6 +1,5 @@
 -- `color_endpoint::mode_10` meets its contract.
 use Rattle.color_endpoint.specs.Modes.{mode10}
-use borrow.Author.Rules.{rules}
 use Rattle.color_endpoint.proofs.mode_10.Goals as goal
 
 pub returns : goal.returns

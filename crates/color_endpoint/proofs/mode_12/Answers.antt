@@ -1,6 +1,5 @@
 -- `color_endpoint::mode_12` meets its contract.
 use Rattle.color_endpoint.specs.Modes.{mode12}
-use borrow.Author.Rules.{rules}
 use Rattle.color_endpoint.proofs.mode_12.Goals as goal
 
 pub returns : goal.returns

@@ -1,6 +1,5 @@
 -- `color_endpoint::mode_13` meets its contract.
 use Rattle.color_endpoint.specs.Modes.{mode13}
-use borrow.Author.Rules.{rules}
 use Rattle.color_endpoint.proofs.mode_13.Goals as goal
 
 pub returns : goal.returns

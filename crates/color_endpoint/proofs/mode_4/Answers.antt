@@ -1,6 +1,5 @@
 -- `color_endpoint::mode_4` meets its contract.
 use Rattle.color_endpoint.specs.Modes.{mode4}
-use borrow.Author.Rules.{rules}
 use Rattle.color_endpoint.proofs.mode_4.Goals as goal
 
 pub returns : goal.returns

@@ -1,6 +1,5 @@
 -- `color_endpoint::mode_5` meets its contract.
 use Rattle.color_endpoint.specs.Modes.{mode5}
-use borrow.Author.Rules.{rules}
 use Rattle.color_endpoint.proofs.mode_5.Goals as goal
 
 pub returns : goal.returns

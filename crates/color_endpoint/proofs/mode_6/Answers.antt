@@ -1,6 +1,5 @@
 -- `color_endpoint::mode_6` meets its contract.
 use Rattle.color_endpoint.specs.Modes.{mode6}
-use borrow.Author.Rules.{rules}
 use Rattle.color_endpoint.proofs.mode_6.Goals as goal
 
 pub returns : goal.returns

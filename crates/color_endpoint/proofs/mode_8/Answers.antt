@@ -1,6 +1,5 @@
 -- `color_endpoint::mode_8` meets its contract.
 use Rattle.color_endpoint.specs.Modes.{mode8}
-use borrow.Author.Rules.{rules}
 use Rattle.color_endpoint.proofs.mode_8.Goals as goal
 
 pub returns : goal.returns

@@ -1,6 +1,5 @@
 -- `color_endpoint::mode_9` meets its contract.
 use Rattle.color_endpoint.specs.Modes.{mode9}
-use borrow.Author.Rules.{rules}
 use Rattle.color_endpoint.proofs.mode_9.Goals as goal
 
 pub returns : goal.returns

@@ -1,7 +1,6 @@
 -- `color_endpoint::number_count` meets its contract.
 use Rattle.color_endpoint.specs.Table.{number_count}
 use native.Mathlib.Omega.{arith}
-use borrow.Author.Rules.{rules}
 use Rattle.color_endpoint.proofs.number_count.Goals as goal
 
 pub returns : goal.returns

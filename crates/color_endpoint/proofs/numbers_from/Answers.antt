@@ -1,6 +1,5 @@
 -- `color_endpoint::numbers_from` meets its contract.
 use Rattle.color_endpoint.proofs.Laws.{eight}
-use borrow.Author.Rules.{rules}
 use Rattle.color_endpoint.proofs.numbers_from.Goals as goal
 
 pub returns : goal.returns

@@ -1,8 +1,8 @@
-use borrow.Author.Tests.{eq-eqb, ne_eqb}
+use Rattle.image_numbers.proofs.Laws.{refused_number}
 use Rattle.fault_numbers.proofs.refusal_or_5.Goals as goal
 
-pub returns-then-e-eq0 : goal.returns-then-e-eq0
-returns-then-e-eq0 c = rw (← c.refusal-e.ensures, eq-eqb _ _ c.if-e-eq0.true)
+pub returns-in-Err : goal.returns-in-Err
+returns-in-Err c = refused_number _ _ c.in-Err.ensures
 
-pub returns-else-e-eq0 : goal.returns-else-e-eq0
-returns-else-e-eq0 c = rw (← c.refusal-e.ensures, ne_eqb _ _ c.if-e-eq0.false)
+pub returns-in-Ok : goal.returns-in-Ok
+returns-in-Ok c = rw (← c.in-Ok.ensures)

@@ -1,9 +1,7 @@
 -- `half_pair::expand` meets its contract.
 use native.Mathlib.Omega.{arith}
-use Prim.Native.Nat.{◌≤◌}
 use Rattle.half_pair.specs.Pair.{expand_half}
 use Rattle.interpolation.specs.Expansion.{replicated}
-use borrow.Author.Rules.{rules}
 use Rattle.half_pair.proofs.expand.Goals as goal
 
 pub overflow_mul-result-else-hdr : goal.overflow_mul-result-else-hdr

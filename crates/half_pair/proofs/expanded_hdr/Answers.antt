@@ -1,6 +1,5 @@
 -- `half_pair::expanded_hdr` meets its contract.
 use Rattle.half_pair.specs.Pair.{expanded_hdr}
-use borrow.Author.Rules.{rules}
 use Rattle.half_pair.proofs.expanded_hdr.Goals as goal
 
 pub returns : goal.returns

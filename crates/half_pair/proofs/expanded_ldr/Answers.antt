@@ -1,6 +1,5 @@
 -- `half_pair::expanded_ldr` meets its contract.
 use Rattle.half_pair.specs.Pair.{expanded_ldr}
-use borrow.Author.Rules.{rules}
 use Rattle.half_pair.proofs.expanded_ldr.Goals as goal
 
 pub returns : goal.returns

@@ -1,7 +1,6 @@
 -- `half_pair::half_pair` meets its contract.
-use mathlib.Core.Path.{◌≡◌, sym, ◌∙◌}
+use mathlib.Core.Path.{sym, ◌∙◌}
 use Rattle.half_pair.specs.Pair.{half_pair_of}
-use borrow.Author.Rules.{rules}
 use Rattle.half_pair.proofs.half_pair.Goals as goal
 
 pub returns-then-is_hdr : goal.returns-then-is_hdr

@@ -1,10 +1,8 @@
 -- `half_pair::hdr_end` meets its contract.
-use mathlib.Core.Path.{◌≡◌, refl, subst}
+use mathlib.Core.Path.{◌≡◌, subst}
 use mathlib.Core.Bool.{true, false}
 use lib.Dec.{T}
 use Rattle.half_pair.specs.Pair.{half_end}
-use Rattle.half_pair.specs.inner.Room.{Room}
-use borrow.Author.Rules.{rules}
 use Rattle.half_pair.proofs.hdr_end.Goals as goal
 
 clash : {A : Type 0} → true ≡ false → A

@@ -2,7 +2,6 @@
 use borrow.Author.Tests.{ne_eqb}
 use Rattle.half_pair.specs.Pair.{hdr_pair_of}
 use Rattle.half_pair.proofs.Laws.{room_12, room_8}
-use borrow.Author.Rules.{rules}
 use Rattle.half_pair.proofs.hdr_pair.Goals as goal
 
 pub returns-in-2 : goal.returns-in-2

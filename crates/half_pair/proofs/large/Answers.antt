@@ -1,9 +1,8 @@
 -- `half_pair::large` meets its contract.
-use mathlib.Core.Path.{◌≡◌, sym, subst}
+use mathlib.Core.Path.{sym, subst}
 use native.Mathlib.Omega.{arith}
 use Rattle.hdr_endpoint.proofs.Bounds.{large_twelve}
 use Rattle.hdr_endpoint.specs.inner.Bounds.{Twelve}
-use borrow.Author.Rules.{rules}
 use Rattle.half_pair.proofs.large.Goals as goal
 
 pub returns : goal.returns

@@ -1,7 +1,6 @@
 -- `half_pair::ldr_end` meets its contract.
 use Rattle.half_pair.specs.Pair.{expand_half, half_end}
 use Rattle.interpolation.specs.Expansion.{replicated}
-use borrow.Author.Rules.{rules}
 use Rattle.half_pair.proofs.ldr_end.Goals as goal
 
 pub returns : goal.returns

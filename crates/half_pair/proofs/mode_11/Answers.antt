@@ -1,6 +1,5 @@
 -- `half_pair::mode_11` meets its contract.
 use Rattle.half_pair.specs.Pair.{mode11}
-use borrow.Author.Rules.{rules}
 use Rattle.half_pair.proofs.mode_11.Goals as goal
 
 pub returns : goal.returns

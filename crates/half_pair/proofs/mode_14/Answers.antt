@@ -1,8 +1,6 @@
 -- `half_pair::mode_14` meets its contract.
 use native.Mathlib.Omega.{arith}
-use mathlib.Core.Path.{◌≡◌, ◌∙◌}
 use Rattle.half_pair.specs.Pair.{mode14}
-use borrow.Author.Rules.{rules}
 use Rattle.half_pair.proofs.mode_14.Goals as goal
 
 pub returns : goal.returns

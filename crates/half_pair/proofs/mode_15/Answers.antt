@@ -1,6 +1,5 @@
 -- `half_pair::mode_15` meets its contract.
 use Rattle.half_pair.specs.Pair.{mode15}
-use borrow.Author.Rules.{rules}
 use Rattle.half_pair.proofs.mode_15.Goals as goal
 
 pub returns : goal.returns

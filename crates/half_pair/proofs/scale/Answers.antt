@@ -1,8 +1,7 @@
 -- `half_pair::scale` meets its contract.
-use mathlib.Core.Path.{◌≡◌, sym, subst}
+use mathlib.Core.Path.{sym, subst}
 use Rattle.hdr_endpoint.proofs.Bounds.{scale_twelve}
 use Rattle.hdr_endpoint.specs.inner.Bounds.{Twelve}
-use borrow.Author.Rules.{rules}
 use Rattle.half_pair.proofs.scale.Goals as goal
 
 pub returns : goal.returns

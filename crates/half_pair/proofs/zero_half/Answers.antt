@@ -1,4 +1,3 @@
-use borrow.Author.Rules.{rules}
 use Rattle.half_pair.proofs.zero_half.Goals as goal
 
 pub returns : goal.returns

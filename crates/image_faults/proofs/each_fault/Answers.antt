@@ -24,24 +24,19 @@ noted_is : (f : ℕ → ℕ) (n : ℕ) (t : Tally) (e : ℕ) → t ≡ tally_of 
 noted_is f n t e p q = rw (p, q) (tally_more f n)
 
 pub loop-b-init : goal.loop-b-init
-loop-b-init c = (filling_start _ 0 _ _ refl, (omega arith, sym (tally_start _)))
+loop-b-init c = (filling_start _ 0 _ _ refl, sym (tally_start _))
 
 pub note-t-requires : goal.note-t-requires
-note-t-requires c =
-    let l = c.loop-b in
-    (tally_le _ l.b l.t l.invariant.1.1, omega (arith, l.invariant.1.0))
+note-t-requires c = let l = c.loop-b in (tally_le _ l.b l.t l.invariant.1, omega arith)
 
 pub loop-b-preserved : goal.loop-b-preserved
 loop-b-preserved c =
-    let f = c.before in
-    let b = f.before in
-    let l = b.loop-b in
-    let e = fault_is _ _ _ _ _ _ _ f.fault_of-e.ensures b.block_of.ensures in
-    (filling_more _ 0 _ _ _ _ (omega (arith, b.loop-b-test.true, l.invariant.0.size)) l.invariant.0 e, (omega (arith, b.loop-b-test.true, l.invariant.0.size), c.note-t.ensures ∙ noted_is _ l.b _ _ l.invariant.1.1 e))
-
-pub shape_of-faults : goal.shape_of-faults
-shape_of-faults c = c.loop-b.invariant.0.size
+    let l = c.loop-b in
+    let e = fault_is _ _ _ _ _ _ _ c.fault_of-e.ensures c.block_of.ensures in
+    (filling_more _ 0 _ _ _ _ (omega arith) l.invariant.0 e, c.note-t.ensures ∙ noted_is _ l.b _ _ l.invariant.1 e)
 
 pub returns : goal.returns
-returns c = let l = c.loop-b in
-    let e : l.b ≡ length c.args.faults.now = omega (arith, l.invariant.1.0, l.invariant.0.size, c.loop-b-test.false) in record { value = l.invariant.1.1 ∙ ap (tally_of _) e; faults_after = filling_done _ 0 _ _ _ e l.invariant.0 }
+returns c =
+    let l = c.loop-b in
+    let e : l.b ≡ length c.args.faults.now = omega arith in
+    record { value = l.invariant.1 ∙ ap (tally_of _) e; faults_after = filling_done _ 0 _ _ _ e l.invariant.0 }

@@ -1,5 +1,5 @@
 use native.Mathlib.Omega.{arith}
-use Rattle.image_layout.specs.inner.Checked.{image_grid}
+use Rattle.image_layout.specs.inner.Grid.{image_grid}
 use Rattle.image_layout.proofs.Calls.{sound}
 use Rattle.image_layout.proofs.grid_of.Goals as goal
 

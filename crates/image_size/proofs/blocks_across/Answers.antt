@@ -1,5 +1,4 @@
 use native.Mathlib.Omega.{arith}
-use borrow.Author.Rules.{rules}
 use Rattle.image_size.specs.Sides.{blocks_across}
 use Rattle.image_size.proofs.Laws.{across_le}
 use Rattle.image_size.proofs.blocks_across.Goals as goal

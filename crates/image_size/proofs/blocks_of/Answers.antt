@@ -1,10 +1,8 @@
-use mathlib.Core.Path.{◌≡◌, sym, ap, ◌∙◌, subst}
+use mathlib.Core.Path.{◌≡◌, sym, subst}
 use Prim.Native.Nat.{ℕ, ◌*◌, ◌<◌}
 use native.Mathlib.Omega.{arith}
-use borrow.Author.Rules.{rules}
-use Rattle.footprint.specs.Footprint.{width_of, height_of}
 use Rattle.footprint.proofs.Laws.{flat_bounds}
-use Rattle.image_size.specs.Sides.{side_limit, blocks_of}
+use Rattle.image_size.specs.Sides.{blocks_of}
 use Rattle.image_size.proofs.Laws.{limit_le, sized, side_fine, blocks_pos, product_most}
 use Rattle.image_size.proofs.blocks_of.Goals as goal
 

@@ -1,4 +1,3 @@
-use borrow.Author.Rules.{rules}
 use Rattle.image_size.proofs.quotient.Goals as goal
 
 pub returns-in-4 : goal.returns-in-4

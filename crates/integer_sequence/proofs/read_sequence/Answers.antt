@@ -3,7 +3,6 @@ use native.Mathlib.Omega.{arith}
 use Rattle.quantization.proofs.Ranges.{reach_le}
 use Rattle.integer_sequence.specs.Reading.{sequence_at}
 use Rattle.integer_sequence.proofs.Ranged.{bits_small, numbers_cap}
-use borrow.Author.Rules.{rules}
 use Rattle.integer_sequence.proofs.read_sequence.Goals as goal
 
 pub overflow_cast-w : goal.overflow_cast-w

@@ -1,5 +1,4 @@
 use mathlib.Core.Path.{refl}
-use borrow.Author.Rules.{rules}
 use Rattle.line_text.proofs.Laws.{puts_byte}
 use Rattle.line_text.proofs.put_byte.Goals as goal
 

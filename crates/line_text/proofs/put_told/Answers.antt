@@ -1,5 +1,4 @@
 use native.Mathlib.Omega.{arith}
-use borrow.Author.Rules.{rules}
 use Rattle.line_text.specs.Lines.{spaced}
 use Rattle.line_text.proofs.Laws.{puts_then}
 use Rattle.line_text.proofs.put_told.Goals as goal

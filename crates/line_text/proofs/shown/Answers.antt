@@ -1,4 +1,3 @@
-use borrow.Author.Rules.{rules}
 use Rattle.line_text.proofs.shown.Goals as goal
 
 pub returns-in-Unorm16 : goal.returns-in-Unorm16

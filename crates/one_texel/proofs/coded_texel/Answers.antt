@@ -1,9 +1,8 @@
-use mathlib.Core.Path.{◌≡◌, ap, ◌∙◌}
+use mathlib.Core.Path.{◌≡◌, ◌∙◌}
 use Rattle.bits.specs.Block.{block_number}
 use Rattle.footprint.specs.Footprint.{width_of, height_of}
 use Rattle.weight_grid.specs.Place.{scale_of, grid_place}
 use Rattle.one_texel.proofs.Coded.{column_in, row_in, coded_told, one_of_them, one_of_four}
-use borrow.Author.Rules.{rules}
 use Rattle.one_texel.proofs.coded_texel.Goals as goal
 use Rattle.one_texel.proofs.coded_texel.Goals.{After-grid_place-gs, After-grid_place-gt}
 

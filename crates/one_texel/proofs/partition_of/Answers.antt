@@ -1,8 +1,7 @@
-use mathlib.Core.Path.{◌≡◌, ap, ◌∙◌}
+use mathlib.Core.Path.{ap, ◌∙◌}
 use borrow.Author.Tests.{eq-eqb, ne_eqb}
 use Rattle.partition.specs.declared.Seeds.{Seeds}
 use Rattle.partition.specs.inner.Seeds.{select_by}
-use borrow.Author.Rules.{rules}
 use Rattle.one_texel.proofs.partition_of.Goals as goal
 
 pub returns-then-partitions-eq1 : goal.returns-then-partitions-eq1

@@ -1,6 +1,5 @@
 -- `partition::doubled_seed` meets its contract. Assumes nothing.
 use Rattle.partition.specs.Select.{doubled}
-use Rattle.std.proofs.Common.{rules}
 use Rattle.partition.proofs.doubled_seed.Goals as goal
 
 pub returns-then-small : goal.returns-then-small

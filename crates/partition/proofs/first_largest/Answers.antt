@@ -1,5 +1,5 @@
 -- `partition::first_largest` meets its contract. Assumes nothing.
-use Rattle.std.proofs.Common.{◌≡◌, ◌∙◌, rules}
+use Rattle.std.proofs.Common.{◌∙◌}
 use Rattle.partition.proofs.Largest.{by_pairs}
 use Rattle.partition.proofs.first_largest.Goals as goal
 

@@ -1,5 +1,5 @@
 -- `partition::lane_at` meets its contract. Assumes nothing.
-use Rattle.std.proofs.Common.{◌*◌, ◌≤◌, refl, mul-le-mul, arith, rules}
+use Rattle.std.proofs.Common.{◌*◌, ◌≤◌, refl, mul-le-mul, arith}
 use Rattle.partition.specs.inner.Seeds.{lane_by}
 use Rattle.partition.proofs.lane_at.Goals as goal
 use Rattle.partition.proofs.lane_at.Goals.{Start}

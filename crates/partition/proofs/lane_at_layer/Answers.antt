@@ -1,6 +1,5 @@
 -- `partition::lane_at_layer` meets its contract. Assumes nothing.
 use Rattle.partition.specs.inner.Layers.{lane_at_layer}
-use Rattle.std.proofs.Common.{rules}
 use Rattle.partition.proofs.lane_at_layer.Goals as goal
 
 pub returns-then-absent : goal.returns-then-absent

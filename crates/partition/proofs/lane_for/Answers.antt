@@ -1,6 +1,5 @@
 -- `partition::lane_for` meets its contract. Assumes nothing.
 use Rattle.partition.specs.inner.Seeds.{lane_for}
-use Rattle.std.proofs.Common.{rules}
 use Rattle.partition.proofs.lane_for.Goals as goal
 
 pub returns : goal.returns

@@ -1,6 +1,5 @@
 -- `partition::lane_unless` meets its contract. Assumes nothing.
 use Rattle.partition.specs.inner.Seeds.{lane_unless}
-use Rattle.std.proofs.Common.{rules}
 use Rattle.partition.proofs.lane_unless.Goals as goal
 
 pub returns-then-absent : goal.returns-then-absent

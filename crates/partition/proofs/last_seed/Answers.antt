@@ -1,5 +1,5 @@
 -- `partition::last_seed` meets its contract. Assumes nothing.
-use Rattle.std.proofs.Common.{◌+◌, ◌*◌, ◌/◌, ◌%◌, ◌^◌, ◌≤◌, refl, le_trans, mul-le-mul, div-le_self, arith, rules}
+use Rattle.std.proofs.Common.{◌+◌, ◌*◌, ◌/◌, ◌%◌, ◌^◌, ◌≤◌, refl, le_trans, mul-le-mul, div-le_self, arith}
 use Rattle.partition.specs.Select.{last_seed_of}
 use Rattle.partition.proofs.last_seed.Goals as goal
 use Rattle.partition.proofs.last_seed.Goals.{Start}

@@ -1,5 +1,5 @@
 -- `partition::layer_from` meets its contract. Assumes nothing.
-use Rattle.std.proofs.Common.{◌≡◌, ℕ, Bool, rules}
+use Rattle.std.proofs.Common.{◌≡◌, ℕ, Bool}
 use Rattle.partition.specs.declared.Lane.{Lane}
 use Rattle.partition.specs.inner.Layers.{lane_at_layer, layer_from}
 use Rattle.partition.proofs.layer_from.Goals as goal

@@ -1,5 +1,5 @@
 -- `partition::layer_seeds` meets its contract. Assumes nothing.
-use Rattle.std.proofs.Common.{◌≡◌, ℕ, ◌+◌, ◌-◌, ◌*◌, ◌<◌, Bool, sym, refl, ap, ◌∙◌, arith, rules, lt-ltb}
+use Rattle.std.proofs.Common.{◌≡◌, ℕ, ◌+◌, ◌-◌, ◌*◌, ◌<◌, Bool, sym, ap, ◌∙◌, arith, lt-ltb}
 use Rattle.partition.specs.declared.Seeds.{Seeds}
 use Rattle.partition.specs.Hash.{hash_of}
 use Rattle.partition.specs.Select.{sh3, doubled, partition_of}

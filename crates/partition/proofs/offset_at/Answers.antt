@@ -1,5 +1,5 @@
 -- `partition::offset_at` meets its contract. Assumes nothing.
-use Rattle.std.proofs.Common.{◌*◌, ◌≤◌, refl, mul-le-mul, arith, rules}
+use Rattle.std.proofs.Common.{◌*◌, ◌≤◌, refl, mul-le-mul, arith}
 use Rattle.partition.proofs.offset_at.Goals as goal
 use Rattle.partition.proofs.offset_at.Goals.{Start}
 

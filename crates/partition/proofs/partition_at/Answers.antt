@@ -1,5 +1,5 @@
 -- `partition::partition_at` meets its contract. Assumes nothing.
-use Rattle.std.proofs.Common.{◌≡◌, ℕ, ◌∙◌, rules}
+use Rattle.std.proofs.Common.{◌≡◌, ℕ, ◌∙◌}
 use Rattle.partition.specs.declared.Seeds.{Seeds}
 use Rattle.partition.specs.Select.{first_largest}
 use Rattle.partition.specs.inner.Seeds.{select_by, lane_by}

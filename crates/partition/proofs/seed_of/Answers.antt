@@ -1,5 +1,5 @@
 -- `partition::seed_of` meets its contract. Assumes nothing.
-use Rattle.std.proofs.Common.{◌/◌, ◌^◌, refl, le_trans, div-le_self, arith, rules}
+use Rattle.std.proofs.Common.{◌/◌, ◌^◌, refl, le_trans, div-le_self, arith}
 use Rattle.partition.specs.Select.{seed_of}
 use Rattle.partition.proofs.Laws.{square}
 use Rattle.partition.proofs.seed_of.Goals as goal

@@ -1,5 +1,5 @@
 -- `partition::seeds_from` meets its contract. Assumes nothing.
-use Rattle.std.proofs.Common.{◌≡◌, ℕ, Bool, rules}
+use Rattle.std.proofs.Common.{◌≡◌, ℕ, Bool}
 use Rattle.partition.specs.declared.Lane.{Lane}
 use Rattle.partition.specs.Select.{seed_of}
 use Rattle.partition.specs.inner.Seeds.{lane_unless}

@@ -1,5 +1,5 @@
 -- `partition::shifts` meets its contract. Assumes nothing.
-use Rattle.std.proofs.Common.{arith, rules, eq-eqb, ne_eqb}
+use Rattle.std.proofs.Common.{arith, eq-eqb, ne_eqb}
 use Rattle.partition.specs.Select.{sh1, sh2}
 use Rattle.partition.proofs.shifts.Goals as goal
 

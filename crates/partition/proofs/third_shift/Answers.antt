@@ -1,5 +1,5 @@
 -- `partition::third_shift` meets its contract. Assumes nothing.
-use Rattle.std.proofs.Common.{arith, rules, eq-eqb, ne_eqb}
+use Rattle.std.proofs.Common.{eq-eqb, ne_eqb}
 use Rattle.partition.specs.Select.{sh3}
 use Rattle.partition.proofs.third_shift.Goals as goal
 

@@ -1,5 +1,4 @@
 use Rattle.interpolation.specs.Expansion.{replicated, centred}
-use borrow.Author.Rules.{rules}
 use Rattle.partition_texel.proofs.expanded.Goals as goal
 
 pub returns-in-Unorm16 : goal.returns-in-Unorm16

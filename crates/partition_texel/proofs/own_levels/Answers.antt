@@ -1,6 +1,5 @@
 use native.Mathlib.Omega.{arith}
 use Rattle.partition_texel.proofs.Partition.{range_small, cut_out, levels_read}
-use borrow.Author.Rules.{rules}
 use Rattle.partition_texel.proofs.own_levels.Goals as goal
 
 pub overflow_cast-w : goal.overflow_cast-w

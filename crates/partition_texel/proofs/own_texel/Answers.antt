@@ -1,4 +1,4 @@
-use mathlib.Core.Path.{◌≡◌, sym, ◌∙◌}
+use mathlib.Core.Path.{sym, ◌∙◌}
 use mathlib.Core.List.{[], ◌∷◌}
 use lib.ListN.{get_or}
 use Rattle.encoding.specs.inner.Levels.{first_level, second_level}
@@ -6,7 +6,6 @@ use Rattle.weight_grid.specs.Cell.{level}
 use Rattle.half_pair.specs.Pair.{no_half, half_table_of}
 use Rattle.half_line.proofs.Line.{half_line_lem}
 use Rattle.partition_texel.proofs.Partition.{of_halves, of_bytes}
-use borrow.Author.Rules.{rules}
 use Rattle.partition_texel.proofs.own_texel.Goals as goal
 
 pub returns-then-takes_hdr : goal.returns-then-takes_hdr

@@ -1,6 +1,5 @@
 use Prim.Native.Nat.{◌/◌, ◌%◌}
 use Rattle.partition_texel.proofs.Partition.{pair_steps}
-use borrow.Author.Rules.{rules}
 use Rattle.partition_texel.proofs.pair_texel.Goals as goal
 
 pub returns : goal.returns

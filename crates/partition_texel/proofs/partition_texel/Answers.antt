@@ -1,4 +1,4 @@
-use mathlib.Core.Path.{◌≡◌, refl}
+use mathlib.Core.Path.{refl}
 use Prim.Native.Nat.{◌≤◌}
 use native.Mathlib.Omega.{arith}
 use Rattle.bits.specs.Block.{block_number}
@@ -6,7 +6,6 @@ use Rattle.encoding.specs.inner.Levels.{first_level, second_level}
 use Rattle.weight_grid.specs.Cell.{level}
 use Rattle.block_header.specs.Counts.{endpoint_count}
 use Rattle.partition_texel.proofs.Partition.{start_le, texel_told_lem}
-use borrow.Author.Rules.{rules}
 use Rattle.partition_texel.proofs.partition_texel.Goals as goal
 use Rattle.partition_texel.proofs.partition_texel.Goals.{Start}
 

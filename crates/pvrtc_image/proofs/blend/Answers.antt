@@ -2,7 +2,6 @@ use mathlib.Core.Path.{refl}
 use Prim.Native.Nat.{◌-◌, ◌*◌, ◌^◌, ◌≤◌}
 use native.Mathlib.Nat.{mul-le-mul}
 use native.Mathlib.Omega.{arith}
-use borrow.Author.Rules.{rules}
 use Rattle.pvrtc_image.specs.inner.Lines.{between}
 use Rattle.pvrtc_image.proofs.blend.Goals as goal
 use Rattle.pvrtc_image.proofs.blend.Goals.{Start}

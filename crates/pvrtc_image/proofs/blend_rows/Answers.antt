@@ -1,9 +1,5 @@
-use mathlib.Core.Path.{◌≡◌, refl, ◌∙◌}
-use Prim.Native.Nat.{◌+◌, ◌-◌, ◌*◌, ◌≤◌}
+use mathlib.Core.Path.{◌≡◌, refl}
 use native.Mathlib.Omega.{arith}
-use lib.ListN.{length}
-use Rattle.pvrtc_rows.specs.inner.Rows.{Threes}
-use Rattle.pvrtc_image.specs.inner.Lines.{rows_between, own_of, Line}
 use Rattle.pvrtc_rows.proofs.Rows.{threes_none, threes_put}
 use Rattle.pvrtc_image.proofs.Lines.{low_less}
 use Rattle.pvrtc_image.proofs.blend_rows.Goals as goal

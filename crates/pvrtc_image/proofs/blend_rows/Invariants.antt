@@ -1,11 +1,8 @@
-use mathlib.Core.Path.{◌≡◌, refl, ◌∙◌}
+use mathlib.Core.Path.{◌≡◌}
 use Prim.Native.Nat.{◌+◌, ◌-◌, ◌*◌, ◌≤◌}
-use native.Mathlib.Omega.{arith}
 use lib.ListN.{length}
 use Rattle.pvrtc_rows.specs.inner.Rows.{Threes}
-use Rattle.pvrtc_image.specs.inner.Lines.{rows_between, own_of, Line}
-use Rattle.pvrtc_rows.proofs.Rows.{threes_none, threes_put}
-use Rattle.pvrtc_image.proofs.Lines.{low_less}
+use Rattle.pvrtc_image.specs.inner.Lines.{rows_between, own_of}
 use Rattle.pvrtc_image.proofs.blend_rows.Given as goal
 
 abbrev pub invariant-loop-i : goal.invariant-loop-i

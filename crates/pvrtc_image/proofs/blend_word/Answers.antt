@@ -1,6 +1,4 @@
-use Prim.Native.Nat.{◌+◌}
 use native.Mathlib.Omega.{arith}
-use borrow.Author.Rules.{rules}
 use Rattle.pvrtc_image.proofs.blend_word.Goals as goal
 
 pub blend-a-requires : goal.blend-a-requires

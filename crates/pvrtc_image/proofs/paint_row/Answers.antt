@@ -1,8 +1,8 @@
-use mathlib.Core.Path.{◌≡◌, refl}
-use Prim.Native.Nat.{◌+◌, ◌-◌, ◌*◌, ◌/◌, ◌%◌, ◌≤◌}
+use mathlib.Core.Path.{◌≡◌}
+use Prim.Native.Nat.{◌+◌, ◌*◌, ◌≤◌}
 use native.Mathlib.Omega.{arith}
 use lib.ListN.{length, length-set}
-use Rattle.pvrtc_image.specs.inner.Lines.{shown_on_line, Painted}
+use Rattle.pvrtc_image.specs.inner.Lines.{shown_on_line}
 use Rattle.pvrtc_image.proofs.Lines.{painted_none, painted_texel}
 use Rattle.pvrtc_image.proofs.paint_row.Goals as goal
 use Rattle.pvrtc_image.proofs.paint_row.Goals.{After-texel_in-t}

@@ -1,9 +1,5 @@
-use mathlib.Core.Path.{◌≡◌, refl}
-use Prim.Native.Nat.{◌+◌, ◌-◌, ◌*◌, ◌/◌, ◌%◌, ◌≤◌}
-use native.Mathlib.Omega.{arith}
-use lib.ListN.{length, length-set}
+use Prim.Native.Nat.{◌-◌, ◌*◌, ◌/◌, ◌%◌, ◌≤◌}
 use Rattle.pvrtc_image.specs.inner.Lines.{shown_on_line, Painted}
-use Rattle.pvrtc_image.proofs.Lines.{painted_none, painted_texel}
 use Rattle.pvrtc_image.proofs.paint_row.Given as goal
 
 abbrev pub invariant-loop-x : goal.invariant-loop-x

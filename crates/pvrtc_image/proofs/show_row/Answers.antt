@@ -1,7 +1,4 @@
-use mathlib.Core.Path.{◌≡◌, refl}
-use Prim.Native.Nat.{◌+◌, ◌*◌, ◌/◌, ◌%◌, ◌≤◌}
 use native.Mathlib.Omega.{arith}
-use borrow.Author.Rules.{rules}
 use Rattle.pvrtc_rows.proofs.Words.{texels_most}
 use Rattle.pvrtc_image.proofs.Showing.{window_low, row_paintable, row_painted}
 use Rattle.pvrtc_image.proofs.show_row.Goals as goal

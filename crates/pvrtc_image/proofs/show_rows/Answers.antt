@@ -1,9 +1,8 @@
-use mathlib.Core.Path.{◌≡◌, refl, sym, ◌∙◌}
-use Prim.Native.Nat.{◌+◌, ◌-◌, ◌*◌, ◌/◌, ◌%◌, ◌^◌, ◌≤◌, ◌<◌}
+use mathlib.Core.Path.{◌∙◌}
+use Prim.Native.Nat.{◌*◌, ◌^◌, ◌<◌}
 use native.Mathlib.Omega.{arith}
-use borrow.Author.Rules.{rules}
 use Rattle.pvrtc_texel.proofs.Places.{row_inside}
-use Rattle.pvrtc_image.proofs.Showing.{Showing, showing_start, showing_more, showing_done}
+use Rattle.pvrtc_image.proofs.Showing.{showing_start, showing_more, showing_done}
 use Rattle.pvrtc_image.proofs.show_rows.Goals as goal
 use Rattle.pvrtc_image.proofs.show_rows.Goals.{After-show_row-arg-1, After-slice_known-in-loop-y-1}
 

@@ -1,9 +1,5 @@
-use mathlib.Core.Path.{◌≡◌, refl, sym, ◌∙◌}
-use Prim.Native.Nat.{◌+◌, ◌-◌, ◌*◌, ◌/◌, ◌%◌, ◌^◌, ◌≤◌, ◌<◌}
-use native.Mathlib.Omega.{arith}
-use borrow.Author.Rules.{rules}
-use Rattle.pvrtc_texel.proofs.Places.{row_inside}
-use Rattle.pvrtc_image.proofs.Showing.{Showing, showing_start, showing_more, showing_done}
+use Prim.Native.Nat.{◌-◌}
+use Rattle.pvrtc_image.proofs.Showing.{Showing}
 use Rattle.pvrtc_image.proofs.show_rows.Given as goal
 
 abbrev pub invariant-loop-y : goal.invariant-loop-y

@@ -1,6 +1,5 @@
-use mathlib.Core.Path.{◌≡◌, ap, ap₂, ◌∙◌}
+use mathlib.Core.Path.{◌∙◌}
 use native.Mathlib.Omega.{arith}
-use borrow.Author.Rules.{rules}
 use Rattle.pvrtc_texel.specs.Texel.{relative}
 use Rattle.pvrtc_image.specs.inner.Lines.{sample_a, sample_b, own_word, shown_on_line}
 use Rattle.pvrtc_image.proofs.texel_in.Goals as goal

@@ -1,43 +1,34 @@
 use mathlib.Core.Path.{◌≡◌}
-use mathlib.Core.Logic.{◌⊎◌, inl, inr, ⊎_elim}
-use Prim.Native.Nat.{ℕ, ◌+◌, ◌≤◌, ◌<◌}
+use mathlib.Core.Logic.{◌⊎◌, inl, inr}
+use Prim.Native.Nat.{◌-◌}
 use native.Mathlib.Omega.{arith}
-use borrow.Author.Tests.{ltb-true, ltb-false}
-use Rattle.pvrtc_order.proofs.Turns.{Turn, start, shift_most, low_most, more_fits, more, whole_fits, whole, rest_small}
+use native.Mathlib.Decide.{dec_lt}
+use Rattle.pvrtc_order.proofs.Turns.{start_at, more_fits, more_at, whole_fits, whole, rest_small}
 use Rattle.pvrtc_order.proofs.word_place.Goals as goal
-use Rattle.pvrtc_order.proofs.word_place.Goals.{Left-loop-an, then-loop-an-test+else-bn-gt0, else-loop-an-test}
+use Rattle.pvrtc_order.proofs.word_place.Goals.{In-loop-k, After-loop-k}
 
 -- one of the two has no bits left
-ended : (c : Left-loop-an) → (c.loop-an.an ≡ 0) ⊎ (c.loop-an.bn ≡ 0)
-ended c =
-    elim c.loop-an-test.branch [
-      | then-loop-an-test+else-bn-gt0 w ↦ inr (let h = w.if-bn-gt0.false in omega arith)
-      | else-loop-an-test w ↦ inl (let h = w.loop-an-test.false in omega arith)
-    ]
+ended : (c : After-loop-k) → (c.args.xb - c.loop-k.k ≡ 0) ⊎ (c.args.yb - c.loop-k.k ≡ 0)
+ended c = elim (dec_lt c.args.xb c.args.yb) [ yes l ↦ inl (omega arith) | no l ↦ inr (omega arith) ]
 
-pub loop-an-init : goal.loop-an-init
-loop-an-init c = start _ _ _ _ c.requires.1 c.requires.2
+pub loop-k-init : goal.loop-k-init
+loop-k-init c = start_at _ _ _ _ _ _ _ c.requires.1 c.requires.2 (omega arith) (omega arith) (omega arith)
 
-pub overflow_shl-place : goal.overflow_shl-place
-overflow_shl-place c = omega (arith, shift_most _ _ _ _ _ _ _ _ _ _ c.loop-an.invariant c.requires.0)
+pub overflow_add-place-in-loop-k : goal.overflow_add-place-in-loop-k
+overflow_add-place-in-loop-k c = record { fits = more_fits _ _ _ _ _ _ _ _ _ _ c.loop-k.invariant c.requires.0 (omega arith) (omega arith) }
 
-pub overflow_add-shift : goal.overflow_add-shift
-overflow_add-shift c = omega (arith, shift_most _ _ _ _ _ _ _ _ _ _ c.loop-an.invariant c.requires.0)
+pub loop-k-preserved : goal.loop-k-preserved
+loop-k-preserved c = more_at _ _ _ _ _ _ _ _ _ _ c.loop-k.invariant c.requires.0 (omega arith) (omega arith) _ _ _ (omega arith) (omega arith) (omega arith)
 
 pub overflow_add-result : goal.overflow_add-result
-overflow_add-result c = omega (arith, rest_small _ _ _ _ _ _ _ _ _ _ c.loop-an.invariant c.requires.0 (ended c))
-
-pub overflow_shl-result : goal.overflow_shl-result
-overflow_shl-result c = omega (arith, shift_most _ _ _ _ _ _ _ _ _ _ c.loop-an.invariant c.requires.0)
+overflow_add-result c = omega (arith, rest_small _ _ _ _ _ _ _ _ _ _ c.loop-k.invariant c.requires.0 (ended c))
 
 pub overflow_add-result-2 : goal.overflow_add-result-2
-overflow_add-result-2 c = record { fits = whole_fits _ _ _ _ _ _ _ _ _ _ c.loop-an.invariant c.requires.0 (ended c) }
+overflow_add-result-2 c =
+    let e : c.min-turns.result ≡ c.loop-k.k = omega arith in
+    record { fits = rw e (whole_fits _ _ _ _ _ _ _ _ _ _ c.loop-k.invariant c.requires.0 (ended c)) }
 
 pub returns : goal.returns
-returns c = whole _ _ _ _ _ _ _ _ _ _ c.loop-an.invariant c.requires.0 (ended c)
-
-pub overflow_add-place-in-loop-an : goal.overflow_add-place-in-loop-an
-overflow_add-place-in-loop-an c = record { fits = more_fits _ _ _ _ _ _ _ _ _ _ c.loop-an.invariant c.requires.0 c.loop-an-test.true c.if-bn-gt0.true }
-
-pub loop-an-preserved : goal.loop-an-preserved
-loop-an-preserved c = more _ _ _ _ _ _ _ _ _ _ c.loop-an.invariant c.requires.0 c.loop-an-test.true c.if-bn-gt0.true
+returns c =
+    let e : c.min-turns.result ≡ c.loop-k.k = omega arith in
+    rw e (whole _ _ _ _ _ _ _ _ _ _ c.loop-k.invariant c.requires.0 (ended c))

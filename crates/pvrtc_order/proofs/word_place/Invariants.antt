@@ -1,13 +1,6 @@
-use mathlib.Core.Path.{◌≡◌}
-use mathlib.Core.Logic.{◌⊎◌, inl, inr, ⊎_elim}
-use Prim.Native.Nat.{ℕ, ◌+◌, ◌≤◌, ◌<◌}
-use native.Mathlib.Omega.{arith}
-use borrow.Author.Tests.{ltb-true, ltb-false}
-use Rattle.pvrtc_order.proofs.Turns.{Turn, start, shift_most, low_most, more_fits, more, whole_fits, whole, rest_small}
+use Prim.Native.Nat.{◌-◌, ◌*◌}
+use Rattle.pvrtc_order.proofs.Turns.{Turn}
 use Rattle.pvrtc_order.proofs.word_place.Given as goal
 
-abbrev pub invariant-loop-an : goal.invariant-loop-an
-invariant-loop-an l = Turn l.xb l.yb l.x l.y l.place l.shift l.a l.b l.an l.bn
-
-abbrev pub decreases-loop-an : goal.decreases-loop-an
-decreases-loop-an l = l.an
+abbrev pub invariant-loop-k : goal.invariant-loop-k
+invariant-loop-k l = Turn l.xb l.yb l.x l.y l.place (2 * l.k) l.a l.b (l.xb - l.k) (l.yb - l.k)

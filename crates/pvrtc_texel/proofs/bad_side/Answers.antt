@@ -1,6 +1,5 @@
 use mathlib.Core.Path.{ap}
 use lib.Dec.{ltb}
-use borrow.Author.Rules.{rules}
 use Rattle.pvrtc_texel.specs.Image.{bad_pvrtc_side}
 use Rattle.pvrtc_texel.proofs.bad_side.Goals as goal
 

@@ -3,7 +3,6 @@ use Rattle.quantization.proofs.Ranges.{reach_le}
 use Rattle.integer_sequence.specs.Reading.{sequence_at}
 use Rattle.integer_sequence.proofs.Ranged.{bits_small}
 use Rattle.sequence_end.specs.Ending.{sequence_of}
-use borrow.Author.Rules.{rules}
 use Rattle.sequence_end.proofs.read_sequence.Goals as goal
 
 pub overflow_cast-end : goal.overflow_cast-end

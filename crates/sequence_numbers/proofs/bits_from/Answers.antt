@@ -2,9 +2,8 @@ use mathlib.Core.Path.{refl, ◌∙◌}
 use Prim.Native.Nat.{◌-◌, ◌*◌, ◌≤◌}
 use native.Mathlib.Nat.{mul-le-mul}
 use native.Mathlib.Omega.{arith}
-use Rattle.bits.specs.Field.{field}
 use Rattle.bits.specs.Block.{block_number}
-use Rattle.sequence_numbers.proofs.Alone.{bits_alone, Held, held_none, room, held_more, held_all}
+use Rattle.sequence_numbers.proofs.Alone.{bits_alone, held_none, room, held_more, held_all}
 use Rattle.sequence_numbers.proofs.bits_from.Goals as goal
 use Rattle.sequence_numbers.proofs.bits_from.Goals.{In-loop-k}
 

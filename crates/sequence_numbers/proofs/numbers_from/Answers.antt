@@ -1,5 +1,4 @@
 use Rattle.quantization.proofs.Ranges.{reach_le}
-use borrow.Author.Rules.{rules}
 use Rattle.sequence_numbers.proofs.numbers_from.Goals as goal
 
 pub read_from-requires : goal.read_from-requires

@@ -1,6 +1,5 @@
 use native.Mathlib.Omega.{arith}
 use Rattle.quantization.proofs.Ranges.{reach_le}
-use borrow.Author.Rules.{rules}
 use Rattle.sequence_numbers.proofs.rows_from.Goals as goal
 
 pub read_from-requires : goal.read_from-requires

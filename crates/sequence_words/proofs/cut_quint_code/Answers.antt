@@ -5,7 +5,6 @@ use native.Mathlib.Omega.{arith}
 use lib.ListN.{take}
 use Rattle.encoding.specs.declared.Encoding.TheVariants.{Quints}
 use Rattle.integer_sequence.specs.Writing.{code_of}
-use borrow.Author.Rules.{rules}
 use Rattle.sequence_words.proofs.cut_quint_code.Goals as goal
 
 taken : (b m k : ℕ) (xs : List ℕ) {code : ℕ} → m ≡ k → code ≡ code_of Quints (map (λ x. x / 2 ^ b) (take k xs)) → code ≡ code_of Quints (map (λ x. x / 2 ^ b) (take m xs))

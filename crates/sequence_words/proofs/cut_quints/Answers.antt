@@ -3,7 +3,6 @@ use mathlib.Core.List.{[], ◌∷◌}
 use native.Mathlib.Omega.{arith}
 use Rattle.encoding.specs.declared.Encoding.TheVariants.{Quints}
 use Rattle.sequence_words.proofs.Words.{word_cut}
-use borrow.Author.Rules.{rules}
 use Rattle.sequence_words.proofs.cut_quints.Goals as goal
 
 pub returns : goal.returns

@@ -3,7 +3,6 @@ use native.Mathlib.Nat.{mod-lt}
 use native.Mathlib.Omega.{arith}
 use lib.Pow.{pow_pos}
 use Rattle.bits.proofs.Halves.{one_shl}
-use borrow.Author.Rules.{rules}
 use Rattle.sequence_words.proofs.low.Goals as goal
 
 pub nonzero_rem-result : goal.nonzero_rem-result

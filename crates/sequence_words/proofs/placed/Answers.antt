@@ -4,7 +4,6 @@ use native.Mathlib.Nat.{lt_of_lt_of_le}
 use native.Mathlib.Omega.{arith}
 use lib.Arith.{digits_lt}
 use lib.Pow.{pow-add, pow_mono, shl_lt, shl_exact}
-use borrow.Author.Rules.{rules}
 use Rattle.sequence_words.proofs.placed.Goals as goal
 use Rattle.sequence_words.proofs.placed.Goals.{After-low}
 

@@ -7,7 +7,6 @@ use Rattle.bits.proofs.Halves.{low_is}
 use Rattle.encoding.specs.declared.Encoding.TheVariants.{Quints}
 use Rattle.encoding.specs.Encoding.{sequence_bits}
 use Rattle.sequence_words.proofs.Words.{piece_laid, three_laid}
-use borrow.Author.Rules.{rules}
 use Rattle.sequence_words.proofs.quint_word.Goals as goal
 
 pub returns : goal.returns

@@ -1,4 +1,3 @@
-use borrow.Author.Rules.{rules}
 use Rattle.sequence_writer.proofs.write.Goals as goal
 
 pub returns-in-Bits : goal.returns-in-Bits

@@ -1,16 +1,11 @@
-use mathlib.Core.Path.{◌≡◌, sym, ap}
-use Prim.Native.Nat.{ℕ, ◌+◌, ◌-◌, ◌*◌, ◌%◌, ◌^◌, ◌≤◌}
-use native.Mathlib.Nat.{zero-mul, add-mul, mul-le-mul}
-use native.Mathlib.Omega.{arith}
-use borrow.Author.Rules.{rules}
-use lib.ListN.{length, get_or, take}
-use lib.Seq.{get_or-take}
+use mathlib.Core.Path.{◌≡◌}
+use Prim.Native.Nat.{◌+◌, ◌-◌, ◌%◌, ◌^◌, ◌≤◌}
+use lib.ListN.{take}
 use Rattle.bits.specs.Block.{block_number}
 use Rattle.encoding.specs.declared.Encoding.TheVariants.{Bits}
 use Rattle.encoding.specs.Encoding.{sequence_bits}
 use Rattle.integer_sequence.specs.Writing.{values}
-use Rattle.sequence_writer.proofs.Growing.{so_far, place_le, write_start, write_more, write_done, bits_follow}
-use Rattle.sequence_words.proofs.Numbers.{written_length}
+use Rattle.sequence_writer.proofs.Growing.{so_far}
 use Rattle.sequence_writer.proofs.write_bits.Given as goal
 
 abbrev pub invariant-loop-i : goal.invariant-loop-i

@@ -1,10 +1,7 @@
 use Prim.Native.Nat.{◌-◌}
-use native.Mathlib.Omega.{arith}
-use borrow.Author.Rules.{rules}
 use Rattle.bits.specs.Block.{block_number}
 use Rattle.encoding.specs.declared.Encoding.TheVariants.{Quints}
-use Rattle.encoding.specs.Encoding.{sequence_bits}
-use Rattle.sequence_writer.proofs.Growing.{Grown, grown_none, grown_near, grown_more, grown_cut, grown_all}
+use Rattle.sequence_writer.proofs.Growing.{Grown}
 use Rattle.sequence_writer.proofs.write_quints.Given as goal
 
 abbrev pub invariant-loop-i : goal.invariant-loop-i

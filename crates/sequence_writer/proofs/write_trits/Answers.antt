@@ -1,4 +1,5 @@
-use Prim.Native.Nat.{◌-◌}
+use mathlib.Core.Path.{◌∙◌}
+use Prim.Native.Nat.{◌+◌, ◌*◌, ◌≤◌}
 use native.Mathlib.Omega.{arith}
 use borrow.Author.Rules.{rules}
 use Rattle.bits.specs.Block.{block_number}
@@ -6,51 +7,36 @@ use Rattle.encoding.specs.declared.Encoding.TheVariants.{Trits}
 use Rattle.encoding.specs.Encoding.{sequence_bits}
 use Rattle.sequence_writer.proofs.Growing.{Grown, grown_none, grown_near, grown_more, grown_cut, grown_all}
 use Rattle.sequence_writer.proofs.write_trits.Goals as goal
+use Rattle.sequence_writer.proofs.write_trits.Goals.{After-append-out-in-loop-i, then-i-n, else-i-n}
 
 pub loop-i-init : goal.loop-i-init
 unfolding sequence_bits
 loop-i-init c = grown_none Trits _ _ _ _ _ _ c.append-out.ensures
 
-pub overflow_add-i : goal.overflow_add-i
-unfolding sequence_bits
-overflow_add-i c = omega arith
-
-pub five_trits-requires : goal.five_trits-requires
-unfolding sequence_bits
-five_trits-requires c = (omega arith, omega arith, c.five_trits-table.ensures)
-
-pub overflow_mul-at : goal.overflow_mul-at
-unfolding sequence_bits
-overflow_mul-at c = omega arith
-
-pub overflow_add-at : goal.overflow_add-at
-unfolding sequence_bits
-overflow_add-at c = omega arith
-
 pub overflow_add-at-in-loop-i : goal.overflow_add-at-in-loop-i
 unfolding sequence_bits
 overflow_add-at-in-loop-i c = omega (arith, grown_near Trits _ _ _ _ _ _ c.append-out.ensures (omega arith) (search rules) _ _ _ c.loop-i.invariant (omega arith) (omega arith))
 
-pub overflow_add-i-in-loop-i : goal.overflow_add-i-in-loop-i
+-- a whole group more
+more : (c : After-append-out-in-loop-i) → c.loop-i.i + 5 ≤ c.args.n
+    → Grown Trits c.args.b c.args.n c.args.from c.args.xs (block_number c.append-out.result) (block_number c.append-out-in-loop-i.result) (c.loop-i.at + (5 * c.args.b + 8)) (c.loop-i.i + 5)
 unfolding sequence_bits
-overflow_add-i-in-loop-i c = omega arith
-
-pub loop-i-smaller : goal.loop-i-smaller
-unfolding sequence_bits
-loop-i-smaller c = omega arith
+more c h =
+    elim c.if-i-n.branch [
+      | then-i-n w ↦ grown_more Trits _ _ _ _ _ _ c.append-out.ensures (omega arith) (search rules) _ _ _ c.loop-i.invariant _ _ c.append-out-in-loop-i.ensures h (w.group-is ∙ w.five_trits-group.ensures)
+      | else-i-n w ↦ absurd (omega (arith, w.if-i-n.false))
+    ]
 
 pub loop-i-preserved : goal.loop-i-preserved
-unfolding sequence_bits
-loop-i-preserved c = grown_more Trits _ _ _ _ _ _ c.append-out.ensures (omega arith) (search rules) _ _ _ c.loop-i.invariant _ _ c.append-out-in-loop-i.ensures (omega arith) c.five_trits.ensures
+loop-i-preserved c = more c.before (omega arith)
 
-pub last_trits-requires : goal.last_trits-requires
-unfolding sequence_bits
-last_trits-requires c = (omega arith, omega arith, omega arith, omega arith)
-
-pub returns-then-i-n : goal.returns-then-i-n
-unfolding sequence_bits
-returns-then-i-n c = grown_cut Trits _ _ _ _ _ _ c.append-out.ensures (omega arith) (search rules) _ _ _ c.loop-i.invariant _ _ c.append.ensures (omega arith) c.last_trits.ensures
+-- the last group, whole or cut
+pub returns-after-i-n : goal.returns-after-i-n
+returns-after-i-n c =
+    elim c.if-i-n.branch [
+      | then-i-n w ↦ grown_all Trits _ _ _ _ _ _ c.append-out.ensures (omega arith) (search rules) _ _ _ (more c.before (omega (arith, w.if-i-n.true))) (omega arith)
+      | else-i-n w ↦ grown_cut Trits _ _ _ _ _ _ c.append-out.ensures (omega arith) (search rules) _ _ _ c.loop-i.invariant _ _ c.append-out-in-loop-i.ensures (omega (arith, w.if-i-n.false)) (w.group-is ∙ w.last_trits-group.ensures)
+    ]
 
 pub returns : goal.returns
-unfolding sequence_bits
 returns c = grown_all Trits _ _ _ _ _ _ c.append-out.ensures (omega arith) (search rules) _ _ _ c.loop-i.invariant (omega arith)

@@ -1,11 +1,18 @@
-use borrow.Author.Tests.{eq-eqb, ne_eqb}
+use mathlib.Core.Path.{sym}
+use native.Mathlib.Omega.{arith}
+use borrow.Author.Tests.{ne_eqb}
+use Rattle.reason.specs.Numbers.{refusal_number}
+use Rattle.reason.proofs.Told.{refusal_some}
 use Rattle.stallbrook_faults.specs.Calls.{image_block_count}
 use Rattle.stallbrook_faults.proofs.stallbrook_astc_image_blocks.Goals as goal
 
-pub returns-then-e-ne0 : goal.returns-then-e-ne0
+pub returns-in-Err : goal.returns-in-Err
 unfolding image_block_count
-returns-then-e-ne0 c = rw (← c.size_refusal-e.ensures, ne_eqb _ _ c.if-e-ne0.true)
+returns-in-Err c = rw (← c.in-Err.ensures, ne_eqb (refusal_number c.in-Err.field-0) 0 (λ z. let p = refusal_some c.in-Err.field-0 in omega arith))
 
-pub returns : goal.returns
+pub blocks_of-requires : goal.blocks_of-requires
+blocks_of-requires c = sym c.in-Ok.ensures
+
+pub returns-in-Ok : goal.returns-in-Ok
 unfolding image_block_count
-returns c = rw (← c.size_refusal-e.ensures, eq-eqb _ _ c.if-e-ne0.false) c.blocks_of.ensures.0
+returns-in-Ok c = rw (← c.in-Ok.ensures) c.blocks_of.ensures.0

@@ -1,5 +1,4 @@
 use mathlib.Core.Path.{◌∙◌}
-use Rattle.block_answer.specs.Told.{number_told}
 use Rattle.stallbrook_unorm16.proofs.stallbrook_astc_decode_block_unorm16.Goals as goal
 
 pub returns : goal.returns

@@ -1,11 +1,7 @@
-use mathlib.Core.Path.{◌≡◌}
-use Prim.Native.Nat.{◌-◌, ◌≤◌, min}
-use lib.ListN.{length, get_or}
+use Prim.Native.Nat.{min}
+use lib.ListN.{get_or}
 use Rattle.laws.proofs.Filling.{Filling}
 use Rattle.symbolic_numbers.proofs.clipped_numbers.Given as goal
 
 abbrev pub invariant-loop-i : goal.invariant-loop-i
-invariant-loop-i l = (l.i ≤ 107) × (length l.numbers ≡ 107) × Filling (λ k. min (get_or l.numbers k 0) 255) 0 107 l.out l.i
-
-abbrev pub decreases-loop-i : goal.decreases-loop-i
-decreases-loop-i l = 107 - l.i
+invariant-loop-i l = Filling (λ k. min (get_or l.numbers k 0) 255) 0 107 l.out l.i

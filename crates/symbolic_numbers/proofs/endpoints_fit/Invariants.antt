@@ -1,12 +1,9 @@
 use mathlib.Core.Path.{◌≡◌}
-use Prim.Native.Nat.{◌+◌, ◌-◌, ◌≤◌}
+use Prim.Native.Nat.{◌+◌}
 use lib.Dec.{leb}
-use lib.ListN.{length, get_or}
+use lib.ListN.{get_or}
 use Rattle.laws.specs.Choice.{all}
 use Rattle.symbolic_numbers.proofs.endpoints_fit.Given as goal
 
 abbrev pub invariant-loop-i : goal.invariant-loop-i
-invariant-loop-i l = (l.i ≤ 18) × (length l.numbers ≡ 107) × (l.ok ≡ all (λ k. leb (get_or l.numbers (21 + k) 0) 255) l.i)
-
-abbrev pub decreases-loop-i : goal.decreases-loop-i
-decreases-loop-i l = 18 - l.i
+invariant-loop-i l = (l.ok ≡ all (λ k. leb (get_or l.numbers (21 + k) 0) 255) l.i)

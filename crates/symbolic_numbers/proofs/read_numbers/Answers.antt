@@ -1,1 +1,0 @@
-use Rattle.symbolic_numbers.proofs.read_numbers.Goals as goal

@@ -1,11 +1,10 @@
 use mathlib.Core.Path.{◌≡◌, ap, ◌∙◌}
-use lib.ListN.{get_or}
 use Rattle.laws.specs.Table.{tab}
 use Rattle.block_answer.specs.Told.{number_told}
 use Rattle.symbolic_calls.specs.declared.Writing.{Writing}
 use Rattle.symbolic_calls.specs.Writing.{writing_of}
 use Rattle.symbolic_numbers.specs.Numbers.{block_from}
-use Rattle.symbolic_numbers.proofs.Laws.{write_4, kept_4, write_5, zeros_5, write_told, block_written, whole_block_lem}
+use Rattle.symbolic_numbers.proofs.Laws.{write_4, kept_4, write_5, zeros_5, write_told, block_written}
 use Rattle.symbolic_numbers.proofs.write_numbers.Goals as goal
 
 pub returns-then-block-ne16 : goal.returns-then-block-ne16
@@ -16,19 +15,15 @@ pub returns-then-numbers-ne107 : goal.returns-then-numbers-ne107
 unfolding tab
 returns-then-numbers-ne107 c = let a = c.args in
     let e = c.if-block-ne16.false in
-    let h = c.if-numbers-ne107.true in record { value = c.after_1-then-numbers-ne107.ensures ∙ write_5 a.footprint a.numbers.now a.block.now e h; block_after = c.put_block.ensures ∙ zeros_5 a.footprint a.numbers.now a.block.now e h }
+    let h = c.if-numbers-ne107.true in record { value = c.after_1-then-numbers-ne107.ensures ∙ write_5 a.footprint a.numbers.now a.block.now e h; block_after = c.copy_from_slice.ensures.after ∙ zeros_5 a.footprint a.numbers.now a.block.now e h }
 
 pub returns : goal.returns
-returns c = let p = c.before.before.before in
-    let w = p.before.before.before in
-    let a = w.args in
-    let e = w.if-block-ne16.false in
-    let l = w.if-numbers-ne107.false in
-    let s = block_from a.numbers.now in
-    let done : w.writing_of-writing.result ≡ writing_of a.footprint s = w.writing_of-writing.ensures in record {
+returns c =
+    let a = c.args in
+    let e = c.if-block-ne16.false in
+    let l = c.if-numbers-ne107.false in
+    let done : c.writing_of-writing.result ≡ writing_of a.footprint (block_from a.numbers.now) = c.writing_of-writing.ensures in
+    record {
       value = c.number_told.ensures ∙ ap (λ (x : Writing). number_told x.answer) done ∙ write_told a.footprint a.numbers.now a.block.now e l;
-      block_after = p.put_block-2.ensures
-          ∙ ap (λ (x : Writing). tab (λ k. get_or x.bytes k 0) 16) done
-          ∙ whole_block_lem a.footprint s
-          ∙ block_written a.footprint a.numbers.now a.block.now e l;
+      block_after = c.copy_from_slice-2.ensures.after ∙ ap (λ (x : Writing). x.bytes) done ∙ block_written a.footprint a.numbers.now a.block.now e l;
     }

@@ -1,7 +1,6 @@
 use native.Mathlib.Omega.{arith}
 use Rattle.block_fault.proofs.Laws.{narrow}
 use Rattle.void_extent.specs.Layout.{colour_at}
-use borrow.Author.Rules.{rules}
 use Rattle.symbolic_reader.proofs.colour.Goals as goal
 
 pub overflow_cast-result : goal.overflow_cast-result

@@ -6,7 +6,6 @@ use Rattle.encoding.specs.declared.Stored.{Stored}
 use Rattle.integer_sequence.specs.Reading.{stored}
 use Rattle.block_fault.specs.Bits.{endpoint_at}
 use Rattle.symbolic_reader.proofs.Laws.{first_numbers}
-use borrow.Author.Rules.{rules}
 use Rattle.symbolic_reader.proofs.endpoints.Goals as goal
 
 pub returns : goal.returns

@@ -1,7 +1,6 @@
 use native.Mathlib.Omega.{arith}
 use Rattle.bits.specs.Block.{block_number}
 use Rattle.void_extent.proofs.Extents.{extent_small}
-use borrow.Author.Rules.{rules}
 use Rattle.symbolic_reader.proofs.extent.Goals as goal
 
 pub overflow_cast-result : goal.overflow_cast-result

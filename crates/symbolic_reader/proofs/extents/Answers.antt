@@ -1,5 +1,4 @@
 use Rattle.laws.specs.Table.{tab, tab_from}
-use borrow.Author.Rules.{rules}
 use Rattle.symbolic_reader.proofs.extents.Goals as goal
 
 pub returns : goal.returns

@@ -1,16 +1,14 @@
 use mathlib.Core.Path.{refl}
-use Prim.Native.Nat.{◌-◌, ◌≤◌}
 use native.Mathlib.Omega.{arith}
-use lib.ListN.{get_or}
-use Rattle.laws.proofs.Filling.{Filling, filling_start, filling_more, filling_done}
+use Rattle.laws.proofs.Filling.{filling_start, filling_more, filling_done}
 use Rattle.integer_sequence.specs.Reading.{stored}
 use Rattle.symbolic_reader.proofs.first_18.Goals as goal
 
 pub loop-i-init : goal.loop-i-init
-loop-i-init c = (omega arith, filling_start _ (stored 0) 18 _ refl)
+loop-i-init c = filling_start _ (stored 0) 18 _ refl
 
 pub loop-i-preserved : goal.loop-i-preserved
-loop-i-preserved c = (omega arith, filling_more _ (stored 0) 18 _ _ _ (omega arith) c.loop-i.invariant.1 refl)
+loop-i-preserved c = filling_more _ (stored 0) 18 _ _ _ (omega arith) c.loop-i.invariant refl
 
 pub returns : goal.returns
-returns c = filling_done _ (stored 0) 18 _ _ (omega arith) c.loop-i.invariant.1
+returns c = filling_done _ (stored 0) 18 _ _ (omega arith) c.loop-i.invariant

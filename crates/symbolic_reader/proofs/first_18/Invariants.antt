@@ -1,13 +1,8 @@
-use mathlib.Core.Path.{refl}
 use Prim.Native.Nat.{◌-◌, ◌≤◌}
-use native.Mathlib.Omega.{arith}
 use lib.ListN.{get_or}
-use Rattle.laws.proofs.Filling.{Filling, filling_start, filling_more, filling_done}
+use Rattle.laws.proofs.Filling.{Filling}
 use Rattle.integer_sequence.specs.Reading.{stored}
 use Rattle.symbolic_reader.proofs.first_18.Given as goal
 
 abbrev pub invariant-loop-i : goal.invariant-loop-i
-invariant-loop-i l = (l.i ≤ 18) × Filling (λ k. get_or l.xs k (stored 0)) (stored 0) 18 l.out l.i
-
-abbrev pub decreases-loop-i : goal.decreases-loop-i
-decreases-loop-i l = 18 - l.i
+invariant-loop-i l = Filling (λ k. get_or l.xs k (stored 0)) (stored 0) 18 l.out l.i

@@ -1,6 +1,5 @@
 use native.Mathlib.Omega.{arith}
 use Rattle.block_fault.proofs.Laws.{narrow}
-use borrow.Author.Rules.{rules}
 use Rattle.symbolic_reader.proofs.hdr_bit.Goals as goal
 
 pub overflow_cast-result : goal.overflow_cast-result

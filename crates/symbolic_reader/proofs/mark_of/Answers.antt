@@ -1,5 +1,4 @@
 use mathlib.Core.Path.{sym, ◌∙◌}
-use borrow.Author.Rules.{rules}
 use Rattle.symbolic_reader.proofs.mark_of.Goals as goal
 
 pub returns-then-some_hdr : goal.returns-then-some_hdr

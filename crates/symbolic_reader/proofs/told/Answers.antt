@@ -1,4 +1,3 @@
-use borrow.Author.Rules.{rules}
 use Rattle.symbolic_reader.proofs.told.Goals as goal
 
 pub returns : goal.returns

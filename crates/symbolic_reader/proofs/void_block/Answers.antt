@@ -1,6 +1,5 @@
 use Rattle.laws.specs.Table.{tab, tab_from}
 use Rattle.symbolic_block.specs.Reading.{void_block}
-use borrow.Author.Rules.{rules}
 use Rattle.symbolic_reader.proofs.void_block.Goals as goal
 
 pub returns : goal.returns

@@ -1,7 +1,6 @@
 use mathlib.Core.Path.{◌∙◌}
 use Rattle.block_fault.specs.Bits.{weight_at}
 use Rattle.symbolic_reader.proofs.Laws.{all_numbers}
-use borrow.Author.Rules.{rules}
 use Rattle.symbolic_reader.proofs.weights.Goals as goal
 
 pub returns : goal.returns

@@ -1,6 +1,5 @@
 use mathlib.Core.Path.{sym, ◌∙◌}
 use Rattle.symbolic_block.specs.Refusals.{bad_grid_depth}
-use borrow.Author.Rules.{rules}
 use Rattle.symbolic_refusal.proofs.bad_depth.Goals as goal
 
 pub returns-then-is_volume : goal.returns-then-is_volume

@@ -2,7 +2,6 @@ use lib.ListN.{get_or}
 use mathlib.Core.Path.{◌∙◌}
 use Rattle.footprint.specs.Footprint.{is_volume}
 use Rattle.void_extent.proofs.Extents.{six_extents}
-use borrow.Author.Rules.{rules}
 use Rattle.symbolic_refusal.proofs.bad_extents.Goals as goal
 
 pub returns : goal.returns

@@ -1,5 +1,4 @@
 use Rattle.symbolic_block.specs.Refusals.{bad_index}
-use borrow.Author.Rules.{rules}
 use Rattle.symbolic_refusal.proofs.bad_index.Goals as goal
 
 pub returns : goal.returns

@@ -1,8 +1,7 @@
 use Rattle.symbolic_block.specs.Refusals.{bad_partitions}
 use Rattle.symbolic_refusal.specs.inner.Stages.{bad_partitioning}
-use borrow.Author.Rules.{rules}
 use Rattle.symbolic_refusal.proofs.bad_partitioning.Goals as goal
 
 pub returns : goal.returns
 unfolding bad_partitioning bad_partitions
-returns c = rw (c.either-3.ensures, c.either-2.ensures, c.either.ensures, c.bad_component.ensures, c.bad_selector-selector.ensures, c.bad_index-index.ensures, c.outside-partitions.ensures)
+returns c = rw (c.bad_component.ensures, c.bad_selector-selector.ensures, c.bad_index-index.ensures, c.outside-partitions.ensures)

@@ -1,5 +1,4 @@
 use Rattle.symbolic_block.specs.Refusals.{bad_selector}
-use borrow.Author.Rules.{rules}
 use Rattle.symbolic_refusal.proofs.bad_selector.Goals as goal
 
 pub returns : goal.returns

@@ -1,11 +1,18 @@
-use Rattle.symbolic_block.specs.Refusals.{no_block_mode}
-use borrow.Author.Rules.{rules}
+use mathlib.Core.Path.{◌≡◌, refl}
+use mathlib.Core.Bool.{Bool, true, false, not}
+use Prim.Native.Nat.{ℕ}
+use native.Mathlib.Omega.{arith}
+use Rattle.std.specs.Prelude.{Option, Some, None}
+use Rattle.std.specs.Option.{is_some}
+use Rattle.symbolic_block.specs.Refusals.{is_no_mode, no_block_mode}
 use Rattle.symbolic_refusal.proofs.no_block_mode.Goals as goal
 
-pub returns-in-Mode : goal.returns-in-Mode
-unfolding no_block_mode
-returns-in-Mode c = rw (← c.block_mode_of-bits.ensures, c.in-Mode.is)
+none : (o : Option ℕ) (b : Bool) → is_some o ≡ not b → b ≡ is_no_mode o
+none (Some m) false e = refl
+none (Some m) true e = absurd (let z : ◌≡◌ {A = ℕ} 0 1 = cc in omega arith)
+none None true e = refl
+none None false e = absurd (let z : ◌≡◌ {A = ℕ} 0 1 = cc in omega arith)
 
-pub returns-in-NoMode : goal.returns-in-NoMode
+pub returns : goal.returns
 unfolding no_block_mode
-returns-in-NoMode c = rw (← c.block_mode_of-bits.ensures, c.in-NoMode.is)
+returns c = rw (← c.block_mode_of.ensures) (none _ _ c.is_none.ensures)

@@ -1,7 +1,6 @@
 use mathlib.Core.Path.{sym, ap, ◌∙◌}
 use Rattle.laws.specs.Reasons.{first_of}
 use Rattle.symbolic_block.proofs.Opened.{refusal_is, refusals_void, refusals_mode}
-use borrow.Author.Rules.{rules}
 use Rattle.symbolic_refusal.proofs.refusal.Goals as goal
 
 pub returns-then-s-eq1 : goal.returns-then-s-eq1

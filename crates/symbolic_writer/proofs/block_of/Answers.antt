@@ -1,4 +1,3 @@
-use lib.ListN.{length-map}
 use borrow.Author.Rules.{rules}
 use mathlib.Core.Path.{◌∙◌}
 use Rattle.symbolic_block.specs.Fields.{Sized}

@@ -3,7 +3,6 @@ use native.Mathlib.Omega.{arith}
 use Prim.Native.Nat.{◌+◌, ◌≤◌}
 use Rattle.block_header.proofs.Laws.{range_bits_le}
 use Rattle.symbolic_block.specs.Writing.{endpoints_end}
-use borrow.Author.Rules.{rules}
 use Rattle.symbolic_writer.proofs.endpoints_end.Goals as goal
 use Rattle.symbolic_writer.proofs.endpoints_end.Goals.{After-range_bits}
 

@@ -1,5 +1,4 @@
 use Rattle.void_extent.specs.Writing.{fixed_bits}
-use borrow.Author.Rules.{rules}
 use Rattle.symbolic_writer.proofs.fixed_bits.Goals as goal
 
 pub returns-then-volume : goal.returns-then-volume

@@ -1,4 +1,3 @@
-use borrow.Author.Rules.{rules}
 use Rattle.symbolic_writer.proofs.header_of.Goals as goal
 
 pub returns : goal.returns

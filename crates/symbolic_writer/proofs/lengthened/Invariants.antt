@@ -1,14 +1,9 @@
-use native.Mathlib.Omega.{arith}
-use mathlib.Core.Path.{◌≡◌, refl, sym, ap, ◌∙◌}
-use Prim.Native.Nat.{ℕ, ◌-◌, ◌≤◌}
+use mathlib.Core.Path.{◌≡◌}
+use Prim.Native.Nat.{◌-◌, ◌≤◌}
 use lib.ListN.{get_or}
 use Rattle.laws.specs.Table.{padded}
-use Rattle.laws.proofs.Filling.{padded_none, padded_more}
 use Rattle.integer_sequence.specs.Reading.{stored}
 use Rattle.symbolic_writer.proofs.lengthened.Given as goal
 
 abbrev pub invariant-loop-i : goal.invariant-loop-i
-invariant-loop-i l = (l.i ≤ 18) × (l.out ≡ padded 64 l.i (λ k. get_or l.xs k (stored 0)) (stored 0))
-
-abbrev pub decreases-loop-i : goal.decreases-loop-i
-decreases-loop-i l = 18 - l.i
+invariant-loop-i l = (l.out ≡ padded 64 l.i (λ k. get_or l.xs k (stored 0)) (stored 0))

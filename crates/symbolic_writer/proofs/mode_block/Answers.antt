@@ -7,7 +7,6 @@ use Rattle.symbolic_block.specs.Fields.{header_of}
 use Rattle.symbolic_block.specs.Writing.{modes_code, endpoints_end, component_from, mode_cells}
 use Rattle.symbolic_writer.specs.inner.Piled.{piled}
 use Rattle.symbolic_writer.proofs.Piled.{placed, appended}
-use borrow.Author.Rules.{rules}
 use Rattle.symbolic_writer.proofs.mode_block.Goals as goal
 use Rattle.symbolic_writer.proofs.mode_block.Goals.{After-endpoint_range_of-range}
 

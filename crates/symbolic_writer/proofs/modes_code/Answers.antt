@@ -1,6 +1,5 @@
 use mathlib.Core.Path.{◌≡◌, refl, ap, ap₂, ◌∙◌}
-use Prim.Native.Nat.{ℕ, ◌+◌, ◌-◌, ◌*◌, ◌%◌, ◌≤◌}
-use lib.ListN.{get_or}
+use Prim.Native.Nat.{ℕ, ◌+◌, ◌*◌, ◌%◌, ◌≤◌}
 use native.Mathlib.Omega.{arith}
 use native.Mathlib.Nat.{mul-le-mul}
 use native.Mathlib.Numerals.{add-one}
@@ -19,7 +18,7 @@ returns-then-selector-eq0 c = c.wide.ensures.0 ∙ rw (eq-eqb _ _ c.if-selector-
 
 pub loop-i-init : goal.loop-i-init
 unfolding stream
-loop-i-init c = (omega arith, refl, refl, omega arith, omega arith)
+loop-i-init c = (refl, refl, omega arith, omega arith)
 
 pub wide-m-requires : goal.wide-m-requires
 wide-m-requires c = tt
@@ -47,9 +46,8 @@ unfolding stream
 loop-i-preserved c =
     let l = c.loop-i in
     let m = c.wide-m in (
-      omega arith,
-      rw (add-one l.i) (ap₂ ◌+◌ (ap₂ ◌*◌ (c.class_bit.ensures.0 ∙ ap (class_bit _) m.ensures.0) c.power.ensures.0) l.invariant.1),
-      rw (add-one l.i) (ap₂ ◌+◌ (ap₂ ◌*◌ (ap (λ (x : ℕ). x % 4) m.ensures.0) c.power-in-loop-i.ensures.0) l.invariant.2),
+      rw (add-one l.i) (ap₂ ◌+◌ (ap₂ ◌*◌ (c.class_bit.ensures.0 ∙ ap (class_bit _) m.ensures.0) c.power.ensures.0) l.invariant.0),
+      rw (add-one l.i) (ap₂ ◌+◌ (ap₂ ◌*◌ (ap (λ (x : ℕ). x % 4) m.ensures.0) c.power-in-loop-i.ensures.0) l.invariant.1),
       omega (arith, mul-le-mul {n₂ = 1} {m₂ = 256} c.class_bit.ensures.1 c.power.ensures.1),
       omega (arith, low_most c),
     )
@@ -69,4 +67,4 @@ returns c =
     let h = c.args.h in
     let l = c.loop-i in
     let e : l.i ≡ h.partitions = omega arith in
-    rw (c.power-2.ensures.0, l.invariant.1, l.invariant.2, e, ne_eqb h.selector 0 c.if-selector-eq0.false)
+    rw (c.power-2.ensures.0, l.invariant.0, l.invariant.1, e, ne_eqb h.selector 0 c.if-selector-eq0.false)

@@ -1,18 +1,11 @@
-use mathlib.Core.Path.{◌≡◌, refl, ap, ap₂, ◌∙◌}
-use Prim.Native.Nat.{ℕ, ◌+◌, ◌-◌, ◌*◌, ◌%◌, ◌≤◌}
+use mathlib.Core.Path.{◌≡◌}
+use Prim.Native.Nat.{◌-◌, ◌*◌, ◌%◌, ◌≤◌}
 use lib.ListN.{get_or}
-use native.Mathlib.Omega.{arith}
-use native.Mathlib.Nat.{mul-le-mul}
-use native.Mathlib.Numerals.{add-one}
-use borrow.Author.Tests.{eq-eqb, ne_eqb}
 use Rattle.bits.specs.Field.{stream}
-use Rattle.symbolic_block.specs.Writing.{class_bit, modes_code}
+use Rattle.symbolic_block.specs.Writing.{class_bit}
 use Rattle.symbolic_writer.proofs.modes_code.Given as goal
 
 abbrev pub invariant-loop-i : goal.invariant-loop-i
 invariant-loop-i l =
-    (l.i ≤ l.count) × (l.classes ≡ stream (λ j. j) (λ j. class_bit l.selector (get_or l.modes j 0)) l.i) × (l.lows ≡ stream (λ j. 2 * j) (λ j. get_or l.modes j 0 % 4) l.i)
+    (l.classes ≡ stream (λ j. j) (λ j. class_bit l.selector (get_or l.modes j 0)) l.i) × (l.lows ≡ stream (λ j. 2 * j) (λ j. get_or l.modes j 0 % 4) l.i)
     × (l.classes ≤ 256 * l.i) × (l.lows ≤ 768 * l.i)
-
-abbrev pub decreases-loop-i : goal.decreases-loop-i
-decreases-loop-i l = l.count - l.i

@@ -2,7 +2,6 @@ use native.Mathlib.Omega.{arith}
 use Prim.Native.Nat.{◌^◌, ◌≤◌}
 use lib.Pow.{pow_mono}
 use Rattle.bits.proofs.Halves.{one_shl}
-use borrow.Author.Rules.{rules}
 use Rattle.symbolic_writer.proofs.power.Goals as goal
 
 pub returns : goal.returns

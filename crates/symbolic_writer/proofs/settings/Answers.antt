@@ -5,7 +5,6 @@ use Rattle.volume_mode.specs.Either.{block_mode_of}
 use Rattle.symbolic_block.specs.Writing.{mode_number, mode_cells}
 use Rattle.symbolic_writer.specs.inner.Piled.{piled}
 use Rattle.symbolic_writer.proofs.Piled.{appended}
-use borrow.Author.Rules.{rules}
 use Rattle.symbolic_writer.proofs.settings.Goals as goal
 
 pub returns : goal.returns

@@ -3,7 +3,6 @@ use Rattle.bits.specs.Block.{block_number}
 use Rattle.void_extent.specs.Writing.{fixed_bits, void_cells}
 use Rattle.symbolic_writer.proofs.Piled.{appended}
 use Rattle.symbolic_writer.specs.inner.Piled.{with_value, piled, extent_cells}
-use borrow.Author.Rules.{rules}
 use Rattle.symbolic_writer.proofs.void_block.Goals as goal
 
 pub returns : goal.returns

@@ -1,5 +1,4 @@
 use native.Mathlib.Omega.{arith}
-use borrow.Author.Rules.{rules}
 use Rattle.symbolic_writer.proofs.weights_from.Goals as goal
 
 pub returns : goal.returns

@@ -1,10 +1,9 @@
-use lib.ListN.{length, length-map}
+use lib.ListN.{length}
 use mathlib.Core.Path.{◌≡◌, ap, ◌∙◌}
 use Rattle.block_header.specs.Counts.{weight_count}
 use Rattle.symbolic_block.specs.Fields.{sheet_grid}
 use native.Mathlib.Omega.{arith}
 use Rattle.symbolic_writer.proofs.Parts.{weight_steps}
-use borrow.Author.Rules.{rules}
 use Rattle.symbolic_writer.proofs.weights_of.Goals as goal
 use Rattle.symbolic_writer.proofs.weights_of.Goals.{After-part}
 

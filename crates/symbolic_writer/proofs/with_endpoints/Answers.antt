@@ -1,7 +1,6 @@
-use lib.ListN.{length, length-map}
+use lib.ListN.{length}
 use mathlib.Core.Path.{◌≡◌, refl}
 use Rattle.symbolic_writer.proofs.Parts.{endpoint_steps}
-use borrow.Author.Rules.{rules}
 use Rattle.symbolic_writer.proofs.with_endpoints.Goals as goal
 use Rattle.symbolic_writer.proofs.with_endpoints.Goals.{After-write_sequence}
 

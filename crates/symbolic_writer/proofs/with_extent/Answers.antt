@@ -1,6 +1,5 @@
 use mathlib.Core.Path.{refl}
 use Rattle.symbolic_writer.proofs.Piled.{appended}
-use borrow.Author.Rules.{rules}
 use Rattle.symbolic_writer.proofs.with_extent.Goals as goal
 
 pub returns : goal.returns

@@ -1,5 +1,4 @@
-use Rattle.symbolic_writer.specs.inner.Piled.{with_value, piled, extent_cells}
-use borrow.Author.Rules.{rules}
+use Rattle.symbolic_writer.specs.inner.Piled.{piled, extent_cells}
 use Rattle.symbolic_writer.proofs.with_extents.Goals as goal
 
 pub returns : goal.returns

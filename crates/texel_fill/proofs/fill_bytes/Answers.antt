@@ -3,7 +3,6 @@ use native.Mathlib.Omega.{arith}
 use Rattle.interpolation.specs.declared.Kind.TheVariants.{Srgb8}
 use Rattle.interpolation.specs.Expansion.{shown_of}
 use Rattle.texel_fill.proofs.Filling.{pasted_last}
-use borrow.Author.Rules.{rules}
 use Rattle.texel_fill.proofs.fill_bytes.Goals as goal
 
 pub returns-then-n-eq4 : goal.returns-then-n-eq4

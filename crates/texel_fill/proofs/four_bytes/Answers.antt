@@ -2,7 +2,6 @@ use native.Mathlib.Omega.{arith}
 use Rattle.interpolation.specs.declared.Kind.TheVariants.{Srgb8}
 use Rattle.interpolation.specs.Expansion.{shown_of}
 use Rattle.texel_fill.proofs.Filling.{four_texels}
-use borrow.Author.Rules.{rules}
 use Rattle.texel_fill.proofs.four_bytes.Goals as goal
 
 pub returns : goal.returns

@@ -3,7 +3,6 @@ use native.Mathlib.Omega.{arith}
 use Rattle.interpolation.specs.declared.Kind.TheVariants.{Unorm16}
 use Rattle.interpolation.specs.Expansion.{shown_of}
 use Rattle.texel_fill.proofs.Filling.{four_texels}
-use borrow.Author.Rules.{rules}
 use Rattle.texel_fill.proofs.four_numbers.Goals as goal
 
 pub returns : goal.returns

@@ -1,6 +1,5 @@
 use native.Mathlib.Omega.{arith}
 use lib.ListN.{length-set}
-use borrow.Author.Rules.{rules}
 use Rattle.texel_fill.proofs.put_numbers.Goals as goal
 
 pub bounds-out-i-2 : goal.bounds-out-i-2

@@ -10,7 +10,7 @@ pub bounds-out-3 : goal.bounds-out-3
 bounds-out-3 c = simp length-set (omega arith)
 
 pub returns-then-out-eq4 : goal.returns-then-out-eq4
-returns-then-out-eq4 c = put_four_lem _ _ c.if-out-eq4.true
+returns-then-out-eq4 c = rw c.texel_of-t.ensures (put_four_lem _ _ c.if-out-eq4.true)
 
 pub returns-else-out-eq4 : goal.returns-else-out-eq4
 returns-else-out-eq4 c = put_none _ _ c.if-out-eq4.false

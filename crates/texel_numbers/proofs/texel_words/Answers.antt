@@ -1,1 +1,0 @@
-use Rattle.texel_numbers.proofs.texel_words.Goals as goal

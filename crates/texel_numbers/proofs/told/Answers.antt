@@ -1,11 +1,14 @@
+use mathlib.Core.Path.{refl, ◌∙◌}
+use native.Mathlib.Omega.{arith}
+use Rattle.reason.proofs.Told.{refusal_some}
 use Rattle.texel_numbers.proofs.Put.{told_refused_lem, told_short, told_fault}
 use Rattle.texel_numbers.proofs.told.Goals as goal
 
-pub returns-then-refusal-ne0 : goal.returns-then-refusal-ne0
-returns-then-refusal-ne0 c = told_refused_lem _ _ c.if-refusal-ne0.true
+pub returns-in-Err : goal.returns-in-Err
+returns-in-Err c = c.into.ensures ∙ rw c.in-Err.is (told_refused_lem _ _ (λ z. omega (arith, refusal_some c.in-Err.refusal, z)))
 
-pub returns-then-places-ne4 : goal.returns-then-places-ne4
-returns-then-places-ne4 c = told_short _ _ c.if-refusal-ne0.false c.if-places-ne4.true
+pub returns-in-Ok : goal.returns-in-Ok
+returns-in-Ok c = rw c.in-Ok.is (told_short _ _ refl c.if-places-ne4.true)
 
-pub returns : goal.returns
-returns c = told_fault _ _ c.if-refusal-ne0.false c.if-places-ne4.false
+pub returns-in-Ok-2 : goal.returns-in-Ok-2
+returns-in-Ok-2 c = rw c.in-Ok-2.is (told_fault _ _ refl c.if-places-ne4.false)

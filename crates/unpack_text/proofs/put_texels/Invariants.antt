@@ -1,4 +1,4 @@
-use Prim.Native.Nat.{◌+◌, ◌-◌, ◌*◌, ◌≤◌}
+use Prim.Native.Nat.{◌+◌, ◌*◌, ◌≤◌}
 use lib.ListN.{get_or}
 use Rattle.interpolation.specs.Expansion.{shown_of}
 use Rattle.line_text.specs.Lines.{texel_line, lines_of}
@@ -7,7 +7,4 @@ use Rattle.unpack_text.proofs.put_texels.Given as goal
 
 abbrev pub invariant-loop-k : goal.invariant-loop-k
 invariant-loop-k l =
-    (l.k ≤ l.count) × ((l.at ≤ l.from + 36 * l.k) × Puts l.initial.out l.from (lines_of (texel_line l.width (λ i. shown_of l.kind (get_or l.numbers i 0))) l.k) l.out l.at)
-
-abbrev pub decreases-loop-k : goal.decreases-loop-k
-decreases-loop-k l = l.count - l.k
+    (l.at ≤ l.from + 36 * l.k) × Puts l.initial.out l.from (lines_of (texel_line l.width (λ i. shown_of l.kind (get_or l.numbers i 0))) l.k) l.out l.at

@@ -1,5 +1,5 @@
 use native.Mathlib.Omega.{arith}
-use Rattle.volume_layout.specs.inner.Checked.{volume_grid}
+use Rattle.volume_layout.specs.inner.Grid.{volume_grid}
 use Rattle.volume_layout.proofs.Sizes.{sound}
 use Rattle.volume_layout.specs.inner.Parts.{SoundGrid}
 use Rattle.volume_layout.proofs.grid_of.Goals as goal

@@ -1,6 +1,5 @@
 -- `volume_mode::block_mode_in` meets its contract. Assumes nothing.
 use Rattle.volume_mode.specs.Either.{block_mode_in}
-use borrow.Author.Rules.{rules}
 use Rattle.volume_mode.proofs.block_mode_in.Goals as goal
 
 pub returns-then-volume : goal.returns-then-volume

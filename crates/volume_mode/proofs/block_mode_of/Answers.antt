@@ -1,7 +1,6 @@
 -- `volume_mode::block_mode_of` meets its contract. Assumes nothing.
 use borrow.Author.Tests.{lt-ltb, le-ltb}
 use Rattle.volume_mode.specs.Either.{is_deep, block_mode_of}
-use borrow.Author.Rules.{rules}
 use Rattle.volume_mode.proofs.block_mode_of.Goals as goal
 
 pub returns-then-g-gt1 : goal.returns-then-g-gt1

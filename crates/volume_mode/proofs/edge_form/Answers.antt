@@ -1,7 +1,6 @@
 -- `volume_mode::edge_form` meets its contract. Assumes nothing.
 use borrow.Author.Tests.{eq-eqb, ne_eqb}
 use Rattle.volume_mode.specs.Back3D.{edge_form}
-use borrow.Author.Rules.{rules}
 use Rattle.volume_mode.proofs.edge_form.Goals as goal
 
 pub returns-then-width-eq6 : goal.returns-then-width-eq6

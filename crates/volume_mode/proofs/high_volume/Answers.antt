@@ -1,7 +1,6 @@
 -- `volume_mode::high_volume` meets its contract. Assumes nothing.
 use borrow.Author.Tests.{ne_eqb}
 use Rattle.volume_mode.specs.Mode3D.{high_volume}
-use borrow.Author.Rules.{rules}
 use Rattle.volume_mode.proofs.high_volume.Goals as goal
 
 pub returns-then-bits-eq0 : goal.returns-then-bits-eq0

@@ -1,6 +1,5 @@
 -- `volume_mode::in_volume` meets its contract. Assumes nothing.
 use Rattle.volume_mode.specs.Back3D.{in_volume}
-use borrow.Author.Rules.{rules}
 use Rattle.volume_mode.proofs.in_volume.Goals as goal
 
 pub returns : goal.returns

@@ -1,7 +1,6 @@
 -- `volume_mode::low_volume` meets its contract. Assumes nothing.
 use native.Mathlib.Nat.{div-one}
 use Rattle.volume_mode.specs.Mode3D.{low_volume}
-use borrow.Author.Rules.{rules}
 use Rattle.volume_mode.proofs.low_volume.Goals as goal
 
 pub returns : goal.returns

@@ -1,20 +1,19 @@
 -- `volume_mode::six_form` meets its contract. Assumes nothing.
 use Rattle.volume_mode.specs.Back3D.{six_form}
-use borrow.Author.Rules.{rules}
 use Rattle.volume_mode.proofs.six_form.Goals as goal
 
 pub returns-then-low : goal.returns-then-low
 unfolding six_form
-returns-then-low c = rw (c.even_form.ensures, ← c.both-low.ensures, ← c.both-corner.ensures, ← c.both.ensures, c.if-both.true, c.if-low.true)
+returns-then-low c = rw (c.even_form.ensures, c.if-a-b.true, c.if-low.true)
 
 pub returns-then-corner : goal.returns-then-corner
 unfolding six_form
-returns-then-corner c = rw (c.high_form.ensures, ← c.both-low.ensures, ← c.both-corner.ensures, ← c.both.ensures, c.if-both.true, c.if-low.false, c.if-corner.true)
+returns-then-corner c = rw (c.high_form.ensures, c.if-a-b.true, c.if-low.false, c.if-corner.true)
 
-pub returns-then-both : goal.returns-then-both
+pub returns-then-a-b : goal.returns-then-a-b
 unfolding six_form
-returns-then-both c = rw (← c.both-low.ensures, ← c.both-corner.ensures, ← c.both.ensures, c.if-both.true, c.if-low.false, c.if-corner.false)
+returns-then-a-b c = rw (c.if-a-b.true, c.if-low.false, c.if-corner.false)
 
 pub returns : goal.returns
 unfolding six_form
-returns c = rw (← c.both.ensures, c.if-both.false)
+returns c = rw (c.if-a-b.false)

@@ -3,7 +3,6 @@ use mathlib.Core.Path.{◌≡◌, sym, ◌∙◌}
 use mathlib.Core.Bool.{true}
 use Rattle.volume_mode.specs.Back3D.{in_volume, volume_bits}
 use Rattle.volume_mode.proofs.Limits.{edges}
-use borrow.Author.Rules.{rules}
 use Rattle.volume_mode.proofs.volume_bits.Goals as goal
 use Rattle.volume_mode.proofs.volume_bits.Goals.{Then-in_volume}
 

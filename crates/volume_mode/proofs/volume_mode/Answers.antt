@@ -2,7 +2,6 @@
 use borrow.Author.Tests.{ne_eqb}
 use native.Mathlib.Nat.{div-one}
 use Rattle.volume_mode.specs.Mode3D.{volume_mode}
-use borrow.Author.Rules.{rules}
 use Rattle.volume_mode.proofs.volume_mode.Goals as goal
 
 pub returns-then-bits-eq508 : goal.returns-then-bits-eq508

@@ -1,9 +1,8 @@
-use mathlib.Core.Path.{sym, ◌∙◌}
-use Rattle.volume_numbers.proofs.Laws.{rejected_number, accepted_number}
+use Rattle.image_numbers.proofs.Laws.{refused_number}
 use Rattle.volume_numbers.proofs.refusal_or_5.Goals as goal
 
-pub returns-in-Rejected : goal.returns-in-Rejected
-returns-in-Rejected c = rejected_number _ _ _ _ _ _ _ (sym c.check_volume-checked.ensures ∙ c.in-Rejected.is)
+pub returns-in-Err : goal.returns-in-Err
+returns-in-Err c = refused_number _ _ c.in-Err.ensures
 
-pub returns-in-Accepted : goal.returns-in-Accepted
-returns-in-Accepted c = accepted_number _ _ _ _ _ _ _ (sym c.check_volume-checked.ensures ∙ c.in-Accepted.is)
+pub returns-in-Ok : goal.returns-in-Ok
+returns-in-Ok c = rw c.in-Ok.ensures.0

@@ -1,42 +1,27 @@
-use mathlib.Core.Path.{◌≡◌, sym, ap, ◌∙◌}
+use mathlib.Core.Path.{◌≡◌}
 use mathlib.Core.List.{List}
-use Prim.Native.Nat.{ℕ, ◌+◌, ◌-◌, ◌*◌, ◌≤◌, ◌<◌}
-use native.Mathlib.Omega.{arith}
-use lib.ListN.{length, get_or}
-use borrow.Author.Rules.{rules}
-use Rattle.partition.proofs.Rows.{which_lt}
-use Rattle.volume_infill.specs.inner.Way.{WithinGrid}
-use Rattle.volume_infill.proofs.Reading.{Routed, routed}
-use Rattle.block_buffer.proofs.Painting.{Laid, laid_texel, laid_as, laid_none, laid_done, row_end}
+use Prim.Native.Nat.{ℕ, ◌+◌, ◌*◌}
+use lib.ListN.{length}
+use Rattle.block_buffer.proofs.Painting.{Laid}
 use Rattle.volume_paint.specs.inner.Volume.{volume_texel}
 use Rattle.laws.specs.Table.{by_rows}
-use Rattle.volume_paint.proofs.Painting.{row_lt, layer_end, rows_most, in_buffer, on_grid, told}
 use Rattle.volume_paint.proofs.paint_volume.Given as goal
 
 -- within a row: whatever was painted before the row is there still, and x texels of the row are
 abbrev pub invariant-loop-x : goal.invariant-loop-x
 invariant-loop-x l =
-    (l.x ≤ l.f.width) × ((old : List ℕ) → length old ≡ 864
+    ((old : List ℕ) → length old ≡ 864
     → Laid l.f.width (by_rows l.f.height (volume_texel l.kind l.width l.height l.depth l.component l.points l.lines l.index l.partitions l.small l.f)) old l.initial.out (4 * (l.q * l.f.width))
     → Laid l.f.width (by_rows l.f.height (volume_texel l.kind l.width l.height l.depth l.component l.points l.lines l.index l.partitions l.small l.f)) old l.out (4 * (l.q * l.f.width + l.x)))
-
-abbrev pub decreases-loop-x : goal.decreases-loop-x
-decreases-loop-x l = l.f.width - l.x
 
 -- within a layer: likewise, and y rows of the layer are
 abbrev pub invariant-loop-y : goal.invariant-loop-y
 invariant-loop-y l =
-    (l.y ≤ l.f.height) × ((old : List ℕ) → length old ≡ 864
+    ((old : List ℕ) → length old ≡ 864
     → Laid l.f.width (by_rows l.f.height (volume_texel l.kind l.width l.height l.depth l.component l.points l.lines l.index l.partitions l.small l.f)) old l.initial.out (4 * (l.z * l.f.height * l.f.width))
     → Laid l.f.width (by_rows l.f.height (volume_texel l.kind l.width l.height l.depth l.component l.points l.lines l.index l.partitions l.small l.f)) old l.out (4 * ((l.z * l.f.height + l.y) * l.f.width)))
 
-abbrev pub decreases-loop-y : goal.decreases-loop-y
-decreases-loop-y l = l.f.height - l.y
-
 abbrev pub invariant-loop-z : goal.invariant-loop-z
 invariant-loop-z l =
-    (l.z ≤ l.f.depth) × (length l.initial.out ≡ 864
+    (length l.initial.out ≡ 864
     → Laid l.f.width (by_rows l.f.height (volume_texel l.kind l.width l.height l.depth l.component l.points l.lines l.index l.partitions l.small l.f)) l.initial.out l.out (4 * (l.z * l.f.height * l.f.width)))
-
-abbrev pub decreases-loop-z : goal.decreases-loop-z
-decreases-loop-z l = l.f.depth - l.z

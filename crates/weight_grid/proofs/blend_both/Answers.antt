@@ -5,7 +5,6 @@ use native.Mathlib.Omega.{arith}
 use Rattle.weight_grid.specs.Bilinear.{w00, w01, w10, w11}
 use Rattle.weight_grid.specs.inner.Points.{both_of}
 use Rattle.weight_grid.proofs.Factors.{Shares, shares, total_le}
-use borrow.Author.Rules.{rules}
 use Rattle.weight_grid.proofs.blend_both.Goals as goal
 use Rattle.weight_grid.proofs.blend_both.Goals.{Start}
 

@@ -1,9 +1,7 @@
-use mathlib.Core.Path.{◌≡◌}
 use Prim.Native.Nat.{◌/◌, ◌≤◌}
 use native.Mathlib.Omega.{arith}
 use Rattle.weight_grid.specs.inner.Columns.{grid_column}
 use Rattle.weight_grid.proofs.Points.{step_le}
-use borrow.Author.Rules.{rules}
 use Rattle.weight_grid.proofs.column_at.Goals as goal
 use Rattle.weight_grid.proofs.column_at.Goals.{After-step}
 

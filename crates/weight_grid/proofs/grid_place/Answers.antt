@@ -1,9 +1,8 @@
 -- `weight_grid::grid_place` meets its contract. Assumes nothing.
-use Prim.Native.Nat.{◌-◌, ◌*◌, ◌≤◌}
+use Prim.Native.Nat.{◌*◌, ◌≤◌}
 use native.Mathlib.Nat.{mul-le-mul}
 use native.Mathlib.Omega.{arith}
 use Rattle.weight_grid.specs.Place.{grid_place}
-use borrow.Author.Rules.{rules}
 use Rattle.weight_grid.proofs.grid_place.Goals as goal
 use Rattle.weight_grid.proofs.grid_place.Goals.{After-less_one, Start}
 

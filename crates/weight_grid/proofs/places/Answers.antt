@@ -1,16 +1,15 @@
-use mathlib.Core.Path.{◌≡◌, refl, sym, ap, ◌∙◌}
-use Prim.Native.Nat.{ℕ, ◌-◌, ◌*◌, ◌≤◌}
+use mathlib.Core.Path.{sym, ap, ◌∙◌}
+use Prim.Native.Nat.{ℕ, ◌≤◌}
 use native.Mathlib.Omega.{arith}
 use Rattle.laws.specs.Table.{tab, padded}
 use Rattle.laws.proofs.Filling.{padded_none, padded_more}
 use Rattle.weight_grid.specs.Place.{grid_place}
-use borrow.Author.Rules.{rules}
 use Rattle.weight_grid.proofs.places.Goals as goal
 use Rattle.weight_grid.proofs.places.Goals.{After-grid_place}
 
 pub loop-i-init : goal.loop-i-init
 unfolding tab
-loop-i-init c = (omega arith, sym (padded_none (λ k. grid_place c.args.scale k c.args.points) 0 16))
+loop-i-init c = sym (padded_none (λ k. grid_place c.args.scale k c.args.points) 0 16)
 
 -- a place has room in 16 bits
 low : (c : After-grid_place) → c.grid_place.result ≤ 176
@@ -21,16 +20,14 @@ pub loop-i-preserved : goal.loop-i-preserved
 loop-i-preserved c =
     let q = c.before in
     let l = q.loop-i in
-    let s = q.before.before in (
-      omega (arith, q.loop-i-test.true),
-      rw l.invariant.1 (padded_more (λ k. grid_place s.args.scale k s.args.points) 0 16 l.i _ (omega (arith, q.loop-i-test.true, s.requires.points_bound)) c.grid_place.ensures),
-    )
+    let s = q.before.before in
+    rw l.invariant (padded_more (λ k. grid_place s.args.scale k s.args.points) 0 16 l.i _ (omega (arith, q.loop-i-test.true, s.requires.points_bound)) c.grid_place.ensures)
 
 pub returns : goal.returns
 returns c =
     let l = c.loop-i in
     let a = c.args in
-    l.invariant.1 ∙ ap (λ (n : ℕ). padded 16 n (λ k. grid_place a.scale k a.points) 0) (omega (arith, c.loop-i-test.false, l.invariant.0))
+    l.invariant ∙ ap (λ (n : ℕ). padded 16 n (λ k. grid_place a.scale k a.points) 0) (omega (arith, c.loop-i-test.false))
 
 pub overflow_cast-out : goal.overflow_cast-out
 overflow_cast-out c = omega (arith, low c)
@@ -40,9 +37,3 @@ offset_bounds-out-i c = omega (arith, c.loop-i-test.true, c.requires.points_boun
 
 pub bounds-out-i : goal.bounds-out-i
 bounds-out-i c = omega (arith, c.loop-i-test.true, c.requires.points_bound)
-
-pub overflow_add-i : goal.overflow_add-i
-overflow_add-i c = omega (arith, c.loop-i-test.true, c.requires.points_bound)
-
-pub loop-i-smaller : goal.loop-i-smaller
-loop-i-smaller c = omega (arith, c.loop-i-test.true)

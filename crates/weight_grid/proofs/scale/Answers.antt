@@ -1,6 +1,5 @@
-use mathlib.Core.Path.{◌≡◌, refl}
+use mathlib.Core.Path.{refl}
 use Rattle.weight_grid.specs.Place.{scale_of}
-use borrow.Author.Rules.{rules}
 use Rattle.weight_grid.proofs.scale.Goals as goal
 
 pub returns-in-2 : goal.returns-in-2

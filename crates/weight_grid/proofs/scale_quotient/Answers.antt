@@ -4,7 +4,6 @@ use Prim.Native.Nat.{◌+◌, ◌-◌, ◌/◌}
 use native.Mathlib.Nat.{div-zero}
 use native.Mathlib.Omega.{arith}
 use Rattle.weight_grid.specs.Place.{scale_of}
-use borrow.Author.Rules.{rules}
 use Rattle.weight_grid.proofs.scale_quotient.Goals as goal
 
 pub returns-then-side-lt2 : goal.returns-then-side-lt2

@@ -1,6 +1,5 @@
 -- `weight_grid::step` meets its contract. Assumes nothing.
 use borrow.Author.Tests.{lt-ltb, le-ltb}
-use borrow.Author.Rules.{rules}
 use Rattle.weight_grid.specs.inner.Points.{neighbour_step}
 use Rattle.weight_grid.proofs.step.Goals as goal
 

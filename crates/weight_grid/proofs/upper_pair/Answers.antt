@@ -2,7 +2,6 @@ use native.Mathlib.Omega.{arith}
 use Rattle.weight_grid.specs.Bilinear.{w00, w01, w10, w11}
 use Rattle.weight_grid.specs.inner.Pairs.{upper_pair, lower_pair}
 use Rattle.weight_grid.proofs.Factors.{Shares, shares}
-use borrow.Author.Rules.{rules}
 use Rattle.weight_grid.proofs.upper_pair.Goals as goal
 use Rattle.weight_grid.proofs.upper_pair.Goals.{Start}
 

@@ -1,6 +1,5 @@
 use mathlib.Core.Path.{◌∙◌}
 use native.Mathlib.Omega.{arith}
-use borrow.Author.Rules.{rules}
 use Rattle.integer_sequence.specs.Reading.{sequence_at}
 use Rattle.integer_sequence.proofs.Ranged.{bits_small}
 use Rattle.weight_reader.proofs.Weights.{few_weights, by_range}

@@ -4,7 +4,6 @@ use native.Mathlib.Omega.{arith}
 use lib.Pow.{pow_pos, pow_mono}
 use Rattle.bits.specs.Field.{field}
 use Rattle.bits.proofs.Halves.{one_shl}
-use borrow.Author.Rules.{rules}
 use Rattle.integer_sequence.proofs.reading.cut.Goals as goal
 
 pub nonzero_rem-result : goal.nonzero_rem-result

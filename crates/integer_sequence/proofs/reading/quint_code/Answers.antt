@@ -1,7 +1,6 @@
 use mathlib.Core.Path.{refl}
 use native.Mathlib.Omega.{arith}
 use Rattle.integer_sequence.proofs.Groups.{quint_code_lem}
-use borrow.Author.Rules.{rules}
 use Rattle.integer_sequence.proofs.reading.quint_code.Goals as goal
 
 pub returns : goal.returns

@@ -2,7 +2,6 @@ use mathlib.Core.Path.{refl}
 use native.Mathlib.Omega.{arith}
 use Rattle.encoding.specs.declared.Encoding.TheVariants.{Quints}
 use Rattle.integer_sequence.proofs.Groups.{group_numbers_lem, three_own}
-use borrow.Author.Rules.{rules}
 use Rattle.integer_sequence.proofs.reading.quint_group.Goals as goal
 
 pub returns : goal.returns

@@ -1,6 +1,5 @@
 use mathlib.Core.Path.{refl}
 use Rattle.integer_sequence.proofs.Groups.{trit_code_lem}
-use borrow.Author.Rules.{rules}
 use Rattle.integer_sequence.proofs.reading.trit_code.Goals as goal
 
 pub returns : goal.returns

@@ -2,7 +2,6 @@ use mathlib.Core.Path.{refl}
 use native.Mathlib.Omega.{arith}
 use Rattle.encoding.specs.declared.Encoding.TheVariants.{Trits}
 use Rattle.integer_sequence.proofs.Groups.{group_numbers_lem, five_own}
-use borrow.Author.Rules.{rules}
 use Rattle.integer_sequence.proofs.reading.trit_group.Goals as goal
 
 pub returns : goal.returns

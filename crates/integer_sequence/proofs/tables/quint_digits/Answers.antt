@@ -1,7 +1,6 @@
 use native.Mathlib.Omega.{arith}
 use Rattle.encoding.specs.declared.Encoding.TheVariants.{Quints}
 use Rattle.integer_sequence.proofs.CodeTables.{entry_cut, quints_right}
-use borrow.Author.Rules.{rules}
 use Rattle.integer_sequence.proofs.tables.quint_digits.Goals as goal
 
 pub returns : goal.returns

@@ -1,7 +1,6 @@
 use native.Mathlib.Omega.{arith}
 use Rattle.encoding.specs.declared.Encoding.TheVariants.{Trits}
 use Rattle.integer_sequence.proofs.CodeTables.{entry_cut, trits_right}
-use borrow.Author.Rules.{rules}
 use Rattle.integer_sequence.proofs.tables.trit_digits.Goals as goal
 
 pub returns : goal.returns
