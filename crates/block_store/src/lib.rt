@@ -9,5 +9,7 @@ pub fn put(out: &mut [u8], at: usize, bytes: [u8; 16])
     requires { at + 16 ≤ length out.old }
     ensures { Put at 16 bytes out.old out.new }
 {
-    out[at..at + 16].copy_from_slice(&bytes);
+    for k in 0..16 {
+        out[at + k] = bytes[k];
+    }
 }

@@ -137,6 +137,26 @@ fn numbers_of(c: Clip) -> [u32; 26]
     ]
 }
 
+// ---- lent lists, filled by loops: the library's copy would first lay the numbers out in an array of its own
+
+fn put_numbers(from: [u32; 26], state: &mut [u32])
+    requires { length state.old ≡ 26 }
+    ensures { state.new ≡ from }
+{
+    for i in 0..26 {
+        state[i] = from[i];
+    }
+}
+
+fn put_told(from: [u64; 8], told: &mut [u64])
+    requires { length told.old ≡ 8 }
+    ensures { told.new ≡ from }
+{
+    for i in 0..8 {
+        told[i] = from[i];
+    }
+}
+
 // ---- what a feed tells
 
 fn block_told(taken: usize, index: u32, block: u32, f: Frame) -> [u64; 8]
@@ -284,9 +304,9 @@ fn whole_block(state: &mut [u32], piece: &[u8], block: &mut [u8], told: &mut [u6
     let at = state[4];
     let f = frame_of(state);
     let next = next_numbers(index, at, state[5], f);
-    state.copy_from_slice(&next);
+    put_numbers(next, state);
     byte_list::put_block(clip_reader::first_block(piece), block);
-    told.copy_from_slice(&block_told(16, index, at, f));
+    put_told(block_told(16, index, at, f), told);
 }
 
 // ---- the calls
@@ -300,9 +320,9 @@ fn feed_state(state: &mut [u32], piece: &[u8], block: &mut [u8], told: &mut [u64
     ensures told_after { told.new ≡ feed_numbers (feed_of (clip_of state.old) piece.now) }
 {
     let fed = clip_reader::feed(clip_of(state), piece);
-    state.copy_from_slice(&numbers_of(fed.clip));
+    put_numbers(numbers_of(fed.clip), state);
     byte_list::put_block(bytes_in(fed.event), block);
-    told.copy_from_slice(&event_told(fed.taken, fed.event, fed.clip.frame));
+    put_told(event_told(fed.taken, fed.event, fed.clip.frame), told);
     number_in(fed.event)
 }
 
@@ -355,7 +375,7 @@ pub fn start_numbers(state: &mut [u32]) -> u8
     if state.len() != 26 {
         return Refusal::Places.into();
     }
-    state.copy_from_slice(&numbers_of(clip_reader::fresh()));
+    put_numbers(numbers_of(clip_reader::fresh()), state);
     0
 }
 
@@ -368,6 +388,6 @@ pub fn finish_numbers(state: &mut [u32]) -> u8
         return Refusal::Places.into();
     }
     let finished = clip_reader::finish(clip_of(state));
-    state.copy_from_slice(&numbers_of(finished.clip));
+    put_numbers(numbers_of(finished.clip), state);
     finished.number
 }

@@ -27,14 +27,23 @@ fn head_of(n: u64, f: Frame) -> [u8; 10]
     ]
 }
 
-// All of a frame into a buffer of its length.
+// Byte k of a frame with these ten bytes and these blocks.
+fn frame_byte(head: &[u8; 10], blocks: &[u8], k: usize) -> u8
+    requires { (length head.now ≡ 10) × (k < 10 + length blocks.now) }
+    ensures { result ≡ get_or (head.now ++ blocks.now) k 0 }
+{
+    if k < 10 { head[k] } else { blocks[k - 10] }
+}
+
+// All of a frame into a buffer of its length. Not by the library's copies: those of a length that is known only when they run call memmove, which
+// the archive would need from outside.
 fn fill(head: &[u8; 10], blocks: &[u8], out: &mut [u8])
     requires { (length head.now ≡ 10) × (length out.old ≡ 10 + length blocks.now) }
     ensures { out.new ≡ head.now ++ blocks.now }
 {
-    let (front, rest) = out.split_at_mut(10);
-    front.copy_from_slice(head);
-    rest.copy_from_slice(blocks);
+    for k in 0..out.len() {
+        out[k] = frame_byte(head, blocks, k);
+    }
 }
 
 // A frame's bytes, after the caller's version byte or the frame before. On a refusal the buffer stays as it was. The kind comes by its number,

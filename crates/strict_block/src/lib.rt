@@ -6,6 +6,7 @@ ghost use Rattle.bits.specs.Block.{block_number};
 ghost use Rattle.footprint.specs.Footprint.{is_volume};
 ghost use Rattle.interpolation.specs.Expansion.{takes_hdr};
 ghost use Rattle.block_fault.specs.Faults.{fault_of};
+ghost use Rattle.block_fault.specs.declared.Contents.TheVariants.{Coded};
 ghost use Rattle.block_reading.specs.Faults.{canonical_of, strict_fault, fault_in};
 ghost use Rattle.block_reading.specs.Shown.{into_in};
 ghost use Rattle.block_reading.specs.Canonical.{canonical_in};
@@ -15,7 +16,7 @@ ghost use Rattle.strict_block.specs.inner.Read.{Read};
 
 use bits::PhysicalBlock;
 use block_core::{Decoded, UniformBlock};
-use block_fault::Contents;
+use block_fault::{Contents, Settings};
 use block_reading::Reading;
 use interpolation::Kind;
 
@@ -29,17 +30,25 @@ pub fn same(a: PhysicalBlock, b: PhysicalBlock) -> bool
     a.hi == b.hi
 }
 
-// What the writer makes from the sheet of a block without fault. All bits of a void extent are fields.
+// What the writer makes from the sheet of a coded block without fault.
+fn written_coded(fp: u8, b: PhysicalBlock, s: Settings) -> PhysicalBlock
+    requires { Read fp (block_number b) (Coded s) }
+    ensures { block_number result ≡ canonical_of fp (block_number b) }
+{
+    symbolic_writer::block_of(
+        fp,
+        symbolic_reader::mode_block(b, s.header, s.numbers, s.range),
+    )
+}
+
+// The same of any block without fault. All bits of a void extent are fields.
 fn written(fp: u8, b: PhysicalBlock, contents: Contents) -> PhysicalBlock
     requires { Read fp (block_number b) contents }
     ensures { block_number result ≡ canonical_of fp (block_number b) }
 {
     match contents {
         Contents::VoidExtent => b,
-        Contents::Coded(s) => symbolic_writer::block_of(
-            fp,
-            symbolic_reader::mode_block(b, s.header, s.numbers, s.range),
-        ),
+        Contents::Coded(s) => written_coded(fp, b, s),
     }
 }
 
@@ -60,9 +69,10 @@ pub fn canonical(fp: u8, volume: bool, b: PhysicalBlock) -> CanonicalBlock
             fault: fault.into(),
             block: b,
         },
-        Ok(contents) => CanonicalBlock {
+        Ok(Contents::VoidExtent) => CanonicalBlock { fault: 0, block: b },
+        Ok(Contents::Coded(s)) => CanonicalBlock {
             fault: 0,
-            block: written(fp, b, contents),
+            block: written_coded(fp, b, s),
         },
     }
 }

@@ -18,21 +18,21 @@ returns-in_err-check_image c =
     let it = frame_refused a.fp a.width a.height a.blocks.now a.out.now _ c.in_err-check_image.ensures in
     rw (p.1, p.2) (record { value = it.answer; told = it.told; out_after = it.out })
 
-pub copy_from_slice-requires : goal.copy_from_slice-requires
-copy_from_slice-requires c = let k = (accepted _ _ _ _ _ (sym c.in_ok-check_image.ensures)).room in omega arith
+pub copy-requires : goal.copy-requires
+copy-requires c = (accepted _ _ _ _ _ (sym c.in_ok-check_image.ensures)).room
 
 pub rewrite-requires : goal.rewrite-requires
 rewrite-requires c =
     let k = accepted _ _ _ _ _ (sym c.in_ok-check_image.ensures) in
     let n = counted _ _ _ _ _ k in
-    record { fp_bound = k.known; blocks_len = ap length c.copy_from_slice.ensures.after ∙ n.sixteens; n_bound = n.most }
+    record { fp_bound = k.known; blocks_len = ap length c.copy.ensures ∙ n.sixteens; n_bound = n.most }
 
 pub returns : goal.returns
 returns c =
     let a = c.args in
     let z = sym c.in_ok-check_image.ensures in
     let n = counted _ _ _ _ _ (accepted _ _ _ _ _ z) in
-    let e = c.copy_from_slice.ensures.after in
+    let e = c.copy.ensures in
     let it = frame_done a.fp a.width a.height a.blocks.now a.out.now z _ _
     (c.rewrite.ensures.value ∙ ap (λ (l : List ℕ). tally_of (fault_at a.fp Float16 l) (length a.blocks.now / 16)) e ∙ ap (tally_of (fault_at a.fp Float16 a.blocks.now)) n.count)
     (c.rewrite.ensures.blocks_after ∙ ap (canonical_bytes a.fp) e) in

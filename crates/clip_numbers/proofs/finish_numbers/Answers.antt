@@ -8,7 +8,7 @@ pub returns : goal.returns
 unfolding finish_numbered finish_state
 returns c = let s = c.args.state.now in
     let e = c.finish-finished.ensures ∙ ap finish_of c.clip_of.ensures in
-    let z = c.if-state-ne26.false in record { value = rw (eq-eqb (length s) 26 z) (ap (λ (f : Finished). f.number) e); state_after = rw (eq-eqb (length s) 26 z) (c.copy_from_slice.ensures.after ∙ c.numbers_of.ensures ∙ ap (λ (f : Finished). state_numbers f.clip) e) }
+    let z = c.if-state-ne26.false in record { value = rw (eq-eqb (length s) 26 z) (ap (λ (f : Finished). f.number) e); state_after = rw (eq-eqb (length s) 26 z) (c.put_numbers.ensures ∙ c.numbers_of.ensures ∙ ap (λ (f : Finished). state_numbers f.clip) e) }
 
 pub returns-then-state-ne26 : goal.returns-then-state-ne26
 unfolding finish_numbered finish_state

@@ -5,7 +5,7 @@ use Rattle.clip_numbers.proofs.start_numbers.Goals as goal
 pub returns : goal.returns
 unfolding start_number start_state
 returns c = let s = c.args.state.now in
-    let z = c.if-state-ne26.false in record { value = rw (eq-eqb (length s) 26 z); state_after = rw (eq-eqb (length s) 26 z) (c.copy_from_slice.ensures.after ∙ c.numbers_of.ensures ∙ ap state_numbers c.fresh.ensures) }
+    let z = c.if-state-ne26.false in record { value = rw (eq-eqb (length s) 26 z); state_after = rw (eq-eqb (length s) 26 z) (c.put_numbers.ensures ∙ c.numbers_of.ensures ∙ ap state_numbers c.fresh.ensures) }
 
 pub returns-then-state-ne26 : goal.returns-then-state-ne26
 unfolding start_number start_state
