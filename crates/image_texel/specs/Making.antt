@@ -1,6 +1,6 @@
 -- 02, f: making a view, from plain numbers.
 -- Assumes nothing.
-use Rattle.std.specs.Prelude.{ℕ, ◌*◌, not, [], ◌∷◌, eqb, ltb, Result, Ok, Err}
+use Rattle.std.specs.Prelude.{ℕ, ◌*◌, not, [], ◌∷◌, eqb, ltb, Option, None, Some}
 use Rattle.laws.specs.Choice.{pick, either}
 use Rattle.laws.specs.Reasons.{when, first_of}
 use Rattle.reason.specs.declared.Refusal.{Refusal}
@@ -25,7 +25,11 @@ view_sides bytes fp w h =
     let e = view_refusal fp w h bytes in
     pick (eqb e 0) (record { width = w; height = h; refusal = 0 }) (record { width = 0; height = 0; refusal = e })
 
--- these numbers for each case of the answer
-abbrev pub sides_told : Result Sides Refusal → MadeSides
-sides_told (Ok s) = record { width = s.width; height = s.height; refusal = 0 }
-sides_told (Err refusal) = record { width = 0; height = 0; refusal = refusal_number refusal }
+-- why a view is refused, by its number, 0 where it is not
+abbrev pub reason_told : Option Refusal → ℕ
+reason_told None = 0
+reason_told (Some refusal) = refusal_number refusal
+
+-- the numbers of the sides that are told
+abbrev pub sides_told : Sides → MadeSides
+sides_told s = record { width = s.width; height = s.height; refusal = reason_told s.refusal }

@@ -11,11 +11,12 @@ use interpolation::{Kind, Texel};
 use one_texel::OneTexel;
 use reason::Refusal;
 
-// The sides that a view is made with.
+// The sides that a view is made with, and why making it is refused, if it is.
 #[derive(Clone, Copy)]
 pub struct Sides {
     pub width: u32,
     pub height: u32,
+    pub refusal: Option<Refusal>,
 }
 
 // Refuses a footprint, then a side, then so many block bytes.
@@ -30,12 +31,22 @@ pub fn check_view(bytes: usize, footprint: u8, width: u32, height: u32) -> Resul
     Ok(())
 }
 
-// The sides of a view that is not refused: those given.
-pub fn sides_for(blocks: &[u8], footprint: u8, width: u32, height: u32) -> Result<Sides, Refusal>
+// The sides of a view: those given, or 0 where it is refused.
+pub fn sides_for(blocks: &[u8], footprint: u8, width: u32, height: u32) -> Sides
     ensures { sides_told result ≡ view_sides (length blocks.now) footprint width height }
 {
-    check_view(blocks.len(), footprint, width, height)?;
-    Ok(Sides { width, height })
+    match check_view(blocks.len(), footprint, width, height) {
+        Err(refusal) => Sides {
+            width: 0,
+            height: 0,
+            refusal: Some(refusal),
+        },
+        Ok(()) => Sides {
+            width,
+            height,
+            refusal: None,
+        },
+    }
 }
 
 // What a kind shows of a texel's numbers.

@@ -3,7 +3,8 @@
 use Rattle.std.specs.Prelude.{ℕ, List, length, Result, Ok, Err}
 use Rattle.std.specs.Borrow.{Bor}
 use Rattle.reason.specs.declared.Refusal.{Refusal}
-use Rattle.image_texel.specs.Making.{MadeSides, view_sides, sides_told}
+use Rattle.reason.specs.Numbers.{refusal_number}
+use Rattle.image_texel.specs.Making.{MadeSides, view_sides, reason_told}
 use Rattle.view.specs.declared.View.{View}
 
 -- what making tells: the lent blocks, the footprint, the sides, and the refusal, 0 for none
@@ -22,7 +23,11 @@ view_with s fp m = record { blocks = s; footprint = fp; width = m.width; height 
 unfoldable pub view_of : Bor (List ℕ) → ℕ → ℕ → ℕ → MadeView
 view_of s fp w h = view_with s fp (view_sides (length s.now) fp w h)
 
--- what is told by each case of the answer: a view that is made keeps the blocks and the footprint, a refused one has the sides of a refusal
-abbrev pub view_told : Bor (List ℕ) → ℕ → Result View Refusal → MadeView
-view_told s fp (Ok v) = record { blocks = v.blocks; footprint = v.footprint; width = v.width; height = v.height; refusal = 0 }
-view_told s fp (Err refusal) = view_with s fp (sides_told (Err refusal))
+-- the numbers of a view that is made
+abbrev pub view_told : View → MadeView
+view_told v = record { blocks = v.blocks; footprint = v.footprint; width = v.width; height = v.height; refusal = reason_told v.refusal }
+
+-- what is told by each case of an answer: a view that is made keeps the blocks and the footprint, a refused one has the sides of a refusal
+abbrev pub checked_told : Bor (List ℕ) → ℕ → Result View Refusal → MadeView
+checked_told s fp (Ok v) = view_told v
+checked_told s fp (Err refusal) = view_with s fp (record { width = 0; height = 0; refusal = refusal_number refusal })
