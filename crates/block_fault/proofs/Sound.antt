@@ -17,7 +17,7 @@ use Rattle.block_header.specs.Counts.{weight_count, endpoint_count}
 use Rattle.block_header.specs.Reasons.{grid_too_large, too_many_weights, weight_bits_outside, four_with_two_planes, too_many_endpoints}
 use Rattle.std.specs.Prelude.{Result, Ok}
 use Rattle.reason.specs.declared.Fault.{Fault}
-use Rattle.reason.specs.Answers.{Reads}
+use Rattle.reason.specs.Answers.{Finds}
 use Rattle.reason.proofs.Answers.{read_is}
 use Rattle.block_fault.specs.declared.Settings.{Settings}
 use Rattle.block_fault.specs.declared.Contents.{Contents}
@@ -61,17 +61,17 @@ module _ (hdr : Bool) (fp B : ℕ) where
 
 -- what is read of a block: a void extent, or the settings of a coded block
 module _ {n : ℕ} (fp B : ℕ) where
-  pub void_read : {r : Result Contents Fault} → r ≡ Ok VoidExtent → Reads n (contents_of fp B) r → (n ≡ 0) × (is_void (mode_at fp B) ≡ true)
+  pub void_read : {r : Result Contents Fault} → r ≡ Ok VoidExtent → Finds n (contents_of fp B) r → (n ≡ 0) × (is_void (mode_at fp B) ≡ true)
   unfolding contents_of
   void_read w s = let q = read_is w s in (q.0, go (is_void (mode_at fp B)) q.1) where
-    go : (t : Bool) → VoidExtent ≡ pick t VoidExtent (Coded (settings_of (header_at fp B))) → t ≡ true
+    go : (t : Bool) → VoidExtent ≡ pick t VoidExtent (Coded (settings_of fp B)) → t ≡ true
     go true e = refl
     go false e = absurd (let z : ◌≡◌ {A = ℕ} 0 1 = cc in omega arith)
 
-  pub coded_read : {r : Result Contents Fault} {s : Settings} → r ≡ Ok (Coded s) → Reads n (contents_of fp B) r
-      → (n ≡ 0) × (is_void (mode_at fp B) ≡ false) × (s ≡ settings_of (header_at fp B))
+  pub coded_read : {r : Result Contents Fault} {s : Settings} → r ≡ Ok (Coded s) → Finds n (contents_of fp B) r
+      → (n ≡ 0) × (is_void (mode_at fp B) ≡ false) × (s ≡ settings_of fp B)
   unfolding contents_of
   coded_read {s = s} w e = let q = read_is w e in let k = go (is_void (mode_at fp B)) q.1 in (q.0, k.0, k.1) where
-    go : (t : Bool) → Coded s ≡ pick t VoidExtent (Coded (settings_of (header_at fp B))) → (t ≡ false) × (s ≡ settings_of (header_at fp B))
+    go : (t : Bool) → Coded s ≡ pick t VoidExtent (Coded (settings_of fp B)) → (t ≡ false) × (s ≡ settings_of fp B)
     go true e = absurd (let z : ◌≡◌ {A = ℕ} 0 1 = cc in omega arith)
     go false e = (refl, cc)

@@ -20,7 +20,7 @@ use Rattle.block_fault.specs.declared.Settings.{Settings}
 use Rattle.block_fault.specs.Bits.{mode_at, partitions_at, selector_at, header_with, header_at}
 use Rattle.block_fault.specs.Faults.{void_reasons, mode_reasons, fault_of}
 use Rattle.block_fault.proofs.Laws.{made_grid}
-use Rattle.block_fault.specs.inner.Settings.{settings_of}
+use Rattle.block_fault.specs.inner.Settings.{with_counts}
 
 -- ---- the fault of a coded block
 
@@ -88,7 +88,7 @@ module _ (hdr : Bool) (fp B : ℕ) (g : WeightGrid) (m : mode_at fp B ≡ Grid g
 -- ---- the settings that a coded block carries
 
 pub carried : {h : BlockHeader} {n left k : ℕ} → n ≡ endpoint_count h → left ≡ bits_left h → k ≡ endpoint_range n left
-    → ◌≡◌ {A = Settings} (record { header = h; numbers = n; range = k }) (settings_of h)
+    → ◌≡◌ {A = Settings} (record { header = h; numbers = n; range = k }) (with_counts h)
 unfolding endpoint_range_of
 carried en el ek = rw (ek, el, en)
 

@@ -8,12 +8,12 @@ ghost use Rattle.bits.specs.Block.{block_number};
 ghost use Rattle.block_header.specs.Counts.{weight_bits};
 ghost use Rattle.block_mode.specs.declared.BlockMode.TheVariants.{Grid};
 ghost use Rattle.laws.specs.Reasons.{first_of};
-ghost use Rattle.block_fault.specs.Bits.{mode_at, mode_of, header_with, selector_at, endpoints_from, header_at};
+ghost use Rattle.block_fault.specs.Bits.{mode_at, mode_of, header_with, selector_at, endpoints_from};
 ghost use Rattle.block_fault.specs.Faults.{void_reasons, fault_of};
 ghost use Rattle.footprint.specs.Footprint.{is_volume};
 ghost use Rattle.void_extent.specs.Layout.{hdr_void_extent};
-ghost use Rattle.reason.specs.Numbers.{fault_in};
-ghost use Rattle.reason.specs.Answers.{Reads};
+ghost use Rattle.reason.specs.Numbers.{fault_found};
+ghost use Rattle.reason.specs.Answers.{Finds};
 ghost use Rattle.block_fault.specs.inner.Settings.{settings_of, contents_of};
 
 use bits::PhysicalBlock;
@@ -49,7 +49,7 @@ fn hdr_refused(hdr: bool, b: PhysicalBlock) -> bool
 // What makes a void extent faulty: 12, then 13.
 fn void_stage(hdr: bool, volume: bool, b: PhysicalBlock, fp: u8) -> Result<(), Fault>
     requires { volume ≡ is_volume fp }
-    ensures { fault_in result ≡ first_of (void_reasons hdr fp (block_number b)) }
+    ensures { fault_found result ≡ first_of (void_reasons hdr fp (block_number b)) }
 {
     if void_extent::bad_void_extent(volume, b) {
         return Err(Fault::VoidExtent);
@@ -134,7 +134,7 @@ fn header_with(
 
 // 17: two planes with four partitions.
 fn planes_stage(planes: u8, partitions: u8) -> Result<(), Fault>
-    ensures { fault_in result ≡ pick (both (eqb planes 2) (eqb partitions 4)) 17 0 }
+    ensures { fault_found result ≡ pick (both (eqb planes 2) (eqb partitions 4)) 17 0 }
 {
     if (planes == 2) & (partitions == 4) {
         return Err(Fault::FourWithTwoPlanes);
@@ -155,16 +155,25 @@ fn header_at(b: PhysicalBlock, g: WeightGrid, weights: u32, partitions: u8) -> B
 // The settings of a block whose mode is the grid g: the first stage that stops tells its fault.
 fn coded(hdr: bool, b: PhysicalBlock, fp: u8, g: WeightGrid) -> Result<Settings, Fault>
     requires { mode_at fp (block_number b) ≡ Grid g }
-    ensures { Reads (fault_of hdr fp (block_number b)) (settings_of (header_at fp (block_number b))) result }
+    ensures { Finds (fault_of hdr fp (block_number b)) (settings_of fp (block_number b)) result }
 {
     let weights = block_header::weight_bits(g);
-    block_header::grid_stage(fp, g, weights)?;
+    let grid = block_header::grid_stage(fp, g, weights);
+    let Ok(()) = grid else {
+        return Err(grid.unwrap_err());
+    };
     let partitions = bits::field_at(b, 11, 2) as u8 + 1;
-    planes_stage(g.planes, partitions)?;
+    let planes = planes_stage(g.planes, partitions);
+    let Ok(()) = planes else {
+        return Err(planes.unwrap_err());
+    };
     let header = header_at(b, g, weights as u32, partitions);
     let count = block_header::endpoint_count(header);
     let left = block_header::bits_left_with(header, weights);
-    block_header::endpoint_stage(hdr, header, count, left)?;
+    let ends = block_header::endpoint_stage(hdr, header, count, left);
+    let Ok(()) = ends else {
+        return Err(ends.unwrap_err());
+    };
     Ok(Settings {
         header,
         numbers: count as u8,
@@ -175,12 +184,15 @@ fn coded(hdr: bool, b: PhysicalBlock, fp: u8, g: WeightGrid) -> Result<Settings,
 // What a block comes to, HDR taken or not, read once. Whether the footprint is a volume is said beside it: a caller that knows says so once.
 pub fn read_settings(hdr: bool, volume: bool, b: PhysicalBlock, fp: u8) -> Result<Contents, Fault>
     requires { volume ≡ is_volume fp }
-    ensures { Reads (fault_of hdr fp (block_number b)) (contents_of fp (block_number b)) result }
+    ensures { Finds (fault_of hdr fp (block_number b)) (contents_of fp (block_number b)) result }
 {
     match volume_mode::block_mode_in(volume, bits::field_at(b, 0, 11) as u16) {
         BlockMode::Reserved => Err(Fault::ReservedMode),
         BlockMode::VoidExtent => {
-            void_stage(hdr, volume, b, fp)?;
+            let void = void_stage(hdr, volume, b, fp);
+            let Ok(()) = void else {
+                return Err(void.unwrap_err());
+            };
             Ok(Contents::VoidExtent)
         }
         BlockMode::Grid(g) => Ok(Contents::Coded(coded(hdr, b, fp, g)?)),

@@ -6,7 +6,7 @@ ghost use Rattle.laws.specs.Choice.{pick};
 ghost use Rattle.color_endpoint.specs.Table.{number_count};
 ghost use Rattle.block_header.specs.Reasons.{some_hdr, hdr_refused};
 ghost use Rattle.block_header.specs.inner.Stages.{grid_fault, endpoint_fault};
-ghost use Rattle.reason.specs.Numbers.{fault_in};
+ghost use Rattle.reason.specs.Numbers.{fault_found};
 ghost use Rattle.block_header.specs.Counts.{weight_count, weight_bits, component_bits, partition_index_bits, selector_bits, extra_bits, endpoint_count, bits_left, endpoint_range_of};
 
 use block_mode::WeightGrid;
@@ -144,7 +144,7 @@ pub fn endpoint_range_of(h: BlockHeader) -> u8
 // The first of 14 to 16 that holds, once the weight bits are known.
 pub fn grid_stage(fp: u8, g: WeightGrid, weights: u64) -> Result<(), Fault>
     requires { weights ≡ weight_bits g }
-    ensures { fault_in result ≡ grid_fault fp g }
+    ensures { fault_found result ≡ grid_fault fp g }
 {
     let wide = footprint::width(fp) < g.width;
     let high = footprint::height(fp) < g.height;
@@ -167,7 +167,7 @@ pub fn grid_stage(fp: u8, g: WeightGrid, weights: u64) -> Result<(), Fault>
 
 // The first of 14 to 16 that holds.
 pub fn grid_fault(fp: u8, g: WeightGrid) -> Result<(), Fault>
-    ensures { fault_in result ≡ grid_fault fp g }
+    ensures { fault_found result ≡ grid_fault fp g }
 {
     grid_stage(fp, g, weight_bits(g))
 }
@@ -196,7 +196,7 @@ fn hdr_refused(hdr: bool, h: BlockHeader) -> bool
 // whatever partition is HDR.
 pub fn endpoint_stage(hdr: bool, h: BlockHeader, count: u32, left: u32) -> Result<(), Fault>
     requires { (count ≡ endpoint_count h) × (count ≤ 32640) × (left ≡ bits_left h) }
-    ensures { fault_in result ≡ endpoint_fault hdr h }
+    ensures { fault_found result ≡ endpoint_fault hdr h }
 {
     if 18 < count {
         return Err(Fault::TooManyEndpoints);
@@ -212,7 +212,7 @@ pub fn endpoint_stage(hdr: bool, h: BlockHeader, count: u32, left: u32) -> Resul
 
 // The first of 18 to 20 that holds.
 pub fn endpoint_fault(hdr: bool, h: BlockHeader) -> Result<(), Fault>
-    ensures { fault_in result ≡ endpoint_fault hdr h }
+    ensures { fault_found result ≡ endpoint_fault hdr h }
 {
     endpoint_stage(hdr, h, endpoint_count(h), bits_left(h))
 }

@@ -53,6 +53,6 @@ refusal_told (Ok x) = 0
 refusal_told (Err refusal) = refusal_number refusal
 
 -- the fault of a block that is read, 0 where it has none
-abbrev pub fault_in : {A : Type 0} → Result A Fault → ℕ
-fault_in (Ok x) = 0
-fault_in (Err fault) = fault_number fault
+abbrev pub fault_found : {A : Type 0} → Result A Fault → ℕ
+fault_found (Ok x) = 0
+fault_found (Err fault) = fault_number fault

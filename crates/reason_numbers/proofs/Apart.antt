@@ -12,7 +12,7 @@ use Rattle.reason.specs.declared.Fault.TheVariants.{ReservedMode, VoidExtent, Hd
 use Rattle.reason.specs.declared.Refusal.{Refusal}
 use Rattle.reason.specs.declared.Refusal.TheVariants.{Footprint, Kind, Side, Bytes, Places, Faulty, Field, BlockMode, Modes, Numbers, HdrMark, ShortFile, FileStart, FileShape, Place, ClipVersion, FrameLength, ClipEnd, PvrtcSide, Bc7Mode, Bc7Field}
 use Rattle.reason.specs.Numbers.{fault_number, refusal_number}
-use Rattle.reason.specs.Answers.{Answers, Reads}
+use Rattle.reason.specs.Answers.{Answers, Finds}
 use Rattle.reason.proofs.Told.{fault_some, refusal_some}
 use Rattle.reason_numbers.specs.Apart.{Apart}
 
@@ -86,7 +86,7 @@ apart = record { faults = same_fault; refusals = same_refusal; one_answer = answ
   answer n x (Err a) (Ok z) p q = absurd (omega (arith, refusal_some a, q.0, p))
   answer n x (Err a) (Err b) p q = ap Err (same_refusal a b (p ∙ sym q))
 
-  reading : {A : Type 0} (n : ℕ) (x : A) (r s : Result A Fault) → Reads n x r → Reads n x s → r ≡ s
+  reading : {A : Type 0} (n : ℕ) (x : A) (r s : Result A Fault) → Finds n x r → Finds n x s → r ≡ s
   reading n x (Ok y) (Ok z) p q = ap Ok (p.1 ∙ sym q.1)
   reading n x (Ok y) (Err b) p q = absurd (omega (arith, fault_some b, p.0, q))
   reading n x (Err a) (Ok z) p q = absurd (omega (arith, fault_some a, q.0, p))

@@ -216,15 +216,19 @@ pub fn read_symbolic(fp: u8, block: &[u8]) -> SymbolicReading
     ensures value { result ≡ reading_of fp block.now }
     ensures answer_value { number_told result.answer ≡ read_told fp block.now }
 {
-    if let Err(refusal) = check(fp, block.len()) {
-        return told(Answer::Refused(refusal.into()));
-    }
+    let checked = check(fp, block.len());
+    let Ok(()) = checked else {
+        return told(Answer::Refused(checked.unwrap_err().into()));
+    };
     let b = bits::load(block);
     let volume = footprint::is_volume(fp);
-    match block_fault::read_settings(true, volume, b, fp) {
-        Err(fault) => told(Answer::Faulty(fault.into())),
-        Ok(Contents::VoidExtent) => read(void_block(volume, b), spare_bits::no_spare()),
-        Ok(Contents::Coded(s)) => {
+    let settings = block_fault::read_settings(true, volume, b, fp);
+    let Ok(contents) = settings else {
+        return told(Answer::Faulty(settings.unwrap_err().into()));
+    };
+    match contents {
+        Contents::VoidExtent => read(void_block(volume, b), spare_bits::no_spare()),
+        Contents::Coded(s) => {
             let spare = spare_bits::spare_in(b, s.header, s.numbers, s.range);
             read(mode_block(b, s.header, s.numbers, s.range), spare)
         }

@@ -13,7 +13,7 @@ use Rattle.block_fault.specs.declared.Contents.TheVariants.{Coded}
 use Rattle.block_fault.specs.inner.Settings.{contents_of}
 use Rattle.block_fault.proofs.Laws.{Narrow, narrow}
 use Rattle.block_fault.proofs.Stages.{void_fault, reserved_fault}
-use Rattle.reason.proofs.Answers.{handed_on, passed, read_is}
+use Rattle.reason.proofs.Answers.{opened, passed, read_is}
 use Rattle.block_fault.proofs.read_settings.Goals as goal
 
 -- the mode's eleven bits
@@ -30,16 +30,16 @@ overflow_cast-field_at c = omega (arith, (low _ _ c.field_at.ensures).below)
 pub returns-in-Reserved : goal.returns-in-Reserved
 returns-in-Reserved c = reserved_fault c.args.hdr c.args.fp (block_number c.args.b) (sym (mode_is c.args.fp (block_number c.args.b) c.field_at.ensures c.requires c.block_mode_in.ensures) ∙ c.in-Reserved.is)
 
-pub returns-in_err-void_stage-in-VoidExtent : goal.returns-in_err-void_stage-in-VoidExtent
-returns-in_err-void_stage-in-VoidExtent c =
-    handed_on _ c.from_residual.result c.from_residual.ensures.1 c.in_err-void_stage-in-VoidExtent.was c.void_stage.ensures
+pub returns-in_default : goal.returns-in_default
+returns-in_default c =
+    opened c.unwrap_err.ensures c.void_stage-void.ensures
     (λ k e n. e ∙ void_fault c.args.hdr c.args.fp (block_number c.args.b) (sym (mode_is c.args.fp (block_number c.args.b) c.field_at.ensures c.requires c.block_mode_in.ensures) ∙ c.in-VoidExtent.is))
 
-pub returns-in_ok-void_stage-in-VoidExtent : goal.returns-in_ok-void_stage-in-VoidExtent
+pub returns-in-Ok : goal.returns-in-Ok
 unfolding contents_of
-returns-in_ok-void_stage-in-VoidExtent c =
+returns-in-Ok c =
     let m = sym (mode_is c.args.fp (block_number c.args.b) c.field_at.ensures c.requires c.block_mode_in.ensures) ∙ c.in-VoidExtent.is in
-    (sym (passed c.in_ok-void_stage-in-VoidExtent.was c.void_stage.ensures ∙ void_fault c.args.hdr c.args.fp (block_number c.args.b) m), rw m)
+    (sym (passed c.in-Ok.is c.void_stage-void.ensures ∙ void_fault c.args.hdr c.args.fp (block_number c.args.b) m), rw m)
 
 pub coded-requires : goal.coded-requires
 coded-requires c = sym (mode_is c.args.fp (block_number c.args.b) c.field_at.ensures c.requires c.block_mode_in.ensures) ∙ c.in-Grid.is

@@ -10,9 +10,13 @@ use Rattle.block_fault.specs.declared.Settings.{Settings}
 use Rattle.block_fault.specs.Bits.{mode_at, is_void, header_at}
 
 -- a header with the count of its endpoint numbers and their range
-abbrev pub settings_of : BlockHeader → Settings
-settings_of h = record { header = h; numbers = endpoint_count h; range = endpoint_range_of h }
+abbrev pub with_counts : BlockHeader → Settings
+with_counts h = record { header = h; numbers = endpoint_count h; range = endpoint_range_of h }
+
+-- the settings of a coded block
+abbrev pub settings_of : ℕ → ℕ → Settings
+settings_of fp B = with_counts (header_at fp B)
 
 -- the block B at a footprint, where it has no fault
 unfoldable pub contents_of : ℕ → ℕ → Contents
-contents_of fp B = pick (is_void (mode_at fp B)) VoidExtent (Coded (settings_of (header_at fp B)))
+contents_of fp B = pick (is_void (mode_at fp B)) VoidExtent (Coded (settings_of fp B))
