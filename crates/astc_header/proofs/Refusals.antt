@@ -188,6 +188,10 @@ module _ (s : List ℕ) (r : Refusal) where
   unfolding file_blocks
   no_blocks q = rw (ne_eqb (header_refusal s) 0 (some q))
 
+-- what is answered of a file that is not refused
+pub answer_accepted : (s : List ℕ) → header_refusal s ≡ 0 → header_answer s (Ok (header_in s))
+answer_accepted s z = (z, refl)
+
 -- the last refusal, by how many blocks the header asks for
 module _ (s : List ℕ) (f : Formed s) {h : FileHeader} (e : h ≡ header_in s) (z : 0 ≡ size_of h) {n : ℕ} (b : n ≡ blocks_in h) where
   fine_size : sides s ≡ 0

@@ -3,9 +3,11 @@
 
 ghost use Rattle.std.specs.Prelude.{◌≡◌, ◌+◌, ◌^◌, ◌≤◌, ◌<◌, length};
 ghost use Rattle.laws.specs.Choice.{both};
-ghost use Rattle.astc_header.specs.Header.{same_four, has_start, footprint_for, size_at, header_in, known_shape, header_answer, file_blocks, told_of, header_told, written_header};
+ghost use Rattle.astc_header.specs.Header.{same_four, has_start, footprint_for, size_at, header_in, known_shape, header_answer, file_blocks, told_of, header_told, header_bytes, written_header};
 ghost use Rattle.astc_header.specs.inner.Parts.{form_refusal, header_bytes_with};
+ghost use Rattle.image_size.specs.Sides.{size_refusal};
 ghost use Rattle.reason.specs.Numbers.{refusal_told};
+ghost use Rattle.reason.specs.Answers.{answer_told, told_by};
 
 use reason::Refusal;
 
@@ -161,7 +163,8 @@ fn header_with(start: &[u8; 4], columns: u8, rows: u8, width: u32, height: u32) 
 
 // The header of an image's file.
 pub fn write_header(footprint: u8, width: u32, height: u32) -> Result<[u8; 16], Refusal>
-    ensures { written_header footprint width height result }
+    ensures answer { written_header footprint width height result }
+    ensures told { answer_told result ≡ told_by (size_refusal footprint width height) (header_bytes footprint width height) }
 {
     image_size::check_size(footprint, width, height)?;
     let columns = footprint::width(footprint);

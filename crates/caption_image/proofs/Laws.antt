@@ -28,9 +28,17 @@ use Rattle.block_store.specs.inner.Places.{Put}
 -- ---- refusals
 
 module _ (w h bytes greys : ℕ) where
-  pub refused_3 : (n : ℕ) → 0 < n → n ≡ size_refusal footprint w h → n ≡ caption_image_refusal w h bytes greys
+  pub refused_3 : (size_refusal footprint w h ≡ 0 → ⊥) → 3 ≡ caption_image_refusal w h bytes greys
   unfolding caption_image_refusal size_refusal
-  refused_3 n p e = go (either (bad_side w) (bad_side h)) e where
+  refused_3 n = go (either (bad_side w) (bad_side h)) n where
+    go : (b : Bool) → (◌≡◌ {A = ℕ} (pick b 3 0) 0 → ⊥) → ◌≡◌ {A = ℕ} 3 (pick b 3 (pick (not (eqb bytes (16 * blocks_of footprint w h))) 4 (pick (not (eqb greys (h * w))) 5 0)))
+    go true n = refl
+    go false n = absurd (n refl)
+
+  -- the same of the number that a refused size has
+  pub refused_size : (n : ℕ) → 0 < n → n ≡ size_refusal footprint w h → n ≡ caption_image_refusal w h bytes greys
+  unfolding caption_image_refusal size_refusal
+  refused_size n p e = go (either (bad_side w) (bad_side h)) e where
     go : (b : Bool) → n ≡ pick b 3 0 → n ≡ pick b 3 (pick (not (eqb bytes (16 * blocks_of footprint w h))) 4 (pick (not (eqb greys (h * w))) 5 0))
     go true e = e
     go false e = absurd (omega arith)

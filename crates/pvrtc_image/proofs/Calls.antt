@@ -18,9 +18,13 @@ use Rattle.pvrtc_texel.proofs.Sides.{bits_most, side_is}
 use Rattle.pvrtc_rows.specs.inner.Rows.{WordsSized}
 use Rattle.pvrtc_image.specs.inner.Lines.{number_at}
 
-pub refused : (w h : ℕ) (s old : List ℕ) (r : Refusal) → refusal_number r ≡ image_refusal w h (length s) (length old) → old ≡ image_out w h s old
+pub refused : (w h : ℕ) (s old : List ℕ) → (image_refusal w h (length s) (length old) ≡ 0 → ⊥) → old ≡ image_out w h s old
 unfolding image_out
-refused w h s old r e = rw (ne_eqb (image_refusal w h (length s) (length old)) 0 (λ z. omega (arith, refusal_some r, e, z)))
+refused w h s old d = rw (ne_eqb (image_refusal w h (length s) (length old)) 0 d)
+
+-- by the refusal that is told
+pub refused_by : (w h : ℕ) (s old : List ℕ) (r : Refusal) → refusal_number r ≡ image_refusal w h (length s) (length old) → old ≡ image_out w h s old
+refused_by w h s old r e = refused w h s old (λ z. omega (arith, refusal_some r, e, z))
 
 not-false : (t : Bool) → not t ≡ false → t ≡ true
 not-false true e = refl

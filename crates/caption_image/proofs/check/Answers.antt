@@ -3,13 +3,13 @@ use Prim.Native.Nat.{ℕ, ◌*◌}
 use native.Mathlib.Omega.{arith}
 use Rattle.std.proofs.lemmas.Result.{err_from_is_err_and}
 use Rattle.reason.proofs.Told.{refusal_some}
-use Rattle.caption_image.proofs.Laws.{area, refused_3, refused_4, refused_5, refused_none}
+use Rattle.caption_image.proofs.Laws.{area, refused_size, refused_4, refused_5, refused_none}
 use Rattle.caption_image.proofs.check.Goals as goal
 
 pub returns-in_err-check_size : goal.returns-in_err-check_size
 returns-in_err-check_size c =
     let p = err_from_is_err_and c.from_residual.result c.from_residual.ensures.1 in
-    rw (p.1, p.2) (refused_3 _ _ _ _ _ (refusal_some _) c.in_err-check_size.ensures)
+    rw (p.1, p.2) (refused_size _ _ _ _ _ (refusal_some _) c.in_err-check_size.ensures)
 
 pub blocks_of-blocks-requires : goal.blocks_of-blocks-requires
 blocks_of-blocks-requires c = sym c.in_ok-check_size.ensures

@@ -1,12 +1,12 @@
 use mathlib.Core.Path.{sym}
 use Rattle.std.proofs.lemmas.Result.{err_from_is_err_and}
-use Rattle.pvrtc_image.proofs.Calls.{refused, sized, room, shown}
+use Rattle.pvrtc_image.proofs.Calls.{refused_by, sized, room, shown}
 use Rattle.pvrtc_image.proofs.decode_image.Goals as goal
 
 pub returns-in_err-check_image : goal.returns-in_err-check_image
 returns-in_err-check_image c =
     let p = err_from_is_err_and c.from_residual.result c.from_residual.ensures.1 in
-    rw (p.1, p.2) (record { answer = c.in_err-check_image.ensures; image = refused _ _ _ _ _ c.in_err-check_image.ensures })
+    rw (p.1, p.2) (record { answer = c.in_err-check_image.ensures; image = refused_by _ _ _ _ _ c.in_err-check_image.ensures })
 
 pub returns : goal.returns
 returns c =
